@@ -1,0 +1,81 @@
+//! The position that an even and an odd place tell.
+
+ghost use Rattle.std.specs.Prelude.{◌≡◌, ◌<◌, ◌≤◌, ◌^◌, ◌*◌, ℕ, pos, unsigned_abs, IfSome, false, true};
+ghost use Rattle.modes_cpr.specs.Pair.{zone_index as zone_index_of, wrapped as wrapped_of, decoded as decoded_of, is_latitude as is_latitude_of, position_of};
+
+use crate::grids::{BINS, angle, longitude_zones};
+use crate::points::{Degrees, Position};
+use crate::rounding::{floor, modulo};
+use crate::transitions::zones;
+use modes_fields::Place;
+
+/// The position that an even and an odd place tell, the newest of which is the odd one or the even one.
+/// There is none where a latitude is beyond a pole, or where the two latitudes have different numbers of longitude zones.
+pub fn pair(even: Place, odd: Place, newest_odd: bool) -> Option<Position>
+    ensures value { result ≡ position_of even odd newest_odd }
+    ensures lat_whole { IfSome result (λ p. 0 < p.lat.den) }
+    ensures lon_whole { IfSome result (λ p. 0 < p.lon.den) }
+{
+    let index = zone_index(60, even.lat, odd.lat);
+    let even_lat = decoded(270, 60, index, even.lat);
+    let odd_lat = decoded(270, 59, index, odd.lat);
+    if !is_latitude(even_lat) || !is_latitude(odd_lat) {
+        return None;
+    }
+    let count = zones(even_lat.num, even_lat.den);
+    if count != zones(odd_lat.num, odd_lat.den) {
+        return None;
+    }
+    let (lat, bin) = if newest_odd {
+        (odd_lat, odd.lon)
+    } else {
+        (even_lat, even.lon)
+    };
+    let index = zone_index(count, even.lon, odd.lon);
+    let lon = decoded(180, longitude_zones(count, newest_odd), index, bin);
+    Some(Position { lat, lon })
+}
+
+/// The index of the zone of a point, from its bins in a grid of `zones` zones and in one of a zone less.
+fn zone_index(zones: u8, even: u32, odd: u32) -> i64
+    requires zones { 0 < zones }
+    ensures { result ≡ zone_index_of zones even odd }
+{
+    let apart = even as i64 * (zones - 1) as i64 - odd as i64 * zones as i64;
+    floor(apart + BINS as i64 / 2, BINS as u64)
+}
+
+/// The angle of a bin in the zone of that index, less a turn where it is `limit` degrees or more.
+fn decoded(limit: u16, zones: u8, index: i64, bin: u32) -> Degrees
+    requires zones { 0 < zones }
+    requires limit { limit ≤ 360 }
+    ensures value { result ≡ decoded_of limit zones index bin }
+    ensures whole { 0 < result.den }
+{
+    let zone = modulo(index, zones as u64);
+    wrapped(limit, angle(zones, zone as i64, bin))
+}
+
+/// An angle below a turn, less a turn where it is `limit` degrees or more.
+fn wrapped(limit: u16, angle: Degrees) -> Degrees
+    requires limit { limit ≤ 360 }
+    requires fits { unsigned_abs angle.num < 2 ^ 62 }
+    ensures value { result ≡ wrapped_of limit angle }
+    ensures whole { result.den ≡ angle.den }
+{
+    if angle.num >= limit as i64 * angle.den as i64 {
+        Degrees {
+            num: angle.num - 360 * angle.den as i64,
+            den: angle.den,
+        }
+    } else {
+        angle
+    }
+}
+
+/// Whether an angle is neither below -90 nor above 90 degrees.
+fn is_latitude(angle: Degrees) -> bool
+    ensures { result ≡ is_latitude_of angle }
+{
+    angle.num.unsigned_abs() <= 90 * angle.den as u64
+}

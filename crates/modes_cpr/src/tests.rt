@@ -1,0 +1,134 @@
+//! Worked examples of the formats.
+
+ghost use Rattle.std.specs.Prelude.{◌≡◌, ◌<◌};
+
+use crate::transitions::TRANSITIONS;
+use crate::{Degrees, encode, pair, zones};
+use modes_fields::Place;
+use std::test::Fail;
+
+fn at(num: i64, den: u32) -> Degrees
+    requires { 0 < den }
+    ensures num { result.num ≡ num }
+    ensures den { result.den ≡ den }
+{
+    Degrees { num, den }
+}
+
+#[test]
+fn pairs_of_the_worked_examples(rt: HostRuntime) -> Result<(), Fail> {
+    let even = |lat: u32, lon: u32| Place {
+        odd: false,
+        lat,
+        lon,
+    };
+    let odd = |lat: u32, lon: u32| Place {
+        odd: true,
+        lat,
+        lon,
+    };
+    let p = pair(even(65536, 0), odd(33860, 0), false).ok_or("none")?;
+    assert_eq!(rt; p.lat.num, 87 * 7864320);
+    assert_eq!(rt; p.lon.num, 0);
+    assert!(rt; pair(even(97658, 0), odd(93847, 0), false).is_none());
+    let p = pair(even(0, 0), odd(2185, 0), false).ok_or("none")?;
+    assert_eq!(rt; p.lat.num, -47185920);
+    assert_eq!(rt; p.lat.den, 7864320);
+    assert_eq!(rt; p.lon.num, 0);
+    let p = pair(even(0, 65536), odd(0, 0), false).ok_or("none")?;
+    assert_eq!(rt; p.lon.num, -1391984640);
+    assert_eq!(rt; p.lon.den, 7733248);
+    assert!(rt; pair(even(0, 0), odd(43691, 0), false).is_none());
+    let p = pair(even(0, 0), odd(32768, 0), false).ok_or("none")?;
+    assert_eq!(rt; p.lat.num, -90 * 7864320);
+    assert_eq!(rt; p.lon.num, 0);
+    let p = pair(even(93000, 51372), odd(74158, 50194), true).ok_or("none")?;
+    assert_eq!(rt; p.lat.num, 404184240);
+    assert_eq!(rt; p.lat.den, 7733248);
+    assert_eq!(rt; p.lon.num, 18069840);
+    assert_eq!(rt; p.lon.den, 4587520);
+    Ok(())
+}
+
+#[test]
+fn zones_of_the_worked_examples(rt: HostRuntime) {
+    assert_eq!(rt; zones(0, 1), 59);
+    assert_eq!(rt; zones(87, 1), 2);
+    assert_eq!(rt; zones(-87, 1), 2);
+    assert_eq!(rt; zones(8700000001, 100000000), 1);
+    assert_eq!(rt; zones(90, 1), 1);
+    assert_eq!(rt; zones(1047047130, 100000000), 59);
+    assert_eq!(rt; zones(1047047131, 100000000), 58);
+}
+
+#[test]
+fn places_of_the_worked_examples(rt: HostRuntime) {
+    assert_eq!(rt;
+        encode(at(87, 1), at(0, 1), false),
+        Place {
+            odd: false,
+            lat: 65536,
+            lon: 0
+        }
+    );
+    assert_eq!(rt;
+        encode(at(87, 1), at(0, 1), true),
+        Place {
+            odd: true,
+            lat: 33860,
+            lon: 0
+        }
+    );
+    assert_eq!(rt;
+        encode(at(-6, 1), at(0, 1), true),
+        Place {
+            odd: true,
+            lat: 2185,
+            lon: 0
+        }
+    );
+    assert_eq!(rt;
+        encode(at(0, 1), at(-180, 1), false),
+        Place {
+            odd: false,
+            lat: 0,
+            lon: 65536
+        }
+    );
+    assert_eq!(rt;
+        encode(at(0, 1), at(-180, 1), true),
+        Place {
+            odd: true,
+            lat: 0,
+            lon: 0
+        }
+    );
+    assert_eq!(rt;
+        encode(at(5999999, 1000000), at(0, 1), false),
+        Place {
+            odd: false,
+            lat: 0,
+            lon: 0
+        }
+    );
+    let place = encode(at(404184240, 7733248), at(18069840, 4587520), true);
+    assert_eq!(rt;
+        place,
+        Place {
+            odd: true,
+            lat: 74158,
+            lon: 50194
+        }
+    );
+}
+
+#[test]
+fn zones_at_each_transition(rt: HostRuntime) {
+    for (k, e) in TRANSITIONS.iter().enumerate() {
+        assert!(rt; *e <= 8_700_000_000);
+        let num = *e as i64;
+        assert_eq!(rt; zones(num, 100_000_000) as usize + k, 59);
+        assert_eq!(rt; zones(-num, 100_000_000) as usize + k, 59);
+        assert_eq!(rt; zones(num + 1, 100_000_000) as usize + k, 58);
+    }
+}

@@ -1,0 +1,56 @@
+-- Lines of a list of bytes, and their cuts.
+use Rattle.std.specs.Prelude.{ℕ, ◌==◌, nat_le, nat_lt, List, [], ◌∷◌, ◌++◌, Option, Some, None, if◌then◌else◌, length, map}
+use Rattle.modes_frame.specs.declared.cutter.Cut.{Cut}
+use Rattle.modes_frame.specs.declared.cutter.Cut.TheVariants.{Whole, TooLong}
+
+-- the pieces that a line feed ends, and the piece after the last of them
+pub record Pieces : Type 0 where
+  pub ended : List (List ℕ)
+  pub rest : List ℕ
+
+-- a byte before the first piece
+abbrev pub onto : ℕ → List (List ℕ) → List ℕ → Pieces
+onto c [] rest = record { ended = []; rest = c ∷ rest }
+onto c (line ∷ lines) rest = record { ended = (c ∷ line) ∷ lines; rest = rest }
+
+abbrev pub pieces : List ℕ → Pieces
+pieces [] = record { ended = []; rest = [] }
+pieces (c ∷ cs) = if c == 10 then record { ended = [] ∷ (pieces cs).ended; rest = (pieces cs).rest }
+    else onto c (pieces cs).ended (pieces cs).rest
+
+-- a line of more than 64 bytes is too long
+abbrev pub cut : List ℕ → Cut
+cut line = if nat_le (length line) 64 then Whole line else TooLong
+
+-- the last piece is a line where it isn't empty
+abbrev pub last_line : List ℕ → List (List ℕ)
+last_line [] = []
+last_line (c ∷ cs) = (c ∷ cs) ∷ []
+
+-- the lines that a line feed ended, and all of them
+abbrev pub ended_cuts : List ℕ → List Cut
+ended_cuts bytes = map cut (pieces bytes).ended
+
+abbrev pub cuts : List ℕ → List Cut
+cuts bytes = map cut ((pieces bytes).ended ++ last_line (pieces bytes).rest)
+
+-- what has come of the line that no line feed has ended
+abbrev pub pending : List ℕ → Cut
+pending bytes = cut (pieces bytes).rest
+
+-- ---- byte by byte
+
+abbrev pub grown : Cut → ℕ → Cut
+grown (Whole line) byte = if nat_lt (length line) 64 then Whole (line ++ byte ∷ []) else TooLong
+grown TooLong byte = TooLong
+
+abbrev pub after : Cut → ℕ → Cut
+after held byte = if byte == 10 then Whole [] else grown held byte
+
+abbrev pub told : Cut → ℕ → Option Cut
+told held byte = if byte == 10 then Some held else None
+
+abbrev pub told_last : Cut → Option Cut
+told_last (Whole []) = None
+told_last (Whole (c ∷ cs)) = Some (Whole (c ∷ cs))
+told_last TooLong = Some TooLong

@@ -1,0 +1,80 @@
+-- What a line says.
+use Rattle.std.specs.Prelude.{◌≡◌, ℕ, ◌+◌, ◌-◌, ◌/◌, slice_index, ◌==◌, ◌&&◌, ◌||◌, nat_lt, Bool, List, [], ◌∷◌, ◌++◌, Result, Ok, Err, if◌then◌else◌, IsTrue, length, take, drop}
+use Rattle.std.specs.List.{All}
+use Rattle.hex.specs.Hex.{decode_pairs}
+use Rattle.hex.specs.declared.error.FromHexError.{FromHexError}
+use Rattle.hex.specs.declared.error.FromHexError.TheVariants.{InvalidHexCharacter, OddLength, InvalidStringLength, OutOfMemory}
+use Rattle.modes_frame.specs.Frames.{df_of}
+use Rattle.modes_frame.specs.declared.line.Line.{Line}
+use Rattle.modes_frame.specs.declared.line.Line.TheVariants.{Frame, ModeAc, Blank}
+use Rattle.modes_frame.specs.declared.line.LineFault.{LineFault}
+use Rattle.modes_frame.specs.declared.line.LineFault.TheVariants.{NoStart, NoEnd, BadLength, BadDigit, WrongLength}
+
+-- a space, a tab or CR
+abbrev pub IsBlank : ℕ → Type 0
+IsBlank c = IsTrue (c == 32 || c == 9 || c == 13)
+
+-- the line without those at its ends
+pub record IsTrimmed (line rest : List ℕ) : Type 0 where
+  pub front : List ℕ
+  pub back : List ℕ
+  pub parts : line ≡ front ++ (rest ++ back)
+  pub blank_front : All IsBlank front
+  pub blank_back : All IsBlank back
+  pub first : (c : ℕ) (cs : List ℕ) → rest ≡ c ∷ cs → ¬ IsBlank c
+  pub last : (c : ℕ) (cs : List ℕ) → rest ≡ cs ++ c ∷ [] → ¬ IsBlank c
+
+-- ---- from the start byte on
+
+-- how many digits of a counter stand first
+abbrev pub counter_len : ℕ → ℕ
+counter_len start = if start == 64 then 12 else 0
+
+abbrev pub is_start : ℕ → Bool
+is_start c = c == 42 || c == 64
+
+abbrev pub fits_length : ℕ → ℕ → Bool
+fits_length start n = n == counter_len start + 4 || n == counter_len start + 14 || n == counter_len start + 28
+
+-- a mode A/C reply has two bytes, a frame as many as its format has
+abbrev pub said_by : List ℕ → Result Line LineFault
+said_by bytes = if length bytes == 2 then Ok ModeAc
+    else if length bytes == (if nat_lt (df_of bytes) 16 then 7 else 14) then Ok (Frame bytes)
+    else Err (WrongLength (df_of bytes))
+
+-- places are counted from 1; digits of an even number have no other fault
+abbrev pub from_digits : ℕ → Result (List ℕ) FromHexError → Result Line LineFault
+from_digits start (Ok bytes) = said_by (drop (counter_len start / 2) bytes)
+from_digits start (Err (InvalidHexCharacter c index)) = Err (BadDigit (index + 1))
+from_digits start (Err OddLength) = Err (BadDigit 0)
+from_digits start (Err InvalidStringLength) = Err (BadDigit 0)
+from_digits start (Err OutOfMemory) = Err (BadDigit 0)
+
+abbrev pub digits_of : ℕ → List ℕ → Result Line LineFault
+digits_of start digits = if fits_length start (length digits) then from_digits start (decode_pairs 0 digits) else Err (BadLength (length digits))
+
+abbrev pub body_of : ℕ → List ℕ → Result Line LineFault
+body_of start rest = if nat_lt 0 (length rest) && slice_index rest (length rest - 1) == 59 then digits_of start (take (length rest - 1) rest) else Err NoEnd
+
+-- what a line says that has no blank at its ends
+abbrev pub line_of : List ℕ → Result Line LineFault
+line_of [] = Ok Blank
+line_of (start ∷ rest) = if is_start start then body_of start rest else Err NoStart
+
+-- the bytes of the digits, or the place of the first that is none, counted from 1
+abbrev pub Decoded : Result (List ℕ) FromHexError → List ℕ → Result (Unit {0}) ℕ → Type 0
+Decoded (Ok decoded) bytes result = (result ≡ Ok tt) × (bytes ≡ decoded)
+Decoded (Err (InvalidHexCharacter c index)) bytes result = result ≡ Err (index + 1)
+Decoded (Err OddLength) bytes result = ⊥
+Decoded (Err InvalidStringLength) bytes result = ⊥
+Decoded (Err OutOfMemory) bytes result = ⊥
+
+abbrev pub Decodes : List ℕ → List ℕ → Result (Unit {0}) ℕ → Type 0
+Decodes digits bytes result = Decoded (decode_pairs 0 digits) bytes result
+
+-- the line without those at its front
+pub record IsFrontTrimmed (line rest : List ℕ) : Type 0 where
+  pub front : List ℕ
+  pub parts : line ≡ front ++ rest
+  pub blank_front : All IsBlank front
+  pub first : (c : ℕ) (cs : List ℕ) → rest ≡ c ∷ cs → ¬ IsBlank c

@@ -1,0 +1,15 @@
+//! Mode S frames: lines of text, parity and claims.
+#![tactic(auto)]
+
+pub mod claims;
+pub mod cutter;
+pub mod frame;
+pub mod line;
+pub mod parity;
+pub mod readers;
+
+pub use claims::{CheckFault, Claim};
+pub use cutter::{Cut, Cutter, LineBuf};
+pub use frame::Frame;
+pub use line::{Line, LineFault};
+pub use parity::remainder;
