@@ -1,6 +1,6 @@
 -- What a line says.
-use Rattle.std.specs.Prelude.{◌≡◌, ℕ, ◌+◌, ◌-◌, ◌/◌, slice_index, ◌==◌, ◌&&◌, ◌||◌, nat_lt, Bool, List, [], ◌∷◌, ◌++◌, Result, Ok, Err, if◌then◌else◌, IsTrue, length, take, drop}
-use Rattle.std.specs.List.{All}
+use Rattle.std.specs.Prelude.{◌≡◌, ℕ, ◌+◌, ◌-◌, ◌/◌, slice_index, ◌==◌, ◌&&◌, ◌||◌, nat_lt, Bool, List, [], ◌∷◌, Result, Ok, Err, if◌then◌else◌, length, take, drop}
+use Rattle.std.specs.List.{prefix_len, suffix_len}
 use Rattle.hex.specs.Hex.{decode_pairs}
 use Rattle.hex.specs.declared.error.FromHexError.{FromHexError}
 use Rattle.hex.specs.declared.error.FromHexError.TheVariants.{InvalidHexCharacter, OddLength, InvalidStringLength, OutOfMemory}
@@ -9,20 +9,25 @@ use Rattle.modes_frame.specs.declared.line.Line.{Line}
 use Rattle.modes_frame.specs.declared.line.Line.TheVariants.{Frame, ModeAc, Blank}
 use Rattle.modes_frame.specs.declared.line.LineFault.{LineFault}
 use Rattle.modes_frame.specs.declared.line.LineFault.TheVariants.{NoStart, NoEnd, BadLength, BadDigit, WrongLength}
+use Rattle.modes_frame.specs.declared.line.LineFault.TheVariants as Faults
+use Rattle.modes_frame.specs.declared.cutter.Cut.{Cut}
+use Rattle.modes_frame.specs.declared.cutter.Cut.TheVariants.{Whole, TooLong}
 
--- a space, a tab or CR
-abbrev pub IsBlank : ℕ → Type 0
-IsBlank c = IsTrue (c == 32 || c == 9 || c == 13)
+-- a space, a tab or a carriage return
+abbrev pub is_blank : ℕ → Bool
+is_blank c = c == 32 || c == 9 || c == 13
 
--- the line without those at its ends
-pub record IsTrimmed (line rest : List ℕ) : Type 0 where
-  pub front : List ℕ
-  pub back : List ℕ
-  pub parts : line ≡ front ++ (rest ++ back)
-  pub blank_front : All IsBlank front
-  pub blank_back : All IsBlank back
-  pub first : (c : ℕ) (cs : List ℕ) → rest ≡ c ∷ cs → ¬ IsBlank c
-  pub last : (c : ℕ) (cs : List ℕ) → rest ≡ cs ++ c ∷ [] → ¬ IsBlank c
+-- the line without the blanks at its front
+unfoldable pub front_trimmed : List ℕ → List ℕ
+front_trimmed line = drop (prefix_len is_blank line) line
+
+-- the line without the blanks at its back
+unfoldable pub back_trimmed : List ℕ → List ℕ
+back_trimmed line = take (length line - suffix_len is_blank line) line
+
+-- the line without the blanks at both ends
+abbrev pub trimmed : List ℕ → List ℕ
+trimmed line = back_trimmed (front_trimmed line)
 
 -- ---- from the start byte on
 
@@ -61,6 +66,17 @@ abbrev pub line_of : List ℕ → Result Line LineFault
 line_of [] = Ok Blank
 line_of (start ∷ rest) = if is_start start then body_of start rest else Err NoStart
 
+-- what a whole line says: one of more than 64 bytes is too long, blanks included
+abbrev pub reading_of : List ℕ → Result Line LineFault
+reading_of line = if nat_lt 64 (length line) then Err Faults.TooLong else line_of (trimmed line)
+
+-- what a line says as it was cut
+abbrev pub cut_reading : Cut → Result Line LineFault
+cut_reading (Whole line) = line_of (trimmed line)
+cut_reading TooLong = Err Faults.TooLong
+
+-- ---- the digits' bytes
+
 -- the bytes of the digits, or the place of the first that is none, counted from 1
 abbrev pub Decoded : Result (List ℕ) FromHexError → List ℕ → Result (Unit {0}) ℕ → Type 0
 Decoded (Ok decoded) bytes result = (result ≡ Ok tt) × (bytes ≡ decoded)
@@ -71,10 +87,3 @@ Decoded (Err OutOfMemory) bytes result = ⊥
 
 abbrev pub Decodes : List ℕ → List ℕ → Result (Unit {0}) ℕ → Type 0
 Decodes digits bytes result = Decoded (decode_pairs 0 digits) bytes result
-
--- the line without those at its front
-pub record IsFrontTrimmed (line rest : List ℕ) : Type 0 where
-  pub front : List ℕ
-  pub parts : line ≡ front ++ rest
-  pub blank_front : All IsBlank front
-  pub first : (c : ℕ) (cs : List ℕ) → rest ≡ c ∷ cs → ¬ IsBlank c

@@ -1,6 +1,7 @@
 //! Mode S frames: lines of text, parity and claims.
 #![tactic(auto)]
 
+pub mod blanks;
 pub mod claims;
 pub mod cutter;
 pub mod frame;
@@ -8,8 +9,9 @@ pub mod line;
 pub mod parity;
 pub mod readers;
 
+pub use blanks::trim_blanks;
 pub use claims::{CheckFault, Claim};
 pub use cutter::{Cut, Cutter, LineBuf};
 pub use frame::Frame;
-pub use line::{Line, LineFault};
+pub use line::{Line, LineFault, read_line, read_trimmed};
 pub use parity::remainder;
