@@ -1,6 +1,6 @@
 -- The position that an even and an odd place tell together.
 -- In each grid the circle of 360 degrees has a number of zones, and each zone has 2^17 bins.
-use Rattle.std.specs.Prelude.{ℕ, ◌-◌, ◌*◌, max, ℤ, pos, ◌+ℤ◌, ◌-ℤ◌, ◌*ℤ◌, int_le, unsigned_abs, nat_le, ◌==◌, Bool, ◌&&◌, if◌then◌else◌, Option, Some, None}
+use Rattle.std.specs.Prelude.{ℕ, ◌-◌, ◌*◌, ◌<◌, max, ℤ, pos, ◌+ℤ◌, ◌-ℤ◌, ◌*ℤ◌, int_le, unsigned_abs, nat_le, ◌==◌, Bool, ◌&&◌, if◌then◌else◌, Option, Some, None}
 use Rattle.modes_fields.specs.declared.types.Place.{Place}
 use Rattle.modes_cpr.specs.declared.points.Degrees.{Degrees}
 use Rattle.modes_cpr.specs.declared.points.Position.{Position}
@@ -11,7 +11,7 @@ use Rattle.modes_cpr.specs.Zones.{zone_count}
 abbrev pub bins : ℕ
 bins = 131072
 
--- the latitude zones of a grid
+-- the latitude zones of the odd and the even grid (Doc 9871 C.2.6.3)
 abbrev pub latitude_zones : Bool → ℕ
 latitude_zones odd = if odd then 59 else 60
 
@@ -19,7 +19,7 @@ latitude_zones odd = if odd then 59 else 60
 abbrev pub longitude_zones : ℕ → Bool → ℕ
 longitude_zones nl odd = max (if odd then nl - 1 else nl) 1
 
--- floor((y0 (n - 1) - y1 n)/2^17 + 1/2): j at n = 60, m at n = NL
+-- floor((y0 (n - 1) - y1 n)/2^17 + 1/2): the latitude index at n = 60, the longitude index at n = NL
 unfoldable pub zone_index : ℕ → ℕ → ℕ → ℤ
 zone_index n y0 y1 = floor (pos (y0 * (n - 1)) -ℤ pos (y1 * n) +ℤ pos 65536) bins
 
@@ -57,3 +57,8 @@ position_by nl even odd newest_odd =
 -- the same with the table's number of zones
 abbrev pub position_of : Place → Place → Bool → Option Position
 position_of = position_by zone_count
+
+-- both denominators are 1 at the least
+pub record IsWhole (p : Position) : Type 0 where
+  pub lat : 0 < p.lat.den
+  pub lon : 0 < p.lon.den

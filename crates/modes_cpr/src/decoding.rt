@@ -9,8 +9,10 @@ use crate::rounding::{floor, modulo};
 use crate::transitions::zones;
 use modes_fields::Place;
 
-/// The position that an even and an odd place tell, the newest of which is the odd one or the even one.
-/// There is none where a latitude is beyond a pole, or where the two latitudes have different numbers of longitude zones.
+/// The position that an even and an odd place tell together, as seen by the newest of them.
+///
+/// There is none where a latitude is beyond a pole, or where the two latitudes have different numbers of longitude
+/// zones. Denominators are the number of zones times 2^17; the fractions aren't reduced (Doc 9871 C.2.6.7).
 pub fn pair(even: Place, odd: Place, newest_odd: bool) -> Option<Position>
     ensures value { result ≡ position_of even odd newest_odd }
     ensures lat_whole { IfSome result (λ p. 0 < p.lat.den) }

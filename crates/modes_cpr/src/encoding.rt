@@ -9,7 +9,9 @@ use crate::rounding::{floor, modulo};
 use crate::transitions::zones;
 use modes_fields::Place;
 
-/// The place that is sent in a grid for a point.
+/// The place that is sent in the even or the odd grid for a point.
+///
+/// The latitude is from -90 to 90 degrees, the longitude from -360 to 360 (Doc 9871 C.2.6.4).
 pub fn encode(lat: Degrees, lon: Degrees, odd: bool) -> Place
     requires lat_whole { 0 < lat.den }
     requires lon_whole { 0 < lon.den }

@@ -1,4 +1,5 @@
-//! Compact position reporting, airborne, 17 bits, over exact fractions.
+//! Compact position reporting (CPR), airborne, 17 bits: from places to positions and back, over exact fractions.
+//! ICAO Doc 9871 appendix C.2.6, RTCA DO-260B appendix A.1.7.
 #![tactic(auto)]
 
 mod decoding;

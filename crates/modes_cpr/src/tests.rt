@@ -1,4 +1,4 @@
-//! Worked examples of the formats.
+//! Positions, zones and places with values from outside.
 
 ghost use Rattle.std.specs.Prelude.{◌≡◌, ◌<◌};
 
@@ -16,7 +16,7 @@ fn at(num: i64, den: u32) -> Degrees
 }
 
 #[test]
-fn pairs_of_the_worked_examples(rt: HostRuntime) -> Result<(), Fail> {
+fn a_pair_of_places_tells_a_position_or_none(rt: HostRuntime) -> Result<(), Fail> {
     let even = |lat: u32, lon: u32| Place {
         odd: false,
         lat,
@@ -51,7 +51,7 @@ fn pairs_of_the_worked_examples(rt: HostRuntime) -> Result<(), Fail> {
 }
 
 #[test]
-fn zones_of_the_worked_examples(rt: HostRuntime) {
+fn zones_fall_at_transition_latitudes(rt: HostRuntime) {
     assert_eq!(rt; zones(0, 1), 59);
     assert_eq!(rt; zones(87, 1), 2);
     assert_eq!(rt; zones(-87, 1), 2);
@@ -62,7 +62,7 @@ fn zones_of_the_worked_examples(rt: HostRuntime) {
 }
 
 #[test]
-fn places_of_the_worked_examples(rt: HostRuntime) {
+fn a_point_is_sent_as_the_nearest_bin(rt: HostRuntime) {
     assert_eq!(rt;
         encode(at(87, 1), at(0, 1), false),
         Place {
@@ -123,7 +123,7 @@ fn places_of_the_worked_examples(rt: HostRuntime) {
 }
 
 #[test]
-fn zones_at_each_transition(rt: HostRuntime) {
+fn the_greater_number_of_zones_holds_at_each_transition(rt: HostRuntime) {
     for (k, e) in TRANSITIONS.iter().enumerate() {
         assert!(rt; *e <= 8_700_000_000);
         let num = *e as i64;
