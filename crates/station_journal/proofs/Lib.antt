@@ -1,0 +1,6 @@
+pub mod Fresh
+pub mod SearchLemmas
+pub mod RisingLemmas
+pub mod FoundLemmas
+pub mod LegalLemmas
+pub mod NewestLemmas

@@ -1,0 +1,6 @@
+pub mod Past
+pub mod Table
+pub mod Verdict
+pub mod Log
+pub mod Found
+pub mod Newest

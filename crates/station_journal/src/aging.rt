@@ -1,0 +1,70 @@
+//! Values with their moments, and how they age.
+
+ghost use Rattle.std.specs.Prelude.{◌≡◌};
+ghost use Rattle.station_journal.specs.Past.{stamp, fresh, or_older, with_parity, pair_with};
+
+use crate::Stamped;
+use modes_cpr::{Position, pair};
+use modes_fields::Place;
+
+/// The value with its moment.
+pub fn stamp<T: Copy>(at: u64, value: Option<T>) -> Option<Stamped<T>>
+    ensures { result ≡ stamp at value }
+{
+    match value {
+        Some(value) => Some(Stamped { value, at }),
+        None => None,
+    }
+}
+
+/// The value, where its moment is at most `limit` before `now`.
+pub fn fresh<T: Copy>(limit: u64, now: u64, kept: Option<Stamped<T>>) -> Option<T>
+    ensures { result ≡ fresh limit now kept }
+{
+    match kept {
+        Some(kept) => {
+            if now.saturating_sub(kept.at) <= limit {
+                Some(kept.value)
+            } else {
+                None
+            }
+        }
+        None => None,
+    }
+}
+
+/// The newer value, or the older where there is none.
+pub fn or_older<T: Copy>(newer: Option<T>, older: Option<T>) -> Option<T>
+    ensures { result ≡ or_older newer older }
+{
+    match newer {
+        Some(newer) => Some(newer),
+        None => older,
+    }
+}
+
+/// The place, where it has this parity.
+pub fn with_parity(odd: bool, place: Option<Place>) -> Option<Place>
+    ensures { result ≡ with_parity odd place }
+{
+    match place {
+        Some(place) => { if place.odd == odd { Some(place) } else { None } }
+        None => None,
+    }
+}
+
+/// The position of a place and an earlier one of the other parity.
+pub fn pair_with(place: Place, other: Option<Place>) -> Option<Position>
+    ensures { result ≡ pair_with place other }
+{
+    match other {
+        Some(other) => {
+            if place.odd {
+                pair(other, place, true)
+            } else {
+                pair(place, other, false)
+            }
+        }
+        None => None,
+    }
+}
