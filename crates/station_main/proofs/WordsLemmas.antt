@@ -1,0 +1,52 @@
+-- From what `clap` ensures of its getters to the job.
+use Rattle.std.proofs.Common.{◌≡◌, ◌∙◌, ℕ, List, Option, Some, None, Result, Ok, true, map, option_map, refl, sym, ap, ap₂, length, codes}
+use Rattle.std.specs.Prelude.{unwrap_or}
+use Rattle.std.specs.Box.{box_value}
+use Rattle.clap.specs.declared.parser.matches.ArgMatches.{ArgMatches}
+use Rattle.clap.specs.declared.parser.matches.ArgMatches.TheViews.{out-ArgMatches, out-SubCommand}
+use Rattle.station_main.specs.declared.words.Job.{Job}
+use Rattle.station_main.specs.declared.words.Job.TheVariants.{Replay, Run}
+use Rattle.std.proofs.lemmas.List.{length-map}
+use Rattle.std.proofs.lemmas.Option.{none-some}
+use Rattle.std.specs.Str.Parse.{ParsesUnsigned}
+use Rattle.clap.specs.Words.{ReadsOne, Row, Text, found_of, is_simple, rows_of, subcommand_name_of, subcommand_of, subcommand_rows_of}
+use Rattle.clap.proofs.OnLiterals.{clap_on_literals}
+use Rattle.station_main.specs.Command.{GivesJob, NamesJob, number, station}
+
+pub is_simple-station : is_simple station ≡ true
+unfolding clap_on_literals
+is_simple-station = refl
+
+-- what `get_one` read is the number of the text
+pub reads_number : {E : Type 0} (k : ℕ) (G : List ℕ → Result ℕ E → Type 0) (one : Option (List ℕ)) (every : ℕ)
+    → ((t : List ℕ) (r : Result ℕ E) → G t r → ParsesUnsigned k 10 t r)
+    → (one ≡ None → Some every ≡ None)
+    → ((t : List ℕ) → one ≡ Some t → ReadsOne G t (Some every))
+    → (text : List ℕ) × (one ≡ Some text) × (every ≡ number text)
+reads_number k G None every parses none value = absurd (none-some every (sym (none refl)))
+reads_number k G (Some t) every parses none value = (t, refl, (parses t (Ok every) (value t refl)).1)
+
+-- a `map` keeps the number of its items
+pub same_length : {A B C : Type 0} (f : A → C) (g : B → C) (xs : List A) (ys : List B) → map f xs ≡ map g ys → length xs ≡ length ys
+same_length f g xs ys e = sym (length-map xs f) ∙ ap length e ∙ length-map ys g
+
+-- the name and the rows that an option holds, each known alone
+both_known : {B : Type 0} (f : B → Text) (g : B → List Row) (o : Option B) (name : Text) (rows : List Row)
+    → Some name ≡ option_map f o → Some rows ≡ option_map {T = Text × List Row} (λ p. p.1) (option_map (λ b. (f b, g b)) o)
+    → option_map {U = Text × List Row} (λ b. (f b, g b)) o ≡ Some (name, rows)
+both_known f g None name rows n r = absurd (none-some name (sym n))
+both_known f g (Some b) name rows n r =
+    let name_is : f b ≡ name = ap (λ x. unwrap_or x (f b)) (sym n) in
+    let rows_are : g b ≡ rows = ap (λ x. unwrap_or x (g b)) (sym r) in
+    ap₂ {C = Option (Text × List Row)} (λ x y. Some (x, y)) name_is rows_are
+
+pub known_rows : (m : ArgMatches) (name : Text) (rows : List Row) → Some name ≡ subcommand_name_of m
+    → Some rows ≡ option_map (λ p. p.1) (subcommand_rows_of m) → subcommand_rows_of m ≡ Some (name, rows)
+known_rows m name rows n r =
+    both_known (λ b. (out-SubCommand (box_value b)).name.now) (λ b. rows_of (found_of (out-SubCommand (box_value b)).matches)) (out-ArgMatches m).subcommand name rows n r
+
+-- the job of `run` is the one that the words name
+pub names_run : (words : List Text) (rows : List Row) → subcommand_of station words ≡ Some (codes "run", rows)
+    → (job : Job) → GivesJob rows job → NamesJob words job
+names_run words rows is Replay given = absurd given
+names_run words rows is (Run milliseconds paths) given = (rows, is, given)

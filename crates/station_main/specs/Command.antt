@@ -1,0 +1,79 @@
+-- The command line as `clap` reads it, and the job that its words name.
+use Rattle.std.specs.Prelude.{◌≡◌, ◌≤◌, ℕ, List, Some, codes, true, false, pos, map, length, option_map, ⊤}
+use Rattle.std.specs.String.{string_bytes}
+use Rattle.std.specs.Str.Parse.{digits_value, without_leading_plus}
+use Rattle.clap.specs.Words.{App, Row, Rule, Text, all_of, new_app, new_rule, one_of, subcommand_of}
+use Rattle.clap.specs.Words.{app_of, rule_of, with_rule, with_subcommand}
+use Rattle.clap.specs.declared.builder.arg.Arg.{Arg}
+use Rattle.clap.specs.declared.builder.command.Command.{Command}
+use Rattle.clap.specs.declared.builder.command.Command.TheViews.{out-Command}
+use Rattle.clap.specs.declared.builder.action.ArgAction.TheVariants.{Set}
+use Rattle.clap.specs.declared.builder.value_parser.ValueParser.TheVariants.{Signed}
+use Rattle.station_main.specs.declared.words.Job.{Job}
+use Rattle.station_main.specs.declared.words.Job.TheVariants.{Replay, Run}
+
+-- `--every MS`: required, a whole number of milliseconds from 1 to 3,600,000
+abbrev pub every : Rule
+every = record (new_rule (codes "every")) {
+  long = Some (codes "every");
+  value_names = 1;
+  required = true;
+  parser = Some (Signed (pos 1) (pos 3600000));
+}
+
+-- `PATH..`: required, 1 to 8 of them, together
+abbrev pub path : Rule
+path = record (new_rule (codes "path")) {
+  action = Some Set;
+  range = Some (record { start_inclusive = 1; end_inclusive = 8 });
+  value_names = 1;
+  required = true;
+}
+
+abbrev pub replay : App
+replay = new_app (codes "replay")
+
+abbrev pub run : App
+run = with_rule (with_rule (new_app (codes "run")) every) path
+
+abbrev pub wants_subcommand : App → App
+wants_subcommand a = record a { top = record a.top { subcommand_required = true } }
+
+-- the whole command line: one of the two subcommands
+abbrev pub station : App
+station = with_subcommand (with_subcommand (wants_subcommand (new_app (codes "groundstation"))) replay.top) run.top
+
+-- the argument has this rule, and is not global
+abbrev pub IsArg : Rule → Arg → Type 0
+IsArg rule a = (rule_of a ≡ rule) × (a.global ≡ false)
+
+-- the command is this one, and none of its arguments is global
+abbrev pub IsMade : App → Command → Type 0
+IsMade app c = (app_of c ≡ app) × ((out-Command c).has_globals ≡ false)
+
+-- the number that a text of decimal digits, or a `+` and decimal digits, stands for
+abbrev pub number : Text → ℕ
+number text = digits_value 10 (without_leading_plus text)
+
+-- the values that `--every` and PATH have by the words of `run`, in their order
+pub record GivesRun (rows : List Row) (milliseconds : ℕ) (paths : List Text) : Type 0 where
+  pub text : Text
+  pub every : one_of (codes "every") rows ≡ Some text
+  pub every_is : milliseconds ≡ number text
+  pub paths_are : all_of (codes "path") rows ≡ Some paths
+
+abbrev pub GivesJob : List Row → Job → Type 0
+GivesJob rows Replay = ⊥
+GivesJob rows (Run milliseconds paths) = GivesRun rows milliseconds (map string_bytes paths.items)
+
+-- the job is the one that the words name
+abbrev pub NamesJob : List Text → Job → Type 0
+NamesJob words Replay = option_map (λ p. p.0) (subcommand_of station words) ≡ Some (codes "replay")
+NamesJob words (Run milliseconds paths) =
+    (rows : List Row) × (subcommand_of station words ≡ Some (codes "run", rows))
+    × GivesRun rows milliseconds (map string_bytes paths.items)
+
+-- 1 to 3,600,000 milliseconds, and 1 to 8 paths
+abbrev pub IsInRange : Job → Type 0
+IsInRange Replay = ⊤
+IsInRange (Run milliseconds paths) = (1 ≤ milliseconds) × (milliseconds ≤ 3600000) × (1 ≤ length paths.items) × (length paths.items ≤ 8)
