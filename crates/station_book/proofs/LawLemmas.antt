@@ -1,0 +1,53 @@
+-- The laws of the book over whole journals.
+use Rattle.std.proofs.Common.{◌≡◌, ℕ, ◌<◌, true, List, [], ◌∷◌, ◌++◌, length, None, ◌∙◌, arith}
+use Rattle.std.specs.Prelude.{nat_lt}
+use Rattle.std.proofs.lemmas.Bool.Decides.{nat_tests}
+use mathlib.Core.List.{reverse}
+use Rattle.std.proofs.lemmas.List.{length-reverse}
+use Rattle.station_journal.specs.declared.Entry.{Entry}
+use Rattle.station_journal.specs.declared.Limits.{Limits}
+use Rattle.station_journal.specs.Log.{Log, IsLegal, table_of, clock_of, past_of, refusal_of, most_entries}
+use Rattle.station_journal.specs.Verdict.{Legal, is_full}
+use Rattle.station_book.specs.Steps.{step_of}
+use Rattle.station_book.specs.State.{State, applied, offered, rows, fits, book_refusal}
+use Rattle.station_book.specs.Matching.{MatchesPast, Matches, Shows, book_of_past, book_after}
+use Rattle.station_book.proofs.MatchingLemmas.{matches_starting, matches_applied, matches_push}
+use Rattle.station_book.proofs.TableLemmas.{rows_are_table}
+use Rattle.station_book.proofs.VerdictLemmas.{same_claim_refusal, same_tick_refusal, same_refusal, fits_from_accepts, fits_from, fits_back, accepted_with_room}
+
+pub shows_from_match : (n base : ℕ) (book : State) (entries : List Entry) → Matches n base book entries → Shows n base book entries
+shows_from_match n base book entries m = record {
+  table = rows_are_table n base (reverse entries) book m;
+  moment = m.moment;
+  count = m.entries ∙ length-reverse entries;
+  claim = same_claim_refusal n base (reverse entries) book m;
+  tick = same_tick_refusal n base (reverse entries) book m;
+  entry = same_refusal n base (reverse entries) book m;
+}
+
+pub match_after_accepted : (log : Log) (book : State) (entry : Entry) → refusal_of log entry ≡ None → Matches log.limits.aircraft log.base book log.entries → Matches log.limits.aircraft log.base (applied book entry) (log.entries ++ entry ∷ [])
+match_after_accepted log book entry accepted m =
+    matches_push log.limits.aircraft log.base log.entries entry book (fits_from_accepts log.limits log.base (past_of log) entry accepted) m
+
+pub match_after_fit : (n base : ℕ) (book : State) (journal : List Entry) (entry : Entry) → fits n book (step_of entry) ≡ true → Matches n base book journal → Matches n base (applied book entry) (journal ++ entry ∷ [])
+match_after_fit n base book journal entry fit m = matches_push n base journal entry book (fits_back n base (reverse journal) book m entry fit) m
+
+pub accepted_fits_book : (log : Log) (book : State) (entry : Entry) → refusal_of log entry ≡ None → Matches log.limits.aircraft log.base book log.entries → fits log.limits.aircraft book (step_of entry) ≡ true
+accepted_fits_book log book entry accepted m =
+    fits_from log.limits.aircraft log.base (past_of log) book m entry (fits_from_accepts log.limits log.base (past_of log) entry accepted)
+
+pub match_after_offer : (log : Log) (book : State) (entry : Entry) → refusal_of log entry ≡ None → length log.entries < most_entries → Matches log.limits.aircraft log.base book log.entries → Matches log.limits.aircraft log.base (offered log.limits.aircraft book entry) (log.entries ++ entry ∷ [])
+match_after_offer log book entry accepted few m =
+    let free : book_refusal log.limits.aircraft book entry ≡ None = same_refusal log.limits.aircraft log.base (past_of log) book m entry ∙ accepted_with_room (is_full log.limits (past_of log)) log.limits.aircraft log.base (past_of log) entry accepted in
+    let count : book.entries ≡ length log.entries = m.entries ∙ length-reverse log.entries in
+    let test : nat_lt book.entries most_entries ≡ true = rw count (grind (arith, nat_tests)) in
+    rw (free, test) (match_after_accepted log book entry accepted m)
+
+matches_legal : (limits : Limits) (base : ℕ) (past : List Entry) → Legal limits base past → MatchesPast limits.aircraft base (book_of_past base past) past
+matches_legal limits base [] legal = matches_starting limits.aircraft base
+matches_legal limits base (entry ∷ past) legal = matches_applied limits.aircraft base past entry (book_of_past base past) (fits_from_accepts limits base past entry legal.0) (matches_legal limits base past legal.1)
+
+pub book_equals_search : (log : Log) → IsLegal log → (rows (book_after log.base log.entries) ≡ table_of log) × ((book_after log.base log.entries).moment ≡ clock_of log)
+book_equals_search log legal =
+    let m = matches_legal log.limits log.base (past_of log) legal in
+    (rows_are_table log.limits.aircraft log.base (past_of log) (book_after log.base log.entries) m, m.moment)

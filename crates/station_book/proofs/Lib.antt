@@ -1,0 +1,7 @@
+pub mod OneAircraft
+pub mod TracksLemmas
+pub mod RankLemmas
+pub mod MatchingLemmas
+pub mod TableLemmas
+pub mod VerdictLemmas
+pub mod LawLemmas

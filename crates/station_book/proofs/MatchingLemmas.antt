@@ -1,0 +1,96 @@
+-- A book that matches a past matches it with one more entry that fits.
+use Rattle.std.proofs.Common.{◌≡◌, ℕ, ◌-◌, ◌<◌, Bool, true, false, if◌then◌else◌, List, [], ◌∷◌, ◌++◌, Option, Some, None, Result, Ok, Err, refl, subst, arith}
+use mathlib.Core.List.{reverse}
+use Rattle.std.specs.Prelude.{nat_le, ◌==◌, unwrap_or}
+use Rattle.std.proofs.lemmas.Bool.{eqb-true}
+use Rattle.std.proofs.lemmas.Bool.Decides.{nat_tests}
+use Rattle.std.proofs.lemmas.List.{reverse-append}
+use Rattle.station_journal.specs.Past.{Frame}
+use Rattle.modes_frame.specs.declared.claims.Claim.{Claim}
+use Rattle.modes_frame.specs.declared.claims.CheckFault.{CheckFault}
+use Rattle.modes_frame.specs.Claims.{claim_of}
+use Rattle.modes_fields.specs.Carried.{fields_of}
+use Rattle.station_journal.specs.declared.Entry.{Entry}
+use Rattle.station_journal.specs.declared.Entry.TheVariants.{Tick, Heard}
+use Rattle.station_journal.specs.Past.{clock, speaks_for}
+use Rattle.station_journal.specs.Past.{IsTimed}
+use Rattle.station_book.specs.declared.tracks.Track.{Track}
+use Rattle.station_book.specs.Steps.{with_fields}
+use Rattle.station_book.specs.Tracks.{blank, updated, find_track, with_sighting}
+use Rattle.station_book.specs.State.{State, applied, starting}
+use Rattle.station_book.specs.Matching.{ClaimFits, Fits, Sound, Tracks, TracksAt, MatchesPast, Matches}
+use Rattle.station_book.proofs.OneAircraft.{kept_by_tick, swept_by_tick, absent_after_tick, unchanged_by_other, heard_of_own}
+use Rattle.station_book.proofs.TracksLemmas.{keep_if, find_put_as, find_filter, rising_put, rising_filter}
+
+-- in a sound past each tick is later than the clock before it
+pub timed_from_sound : (n base : ℕ) (past : List Entry) → Sound n base past → IsTimed base past
+timed_from_sound n base [] sound = tt
+timed_from_sound n base (Tick seat at ∷ past) sound = (sound.0, timed_from_sound n base past sound.1)
+timed_from_sound n base (Heard seat frame ∷ past) sound = timed_from_sound n base past sound.1
+
+-- a book without entries matches the empty past
+pub matches_starting : (n base : ℕ) → MatchesPast n base (starting base) []
+matches_starting n base = record { sound = tt; moment = refl; entries = refl; rising = tt; each = λ a. refl }
+
+module _ (n base : ℕ) (past : List Entry) where
+  -- what is kept of one aircraft after a tick
+  after_tick : (seat at a : ℕ) (kept : Option Track) → IsTimed base past → clock base past < at → TracksAt base past a kept → TracksAt base (Tick seat at ∷ past) a (keep_if (λ track. nat_le (at - track.heard) 60000) kept)
+  after_tick seat at a None timed later absent = absent_after_tick base a past seat at later absent
+  after_tick seat at a (Some track) timed later tracks = by_test (nat_le (at - track.heard) 60000) refl
+    where
+      by_test : (test : Bool) → nat_le (at - track.heard) 60000 ≡ test → TracksAt base (Tick seat at ∷ past) a (if test then Some track else None)
+      by_test true recent = kept_by_tick base a past seat at track timed later recent tracks
+      by_test false old = swept_by_tick base a past seat at track timed old tracks
+
+  pub matches_tick : (seat at : ℕ) (book : State) → MatchesPast n base book past → clock base past < at → MatchesPast n base (applied book (Tick seat at)) (Tick seat at ∷ past)
+  matches_tick seat at book m later = record {
+    sound = (later, m.sound);
+    moment = refl;
+    entries = omega (arith, m.entries);
+    rising = rising_filter (λ track. nat_le (at - track.heard) 60000) book.tracks m.rising;
+    each = λ a. rw (find_filter a (λ track. nat_le (at - track.heard) 60000) book.tracks m.rising) (after_tick seat at a (find_track a book.tracks) (timed_from_sound n base past m.sound) later (m.each a));
+  }
+
+  -- the track of an address has that address
+  address_of_found : (a : ℕ) (kept : Option Track) → TracksAt base past a kept → (unwrap_or kept (blank a)).address ≡ a
+  address_of_found a None absent = refl
+  address_of_found a (Some track) tracks = tracks.address
+
+  -- the track that a frame of the address leaves
+  abbrev pub track_after : Frame → ℕ → List Track → Track
+  track_after frame a tracks = updated (clock base past) (fields_of frame) (unwrap_or (find_track a tracks) (blank a))
+
+  module _ (seat : ℕ) (frame : Frame) (claim : Claim) (tracks : List Track) (is : claim_of frame ≡ Ok claim) (each : (b : ℕ) → TracksAt base past b (find_track b tracks)) where
+    own_track : Tracks base (Heard seat frame ∷ past) claim.address (track_after frame claim.address tracks)
+    own_track =
+        let own : speaks_for claim.address frame ≡ true = rw is (grind (arith, nat_tests)) in
+        heard_of_own base claim.address past seat frame own (find_track claim.address tracks) (each claim.address)
+
+    by_test : (b : ℕ) (test : Bool) → (claim.address == b) ≡ test → TracksAt base (Heard seat frame ∷ past) b (if test then Some (track_after frame claim.address tracks) else find_track b tracks)
+    by_test b true same = subst (λ x. Tracks base (Heard seat frame ∷ past) x (track_after frame claim.address tracks)) (eqb-true claim.address b same) own_track
+    by_test b false other =
+        let not_own : speaks_for b frame ≡ false = rw is other in
+        unchanged_by_other base b past seat frame not_own (find_track b tracks) (each b)
+
+    -- what is kept of each aircraft after the frame
+    pub after_frame : (b : ℕ) → TracksAt base (Heard seat frame ∷ past) b (find_track b (with_sighting (clock base past) (with_fields (fields_of frame) (Ok claim)) tracks))
+    after_frame b = rw (find_put_as claim.address b (track_after frame claim.address tracks) tracks (address_of_found claim.address (find_track claim.address tracks) (each claim.address))) (by_test b (claim.address == b) refl)
+
+  pub matches_frame : (seat : ℕ) (frame : Frame) (claim : Result Claim CheckFault) (book : State) → claim_of frame ≡ claim → ClaimFits n base past claim → MatchesPast n base book past → MatchesPast n base (applied book (Heard seat frame)) (Heard seat frame ∷ past)
+  matches_frame seat frame (Err fault) book is fit m = elim fit [ ]
+  matches_frame seat frame (Ok claim) book is fit m = record {
+    sound = (rw is fit, m.sound);
+    moment = m.moment;
+    entries = omega (arith, m.entries);
+    rising = rw is (rising_put _ book.tracks m.rising);
+    each = λ b. rw (is, m.moment) (after_frame seat frame claim book.tracks is m.each b);
+  }
+
+  -- one more entry that fits
+  pub matches_applied : (entry : Entry) (book : State) → Fits n base past entry → MatchesPast n base book past → MatchesPast n base (applied book entry) (entry ∷ past)
+  matches_applied (Tick seat at) book fit m = matches_tick seat at book m fit
+  matches_applied (Heard seat frame) book fit m = matches_frame seat frame (claim_of frame) book refl fit m
+
+-- the same, with the oldest entry first
+pub matches_push : (n base : ℕ) (entries : List Entry) (entry : Entry) (book : State) → Fits n base (reverse entries) entry → Matches n base book entries → Matches n base (applied book entry) (entries ++ entry ∷ [])
+matches_push n base entries entry book fit m = rw (reverse-append entries (entry ∷ [])) (matches_applied n base (reverse entries) entry book fit m)

@@ -1,0 +1,80 @@
+-- The rows of a book that matches are the table.
+use Rattle.std.proofs.Common.{◌≡◌, ℕ, Bool, true, false, if◌then◌else◌, List, [], ◌∷◌, length, map, Option, Some, None, is_some, refl, sym, ap, ◌∙◌, subst, arith}
+use Rattle.std.specs.Prelude.{◌==◌}
+use Rattle.std.proofs.lemmas.Bool.Decides.{nat_tests}
+use Rattle.std.proofs.lemmas.List.{length-map}
+use Rattle.station_journal.specs.declared.Entry.{Entry}
+use Rattle.station_journal.specs.declared.Aircraft.{Aircraft}
+use Rattle.station_journal.specs.Past.{clock, live}
+use Rattle.station_journal.specs.Table.{row, table, live_addresses, find_row}
+use Rattle.station_journal.proofs.RisingLemmas.{AllOver, IsRising, is_in, same_rising, rising_live, in_live}
+use Rattle.station_book.specs.declared.tracks.Track.{Track}
+use Rattle.station_book.specs.Tracks.{find_track, track_row, AllAbove, Rising}
+use Rattle.station_book.specs.State.{State, rows}
+use Rattle.station_book.specs.Matching.{Tracks, TracksAt, MatchesPast}
+use Rattle.station_book.proofs.TracksLemmas.{find_below}
+
+abbrev pub address_of : Track → ℕ
+address_of track = track.address
+
+over_from_above : (a : ℕ) (tracks : List Track) → AllAbove a tracks → AllOver a (map address_of tracks)
+over_from_above a [] above = tt
+over_from_above a (track ∷ rest) above = (above.0, over_from_above a rest above.1)
+
+rising_addresses : (tracks : List Track) → Rising tracks → IsRising (map address_of tracks)
+rising_addresses [] rising = tt
+rising_addresses (track ∷ rest) rising = (over_from_above track.address rest rising.0, rising_addresses rest rising.1)
+
+is_in_addresses : (a : ℕ) (tracks : List Track) → is_in a (map address_of tracks) ≡ is_some (find_track a tracks)
+is_in_addresses a [] = refl
+is_in_addresses a (track ∷ rest) = grind (arith, nat_tests, is_in_addresses a rest)
+
+-- a list of rising tracks is given by what is found in it
+rows_agree : (f : Track → Aircraft) (g : ℕ → Aircraft) (tracks : List Track) → Rising tracks → ((a : ℕ) (track : Track) → find_track a tracks ≡ Some track → f track ≡ g a) → map f tracks ≡ map g (map address_of tracks)
+rows_agree f g [] rising agree = refl
+rows_agree f g (track ∷ rest) rising agree =
+    let here : f track ≡ g track.address = agree track.address track (grind (arith, nat_tests)) in
+    let found : (a : ℕ) (t : Track) → find_track a rest ≡ Some t → find_track a (track ∷ rest) ≡ Some t = λ a t e. grind (arith, nat_tests, find_below a track.address rest rising.0) in
+    let tails : map f rest ≡ map g (map address_of rest) = rows_agree f g rest rising.1 (λ a t e. agree a t (found a t e)) in
+    cc
+
+module _ (n base : ℕ) (past : List Entry) (book : State) (m : MatchesPast n base book past) where
+  found_is_live : (a : ℕ) (kept : Option Track) → TracksAt base past a kept → is_some kept ≡ live base past a
+  found_is_live a None absent = sym absent
+  found_is_live a (Some track) t = sym t.live
+
+  -- an aircraft is kept exactly where it is live
+  pub kept_is_live : (a : ℕ) → is_some (find_track a book.tracks) ≡ live base past a
+  kept_is_live a = found_is_live a (find_track a book.tracks) (m.each a)
+
+  -- the kept addresses are the live ones, in the same order
+  pub same_addresses : map address_of book.tracks ≡ live_addresses base past
+  same_addresses = same_rising (map address_of book.tracks) (live_addresses base past) (rising_addresses book.tracks m.rising) (rising_live base past) (λ a. is_in_addresses a book.tracks ∙ kept_is_live a ∙ sym (in_live base past a))
+
+  -- as many are kept as are live
+  pub same_count : length book.tracks ≡ length (live_addresses base past)
+  same_count = sym (length-map book.tracks address_of) ∙ ap length same_addresses
+
+  row_of_tracks : (a : ℕ) (track : Track) → Tracks base past a track → track_row (clock base past) track ≡ row base past a
+  row_of_tracks a track t = rw (t.address, t.callsign (clock base past) (omega arith), t.altitude (clock base past) (omega arith), t.squawk (clock base past) (omega arith), t.velocity (clock base past) (omega arith), t.vertical (clock base past) (omega arith), t.position (clock base past) (omega arith), t.heard) refl
+
+  row_of_found : (a : ℕ) (track : Track) → find_track a book.tracks ≡ Some track → track_row book.moment track ≡ row base past a
+  row_of_found a track e = rw m.moment (row_of_tracks a track (subst (TracksAt base past a) e (m.each a)))
+
+  -- the rows are the table
+  pub rows_are_table : rows book ≡ table base past
+  rows_are_table = rows_agree (track_row book.moment) (row base past) book.tracks m.rising row_of_found ∙ ap (map (row base past)) same_addresses
+
+-- the row of what is found, if anything is
+abbrev pub row_found : ℕ → Option Track → Option Aircraft
+row_found now None = None
+row_found now (Some track) = Some (track_row now track)
+
+-- the row of an address is that of its track
+pub find_row_of_tracks : (a now : ℕ) (tracks : List Track) → find_row a (map (track_row now) tracks) ≡ row_found now (find_track a tracks)
+find_row_of_tracks a now [] = refl
+find_row_of_tracks a now (track ∷ rest) = step (track.address == a) (find_row a (map (track_row now) rest)) (find_track a rest) (find_row_of_tracks a now rest)
+  where
+    step : (test : Bool) (r : Option Aircraft) (t : Option Track) → r ≡ row_found now t → (if test then Some (track_row now track) else r) ≡ row_found now (if test then Some track else t)
+    step true r t e = refl
+    step false r t e = e

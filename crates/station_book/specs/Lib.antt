@@ -1,0 +1,4 @@
+pub mod Steps
+pub mod Tracks
+pub mod State
+pub mod Matching

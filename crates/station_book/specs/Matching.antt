@@ -1,0 +1,82 @@
+-- When a book and a list of entries match: each aircraft apart, and then the whole.
+use Rattle.std.specs.Prelude.{◌≡◌, ℕ, ◌<◌, ◌≤◌, true, false, List, [], ◌∷◌, Option, Some, None, Result, Ok, Err, length, reverse}
+use Rattle.modes_frame.specs.declared.claims.Claim.{Claim}
+use Rattle.modes_frame.specs.declared.claims.CheckFault.{CheckFault}
+use Rattle.modes_frame.specs.Claims.{claim_of}
+use Rattle.station_journal.specs.declared.Entry.{Entry}
+use Rattle.station_journal.specs.declared.Entry.TheVariants.{Tick, Heard}
+use Rattle.station_journal.specs.declared.Stamped.{Stamped}
+use Rattle.station_journal.specs.Past.{clock, live, fresh, newest, newest_fix, sighting_of, callsign_of, even_place_of, odd_place_of}
+use Rattle.station_journal.specs.Table.{altitude_of, squawk_of, velocity_of, vertical_of, live_addresses, table}
+use Rattle.station_journal.specs.Verdict.{claim_refusal, tick_refusal, refusal}
+use Rattle.station_book.specs.declared.tracks.Track.{Track}
+use Rattle.station_book.specs.Tracks.{find_track, Rising}
+use Rattle.station_book.specs.State.{State, rows, starting, applied, book_claim_refusal, book_tick_refusal, book_refusal}
+
+-- the claim is of an address that is live, or finds fewer than n live
+abbrev pub ClaimFits : ℕ → ℕ → List Entry → Result Claim CheckFault → Type 0
+ClaimFits n base past (Ok claim) = live base past claim.address ≡ false → length (live_addresses base past) < n
+ClaimFits n base past (Err fault) = ⊥
+
+-- the entry may follow the past, whoever is known
+abbrev pub Fits : ℕ → ℕ → List Entry → Entry → Type 0
+Fits n base past (Tick seat at) = clock base past < at
+Fits n base past (Heard seat frame) = ClaimFits n base past (claim_of frame)
+
+-- each entry fits what came before it
+abbrev pub Sound : ℕ → ℕ → List Entry → Type 0
+Sound n base [] = Unit {0}
+Sound n base (entry ∷ past) = Fits n base past entry × Sound n base past
+
+-- from now on both values show the same, by this limit of age
+abbrev pub AgreeFrom : {V : Type 0} → ℕ → ℕ → Option (Stamped V) → Option (Stamped V) → Type 0
+AgreeFrom limit now kept found = (later : ℕ) → now ≤ later → fresh limit later kept ≡ fresh limit later found
+
+-- what is kept of one aircraft serves as well as a search, now and later
+pub record Tracks (base : ℕ) (past : List Entry) (a : ℕ) (track : Track) : Type 0 where
+  pub address : track.address ≡ a
+  pub live : live base past a ≡ true
+  pub heard : newest sighting_of base a past ≡ Some (record { value = 0; at = track.heard })
+  pub callsign : AgreeFrom 60000 (clock base past) track.callsign (newest callsign_of base a past)
+  pub altitude : AgreeFrom 60000 (clock base past) track.altitude (newest altitude_of base a past)
+  pub squawk : AgreeFrom 60000 (clock base past) track.squawk (newest squawk_of base a past)
+  pub velocity : AgreeFrom 60000 (clock base past) track.velocity (newest velocity_of base a past)
+  pub vertical : AgreeFrom 60000 (clock base past) track.vertical (newest vertical_of base a past)
+  pub even : AgreeFrom 10000 (clock base past) track.even (newest even_place_of base a past)
+  pub odd : AgreeFrom 10000 (clock base past) track.odd (newest odd_place_of base a past)
+  pub position : AgreeFrom 60000 (clock base past) track.position (newest_fix base a past)
+
+-- a track is kept of the aircraft exactly where it is live
+abbrev pub TracksAt : ℕ → List Entry → ℕ → Option Track → Type 0
+TracksAt base past a None = live base past a ≡ false
+TracksAt base past a (Some track) = Tracks base past a track
+
+-- the book matches the past
+pub record MatchesPast (n base : ℕ) (book : State) (past : List Entry) : Type 0 where
+  pub sound : Sound n base past
+  pub moment : book.moment ≡ clock base past
+  pub entries : book.entries ≡ length past
+  pub rising : Rising book.tracks
+  pub each : (a : ℕ) → TracksAt base past a (find_track a book.tracks)
+
+-- the book matches the list of entries, the oldest first
+abbrev pub Matches : ℕ → ℕ → State → List Entry → Type 0
+Matches n base book entries = MatchesPast n base book (reverse entries)
+
+-- what a match promises: the table, the clock, the count, and every refusal but JournalFull
+pub record Shows (n base : ℕ) (book : State) (entries : List Entry) : Type 0 where
+  pub table : rows book ≡ table base (reverse entries)
+  pub moment : book.moment ≡ clock base (reverse entries)
+  pub count : book.entries ≡ length entries
+  pub claim : (claim : Result Claim CheckFault) → book_claim_refusal n book claim ≡ claim_refusal false n base (reverse entries) claim
+  pub tick : (at : ℕ) → book_tick_refusal book at ≡ tick_refusal false base (reverse entries) at
+  pub entry : (entry : Entry) → book_refusal n book entry ≡ refusal false n base (reverse entries) entry
+
+-- the book that is given each entry of the past in turn
+abbrev pub book_of_past : ℕ → List Entry → State
+book_of_past base [] = starting base
+book_of_past base (entry ∷ past) = applied (book_of_past base past) entry
+
+-- the book that is given the entries
+abbrev pub book_after : ℕ → List Entry → State
+book_after base entries = book_of_past base (reverse entries)

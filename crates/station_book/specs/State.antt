@@ -1,0 +1,79 @@
+-- The value of a book, and what an entry makes of it.
+use Rattle.std.specs.Prelude.{ℕ, ◌+◌, Bool, true, false, not, ◌&&◌, nat_lt, nat_le, is_some, if◌then◌else◌, List, [], Option, Some, Result, Ok, Err, length, map}
+use Rattle.modes_frame.specs.declared.claims.Claim.{Claim}
+use Rattle.modes_frame.specs.declared.claims.CheckFault.{CheckFault}
+use Rattle.station_journal.specs.declared.Aircraft.{Aircraft}
+use Rattle.station_journal.specs.declared.Entry.{Entry}
+use Rattle.station_journal.specs.declared.Refusal.{Refusal}
+use Rattle.station_journal.specs.declared.Refusal.TheVariants.{Unknown, BookFull, NotLater}
+use Rattle.station_journal.specs.Log.{most_entries}
+use Rattle.station_journal.specs.Past.{or_older}
+use Rattle.station_journal.specs.Verdict.{refuse_if, fault_refusal}
+use Rattle.station_book.specs.declared.steps.Step.{Step}
+use Rattle.station_book.specs.declared.steps.Step.TheVariants.{Tick, Heard}
+use Rattle.station_book.specs.declared.tracks.Track.{Track}
+use Rattle.station_book.specs.Steps.{step_of, claim_in}
+use Rattle.station_book.specs.Tracks.{find_track, swept, with_sighting, track_row}
+
+-- the clock, how many entries were taken, and what is kept of each live aircraft
+pub record State : Type 0 where
+  pub moment : ℕ
+  pub entries : ℕ
+  pub tracks : List Track
+
+-- a book without entries, whose clock is at the base
+abbrev pub starting : ℕ → State
+starting base = record { moment = base; entries = 0; tracks = [] }
+
+-- the rows that the book shows
+abbrev pub rows : State → List Aircraft
+rows book = map (track_row book.moment) book.tracks
+
+-- the book's refusal of a claim: the first that applies of its fault, Unknown and BookFull
+abbrev pub book_claim_refusal : ℕ → State → Result Claim CheckFault → Option Refusal
+book_claim_refusal n book (Err fault) = Some (fault_refusal fault)
+book_claim_refusal n book (Ok claim) =
+    or_older (refuse_if (if claim.overlaid then not (is_some (find_track claim.address book.tracks)) else false) (Unknown claim.address))
+    (refuse_if (if is_some (find_track claim.address book.tracks) then false else nat_le n (length book.tracks)) BookFull)
+
+-- its refusal of a tick
+abbrev pub book_tick_refusal : State → ℕ → Option Refusal
+book_tick_refusal book at = refuse_if (nat_le at book.moment) (NotLater book.moment)
+
+-- its refusal of a decoded entry
+abbrev pub step_refusal : ℕ → State → Step → Option Refusal
+step_refusal n book (Tick at) = book_tick_refusal book at
+step_refusal n book (Heard sighting) = book_claim_refusal n book (claim_in sighting)
+
+-- its refusal of an entry
+abbrev pub book_refusal : ℕ → State → Entry → Option Refusal
+book_refusal n book entry = step_refusal n book (step_of entry)
+
+-- the book with one decoded entry more
+abbrev pub applied_step : State → Step → State
+applied_step book (Tick at) = record { moment = at; entries = book.entries + 1; tracks = swept at book.tracks }
+applied_step book (Heard sighting) =
+    record { moment = book.moment; entries = book.entries + 1; tracks = with_sighting book.moment sighting book.tracks }
+
+-- the book with one entry more
+abbrev pub applied : State → Entry → State
+applied book entry = applied_step book (step_of entry)
+
+-- the claim is of an aircraft that is kept or finds a place
+abbrev pub claim_fits : ℕ → State → Result Claim CheckFault → Bool
+claim_fits n book (Ok claim) = if is_some (find_track claim.address book.tracks) then true else nat_lt (length book.tracks) n
+claim_fits n book (Err fault) = false
+
+-- the decoded entry fits the book: what may be applied
+abbrev pub fits : ℕ → State → Step → Bool
+fits n book (Tick at) = nat_lt book.moment at
+fits n book (Heard sighting) = claim_fits n book (claim_in sighting)
+
+-- what is offered is applied where the book refuses nothing and counts fewer than the most entries, and else changes nothing
+abbrev pub offered_step : ℕ → State → Step → State
+offered_step n book step =
+    if not (is_some (step_refusal n book step)) && nat_lt book.entries most_entries then applied_step book step else book
+
+-- the same, of an entry
+abbrev pub offered : ℕ → State → Entry → State
+offered n book entry = offered_step n book (step_of entry)

@@ -1,0 +1,32 @@
+-- Entries as a book takes them: decoded.
+use Rattle.std.specs.Prelude.{Result, Ok, Err}
+use Rattle.modes_fields.specs.declared.types.Fields.{Fields}
+use Rattle.modes_fields.specs.Carried.{fields_of}
+use Rattle.modes_frame.specs.declared.claims.Claim.{Claim}
+use Rattle.modes_frame.specs.declared.claims.CheckFault.{CheckFault}
+use Rattle.modes_frame.specs.Claims.{claim_of}
+use Rattle.station_journal.specs.declared.Entry.{Entry}
+use Rattle.station_journal.specs.declared.Entry.TheVariants as entry
+use Rattle.station_journal.specs.Past.{Frame}
+use Rattle.station_book.specs.declared.steps.Sighting.{Sighting}
+use Rattle.station_book.specs.declared.steps.Step.{Step}
+use Rattle.station_book.specs.declared.steps.Step.TheVariants.{Tick, Heard}
+
+-- a good claim with the fields of its frame
+abbrev pub with_fields : Fields → Result Claim CheckFault → Result Sighting CheckFault
+with_fields fields (Ok claim) = Ok (record { claim = claim; fields = fields })
+with_fields fields (Err fault) = Err fault
+
+-- whom a frame speaks for and what it carries
+abbrev pub sighting_of : Frame → Result Sighting CheckFault
+sighting_of frame = with_fields (fields_of frame) (claim_of frame)
+
+-- the claim of a sighting
+abbrev pub claim_in : Result Sighting CheckFault → Result Claim CheckFault
+claim_in (Ok sighting) = Ok sighting.claim
+claim_in (Err fault) = Err fault
+
+-- an entry, decoded
+abbrev pub step_of : Entry → Step
+step_of (entry.Tick seat at) = Tick at
+step_of (entry.Heard seat frame) = Heard (sighting_of frame)

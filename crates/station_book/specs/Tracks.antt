@@ -1,0 +1,108 @@
+-- What is kept of an aircraft, and of the live aircraft by rising address.
+use Rattle.std.specs.Prelude.{◌≡◌, ℕ, ◌-◌, ◌<◌, Bool, true, false, ◌==◌, nat_le, nat_lt, if◌then◌else◌, List, [], ◌∷◌, Option, Some, None, Result, Ok, Err, unwrap_or, filter, length, slice_index_or, ◌≤◌, slice_get, insert, slice_set}
+use Rattle.modes_fields.specs.declared.types.Place.{Place}
+use Rattle.modes_cpr.specs.declared.points.Position.{Position}
+use Rattle.modes_fields.specs.declared.types.Fields.{Fields}
+use Rattle.modes_frame.specs.declared.claims.CheckFault.{CheckFault}
+use Rattle.station_journal.specs.declared.Aircraft.{Aircraft}
+use Rattle.station_journal.specs.Past.{stamp, or_older, fresh, with_parity, pair_with}
+use Rattle.station_book.specs.declared.tracks.Track.{Track}
+use Rattle.station_book.specs.declared.steps.Sighting.{Sighting}
+
+-- an aircraft of which nothing is kept
+abbrev pub blank : ℕ → Track
+blank a = record {
+  address = a;
+  heard = 0;
+  callsign = None;
+  altitude = None;
+  squawk = None;
+  velocity = None;
+  vertical = None;
+  even = None;
+  odd = None;
+  position = None;
+}
+
+-- the kept place of the other parity, at most 10,000 ms old
+abbrev pub kept_partner : ℕ → Track → Bool → Option Place
+kept_partner now track odd = if odd then fresh 10000 now track.even else fresh 10000 now track.odd
+
+-- the position that a place gives with the kept place of the other parity
+abbrev pub kept_fix : ℕ → Track → Option Place → Option Position
+kept_fix now track None = None
+kept_fix now track (Some place) = pair_with place (kept_partner now track place.odd)
+
+-- the track after a frame with these fields is heard at the moment now
+abbrev pub updated : ℕ → Fields → Track → Track
+updated now fields track = record {
+  address = track.address;
+  heard = now;
+  callsign = or_older (stamp now fields.callsign) track.callsign;
+  altitude = or_older (stamp now fields.altitude) track.altitude;
+  squawk = or_older (stamp now fields.squawk) track.squawk;
+  velocity = or_older (stamp now fields.velocity) track.velocity;
+  vertical = or_older (stamp now fields.vertical) track.vertical;
+  even = or_older (stamp now (with_parity false fields.place)) track.even;
+  odd = or_older (stamp now (with_parity true fields.place)) track.odd;
+  position = or_older (stamp now (kept_fix now track fields.place)) track.position;
+}
+
+-- the row that a track shows at the moment now
+abbrev pub track_row : ℕ → Track → Aircraft
+track_row now track = record {
+  address = track.address;
+  callsign = fresh 60000 now track.callsign;
+  altitude = fresh 60000 now track.altitude;
+  squawk = fresh 60000 now track.squawk;
+  velocity = fresh 60000 now track.velocity;
+  vertical = fresh 60000 now track.vertical;
+  position = fresh 60000 now track.position;
+  heard = track.heard;
+}
+
+-- the track of the address
+abbrev pub find_track : ℕ → List Track → Option Track
+find_track a [] = None
+find_track a (track ∷ rest) = if track.address == a then Some track else find_track a rest
+
+-- the track put in its place by rising address, over the one of that address if there is one
+abbrev pub put_track : Track → List Track → List Track
+put_track track [] = track ∷ []
+put_track track (other ∷ rest) =
+    if nat_lt track.address other.address then track ∷ other ∷ rest
+    else (if track.address == other.address then track ∷ rest else other ∷ put_track track rest)
+
+-- the tracks heard at most 60,000 ms before now
+abbrev pub swept : ℕ → List Track → List Track
+swept now tracks = filter (λ track. nat_le (now - track.heard) 60000) tracks
+
+-- the track of the address, or a blank one
+abbrev pub track_or_blank : ℕ → List Track → Track
+track_or_blank a tracks = unwrap_or (find_track a tracks) (blank a)
+
+-- the tracks after a frame is heard
+abbrev pub with_sighting : ℕ → Result Sighting CheckFault → List Track → List Track
+with_sighting now (Err fault) tracks = tracks
+with_sighting now (Ok sighting) tracks = put_track (updated now sighting.fields (track_or_blank sighting.claim.address tracks)) tracks
+
+-- all addresses are above a
+abbrev pub AllAbove : ℕ → List Track → Type 0
+AllAbove a [] = Unit {0}
+AllAbove a (track ∷ rest) = (a < track.address) × AllAbove a rest
+
+-- the addresses rise
+abbrev pub Rising : List Track → Type 0
+Rising [] = Unit {0}
+Rising (track ∷ rest) = AllAbove track.address rest × Rising rest
+
+-- i tracks are below the address, and those from i on are not
+pub record IsRank (tracks : List Track) (a i : ℕ) : Type 0 where
+  pub in_range : i ≤ length tracks
+  pub before : (k : ℕ) (d : Track) → k < i → (slice_index_or tracks k d).address < a
+  pub after : (d : Track) → i < length tracks → a ≤ (slice_index_or tracks i d).address
+
+-- the track of the address stands at this place, or would stand there
+abbrev pub IsPlace : List Track → ℕ → Result ℕ ℕ → Type 0
+IsPlace tracks a (Ok i) = (i < length tracks) × (slice_get tracks i ≡ find_track a tracks) × ((track : Track) → track.address ≡ a → slice_set tracks i track ≡ put_track track tracks)
+IsPlace tracks a (Err i) = (i ≤ length tracks) × (find_track a tracks ≡ None) × ((track : Track) → track.address ≡ a → insert tracks i track ≡ put_track track tracks)

@@ -1,0 +1,11 @@
+//! The running book: a table of fixed size that takes one entry after another, never looks back at them, and shows
+//! what a search of all of them finds.
+#![tactic(auto)]
+
+pub mod laws;
+pub mod running;
+pub mod steps;
+mod tracks;
+
+pub use running::Book;
+pub use steps::{Sighting, Step};

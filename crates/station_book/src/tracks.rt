@@ -1,0 +1,155 @@
+//! What is kept of an aircraft, and the tracks by rising address.
+
+ghost use Rattle.std.specs.Prelude.{◌≡◌, ◌<◌, false, is_some};
+ghost use Rattle.arrayvec.specs.ArrayVec.{array_vec_len};
+ghost use Rattle.station_journal.specs.Past.{stamp, or_older};
+ghost use Rattle.station_book.specs.Tracks.{blank, kept_fix, updated, track_row, find_track, put_track, swept, track_or_blank, Rising, IsRank, IsPlace};
+
+use arrayvec::ArrayVec;
+use modes_cpr::Position;
+use modes_fields::{Callsign, Fields, Place, Squawk, Velocity};
+use station_journal::aging::{fresh, or_older, pair_with, stamp, with_parity};
+use station_journal::{Aircraft, Stamped};
+
+/// What is kept of an aircraft: of each field the newest value, the newest even and odd place, and the newest position.
+#[derive(Clone, Copy, Debug, Default)]
+pub struct Track {
+    pub address: u32,
+    /// The moment of its newest frame.
+    pub heard: u64,
+    pub callsign: Option<Stamped<Callsign>>,
+    pub altitude: Option<Stamped<i32>>,
+    pub squawk: Option<Stamped<Squawk>>,
+    pub velocity: Option<Stamped<Velocity>>,
+    pub vertical: Option<Stamped<i32>>,
+    pub even: Option<Stamped<Place>>,
+    pub odd: Option<Stamped<Place>>,
+    pub position: Option<Stamped<Position>>,
+}
+
+/// A track of which nothing is known yet.
+pub fn blank(address: u32) -> Track
+    ensures { result ≡ blank address }
+{
+    Track {
+        address,
+        heard: 0,
+        callsign: None,
+        altitude: None,
+        squawk: None,
+        velocity: None,
+        vertical: None,
+        even: None,
+        odd: None,
+        position: None,
+    }
+}
+
+/// The position of the place and the kept one of the other parity, at most 10,000 ms older.
+fn kept_fix(now: u64, track: &Track, place: Option<Place>) -> Option<Position>
+    ensures { result ≡ kept_fix now track.now place }
+{
+    match place {
+        Some(place) => {
+            if place.odd {
+                pair_with(place, fresh(10_000, now, track.even))
+            } else {
+                pair_with(place, fresh(10_000, now, track.odd))
+            }
+        }
+        None => None,
+    }
+}
+
+/// Keeps the value with its moment, if there is one.
+fn keep<T: Copy>(kept: &mut Option<Stamped<T>>, at: u64, value: Option<T>)
+    ensures { kept.new ≡ or_older (stamp at value) kept.old }
+{
+    if let Some(value) = value {
+        *kept = Some(Stamped { value, at });
+    }
+}
+
+/// Takes what a frame of the aircraft carries, heard at the moment now.
+pub fn update(track: &mut Track, now: u64, fields: &Fields)
+    ensures { track.new ≡ updated now fields.now track.old }
+{
+    let position = kept_fix(now, track, fields.place);
+    track.heard = now;
+    keep(&mut track.callsign, now, fields.callsign);
+    keep(&mut track.altitude, now, fields.altitude);
+    keep(&mut track.squawk, now, fields.squawk);
+    keep(&mut track.velocity, now, fields.velocity);
+    keep(&mut track.vertical, now, fields.vertical);
+    keep(&mut track.even, now, with_parity(false, fields.place));
+    keep(&mut track.odd, now, with_parity(true, fields.place));
+    keep(&mut track.position, now, position);
+}
+
+/// The row that the track shows.
+pub fn track_row(now: u64, track: &Track) -> Aircraft
+    ensures { result ≡ track_row now track.now }
+{
+    Aircraft {
+        address: track.address,
+        callsign: fresh(60_000, now, track.callsign),
+        altitude: fresh(60_000, now, track.altitude),
+        squawk: fresh(60_000, now, track.squawk),
+        velocity: fresh(60_000, now, track.velocity),
+        vertical: fresh(60_000, now, track.vertical),
+        position: fresh(60_000, now, track.position),
+        heard: track.heard,
+    }
+}
+
+/// How many tracks are below the address.
+fn rank_of(tracks: &[Track], address: u32) -> usize
+    requires { Rising tracks.now }
+    ensures { IsRank tracks.now address result }
+{
+    tracks.partition_point(|track| track.address < address)
+}
+
+/// Where the track of the address stands, or where it would stand.
+pub fn locate(tracks: &[Track], address: u32) -> Result<usize, usize>
+    requires { Rising tracks.now }
+    ensures { IsPlace tracks.now address result }
+{
+    let rank = rank_of(tracks, address);
+    if rank < tracks.len() {
+        let there = tracks[rank].address;
+        if there == address {
+            return Ok(rank);
+        }
+    }
+    Err(rank)
+}
+
+/// Takes a frame of the address, whose track has this place, heard at the moment now.
+pub fn hear<const N: usize>(
+    tracks: &mut ArrayVec<Track, N>,
+    now: u64,
+    place: Result<usize, usize>,
+    address: u32,
+    fields: &Fields,
+)
+    requires place { IsPlace tracks.old.items address place }
+    requires room { is_some (find_track address tracks.old.items) ≡ false → array_vec_len tracks.old < N }
+    ensures { tracks.new.items ≡ put_track (updated now fields.now (track_or_blank address tracks.old.items)) tracks.old.items }
+{
+    match place {
+        Ok(rank) => update(&mut tracks[rank], now, fields),
+        Err(rank) => {
+            let mut track = blank(address);
+            update(&mut track, now, fields);
+            tracks.insert(rank, track);
+        }
+    }
+}
+
+/// Drops the tracks that were heard more than 60,000 ms before now.
+pub fn sweep<const N: usize>(tracks: &mut ArrayVec<Track, N>, now: u64)
+    ensures { tracks.new.items ≡ swept now tracks.old.items }
+{
+    tracks.retain(|track| now.saturating_sub(track.heard) <= 60_000);
+}
