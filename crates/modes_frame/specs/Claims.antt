@@ -1,31 +1,38 @@
--- Whom a frame speaks for.
-use Rattle.std.specs.Prelude.{ℕ, ◌+◌, ◌*◌, ◌==◌, ◌||◌, not, nat_lt, Bool, true, List, slice_index, Result, Ok, Err, if◌then◌else◌}
-use Rattle.modes_frame.specs.Frames.{df_of, remainder_of}
+-- Whom a frame speaks for (ICAO Annex 10 Volume IV, 3.1.2.3.2.1.3, 3.1.2.3.3 and 3.1.2.5.2.2).
+use Rattle.std.specs.Prelude.{ℕ, ◌==◌, ◌||◌, not, nat_lt, Bool, true, List, Result, Ok, Err, if◌then◌else◌, take, drop}
+use Rattle.modes_frame.specs.Frames.{df_of, bits_of, number_of, remainder_of}
 use Rattle.modes_frame.specs.declared.claims.Claim.{Claim}
 use Rattle.modes_frame.specs.declared.claims.CheckFault.{CheckFault}
 use Rattle.modes_frame.specs.declared.claims.CheckFault.TheVariants.{Unsupported, BadParity, Unassigned}
 
--- bits 9 to 32
-abbrev pub address_field : List ℕ → ℕ
-address_field bytes = slice_index bytes 1 * 65536 + slice_index bytes 2 * 256 + slice_index bytes 3
+-- the address announced, AA: the number in bits 9 to 32
+unfoldable pub address_field : List ℕ → ℕ
+address_field bytes = number_of (take 24 (drop 8 (bits_of bytes)))
 
--- the parity of these formats is overlaid with the address
+-- the formats that end with AP, in which the parity is overlaid with the address
 abbrev pub is_overlaid_format : ℕ → Bool
 is_overlaid_format df = df == 0 || df == 4 || df == 5 || df == 16 || df == 20 || df == 21
 
--- the parity of these tells an address that the frame carries; the first has up to 127 codes of interrogators
+-- the formats that carry AA and end with PI: the all-call reply and the extended squitter
+abbrev pub is_announced_format : ℕ → Bool
+is_announced_format df = df == 11 || df == 17
+
+-- in PI an all-call reply has an interrogator code of 7 bits, 0 in a squitter; an extended squitter has 0
 abbrev pub has_parity : ℕ → ℕ → Bool
-has_parity df rest = if df == 11 then nat_lt rest 128 else rest == 0
+has_parity df remainder = if df == 11 then nat_lt remainder 128 else remainder == 0
+
+-- no aircraft has the address of 24 zeros or of 24 ones
+abbrev pub is_unassigned : ℕ → Bool
+is_unassigned address = address == 0 || address == 0xFFFFFF
 
 abbrev pub assigned : ℕ → Bool → Result Claim CheckFault
-assigned address overlaid =
-    if address == 0 || address == 16777215 then Err (Unassigned address)
-    else Ok (record { address = address; overlaid = overlaid })
+assigned address overlaid = if is_unassigned address then Err (Unassigned address) else Ok (record { address = address; overlaid = overlaid })
 
+-- by the downlink format, the remainder of the whole frame and the address announced
 abbrev pub claim_by : ℕ → ℕ → ℕ → Result Claim CheckFault
-claim_by df rest address =
-    if is_overlaid_format df then Ok (record { address = rest; overlaid = true })
-    else if df == 11 || df == 17 then (if has_parity df rest then assigned address (not (rest == 0)) else Err (BadParity rest))
+claim_by df remainder address =
+    if is_overlaid_format df then Ok (record { address = remainder; overlaid = true })
+    else if is_announced_format df then (if has_parity df remainder then assigned address (not (remainder == 0)) else Err (BadParity remainder))
     else Err (Unsupported df)
 
 unfoldable pub claim_of : List ℕ → Result Claim CheckFault

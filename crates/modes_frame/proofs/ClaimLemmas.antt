@@ -1,0 +1,76 @@
+-- What a claim says of its address.
+use Rattle.std.proofs.Common.{◌≡◌, ◌≢◌, ℕ, ◌==◌, ◌*◌, ◌+◌, ◌^◌, ◌<◌, ◌≤◌, not, Bool, true, false, List, [], ◌∷◌, Result, Ok, IfOk, length, take, drop, cond, refl, sym, subst, arith}
+use Rattle.std.specs.Prelude.{slice_index}
+use Rattle.std.proofs.lemmas.List.{length-take}
+use Rattle.std.proofs.Math.Nat.{pow-le-pow_right}
+use Rattle.modes_frame.specs.Frames.{byte_bits, bits_of, df_of, remainder_of}
+use Rattle.modes_frame.specs.Claims.{address_field, is_overlaid_format, is_announced_format, has_parity, is_unassigned, claim_by, claim_of}
+use Rattle.modes_frame.specs.declared.claims.Claim.{Claim}
+use Rattle.modes_frame.specs.declared.claims.CheckFault.{CheckFault}
+use Rattle.modes_frame.proofs.NumberLemmas.{number-lt, number-three}
+use Rattle.modes_frame.proofs.ParityLemmas.{remainder-lt}
+
+-- the address announced has 24 bits
+pub address_field-lt : (bytes : List ℕ) → address_field bytes < 2 ^ 24
+unfolding address_field
+address_field-lt bytes =
+    let bits = take 24 (drop 8 (bits_of bytes)) in
+    let less = number-lt bits in
+    let few : length bits ≤ 24 = omega (arith, length-take 24 (drop 8 (bits_of bytes))) in
+    let most : 2 ^ length bits ≤ 2 ^ 24 = pow-le-pow_right {n = 2} (omega arith) few in
+    omega arith
+
+-- it stands in the second, third and fourth byte
+pub address_field-is : (a b c d : ℕ) (rest : List ℕ) → b < 256 → c < 256 → d < 256
+    → address_field (a ∷ b ∷ c ∷ d ∷ rest) ≡ b * 65536 + c * 256 + d
+unfolding address_field byte_bits
+address_field-is a b c d rest lb lc ld = number-three b c d lb lc ld
+
+-- ---- what holds of every claim
+
+either : (P : Claim → Type 0) (b : Bool) (r s : Result Claim CheckFault) → (b ≡ true → IfOk r P) → (b ≡ false → IfOk s P) → IfOk (cond b r s) P
+either P true r s p q = p refl
+either P false r s p q = q refl
+
+module _ (P : Claim → Type 0) (df remainder address : ℕ)
+    (of_remainder : P (record { address = remainder; overlaid = true }))
+    (of_address : is_unassigned address ≡ false → P (record { address = address; overlaid = not (remainder == 0) })) where
+  claim_by-holds : IfOk (claim_by df remainder address) P
+  claim_by-holds =
+      either P (is_overlaid_format df) _ _ (λ _. of_remainder)
+      (λ _. either P (is_announced_format df) _ _
+      (λ _. either P (has_parity df remainder) _ _ (λ _. either P (is_unassigned address) _ _ (λ _. tt) of_address) (λ _. tt))
+      (λ _. tt))
+
+-- the address of a claim has 24 bits
+pub claim-below : (bytes : List ℕ) → IfOk (claim_of bytes) (λ c. c.address < 2 ^ 24)
+unfolding claim_of
+claim-below bytes = claim_by-holds (λ c. c.address < 2 ^ 24) (df_of bytes) (remainder_of bytes) (address_field bytes) (remainder-lt bytes) (λ _. address_field-lt bytes)
+
+abbrev pub IsAssigned : Claim → Type 0
+IsAssigned c = c.overlaid ≡ false → (c.address ≢ 0) × (c.address ≢ 0xFFFFFF)
+
+neither : (address : ℕ) → is_unassigned address ≡ false → (address ≢ 0) × (address ≢ 0xFFFFFF)
+neither address h = grind arith
+
+-- a claim that is not overlaid is of an assigned address
+pub claim-assigned : (bytes : List ℕ) → IfOk (claim_of bytes) IsAssigned
+unfolding claim_of
+claim-assigned bytes = claim_by-holds IsAssigned (df_of bytes) (remainder_of bytes) (address_field bytes)
+    (λ h. absurd (cc)) (λ e _. neither (address_field bytes) e)
+
+-- both, where the claim is known by an equation
+pub claim-below-at : (bytes : List ℕ) (c : Claim) → claim_of bytes ≡ Ok c → c.address < 2 ^ 24
+claim-below-at bytes c e = subst (λ r. IfOk r (λ c. c.address < 2 ^ 24)) e (claim-below bytes)
+
+pub claim-assigned-at : (bytes : List ℕ) (c : Claim) → claim_of bytes ≡ Ok c → c.overlaid ≡ false → (c.address ≢ 0) × (c.address ≢ 0xFFFFFF)
+claim-assigned-at bytes c e = subst (λ r. IfOk r IsAssigned) e (claim-assigned bytes)
+
+-- the second, third and fourth byte of a frame, and the address that they write
+pub address_field-bytes : (bytes : List ℕ) → 4 ≤ length bytes → slice_index bytes 1 < 256 → slice_index bytes 2 < 256 → slice_index bytes 3 < 256
+    → slice_index bytes 1 * 65536 + slice_index bytes 2 * 256 + slice_index bytes 3 ≡ address_field bytes
+address_field-bytes [] few lb lc ld = absurd (omega arith)
+address_field-bytes (a ∷ []) few lb lc ld = absurd (omega arith)
+address_field-bytes (a ∷ b ∷ []) few lb lc ld = absurd (omega arith)
+address_field-bytes (a ∷ b ∷ c ∷ []) few lb lc ld = absurd (omega arith)
+address_field-bytes (a ∷ b ∷ c ∷ d ∷ rest) few lb lc ld = sym (address_field-is a b c d rest lb lc ld)
