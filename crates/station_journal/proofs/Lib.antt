@@ -4,3 +4,5 @@ pub mod RisingLemmas
 pub mod FoundLemmas
 pub mod LegalLemmas
 pub mod NewestLemmas
+pub mod TableLemmas
+pub mod RowLemmas
