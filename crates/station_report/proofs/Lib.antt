@@ -1,1 +1,6 @@
+pub mod DecimalLemmas
+pub mod DegreesLemmas
+pub mod LineLemmas
+pub mod Padding
+pub mod RowsLemmas
 pub mod Taken

@@ -1,9 +1,13 @@
 //! The table of aircraft as text, and the sinks of bytes that it is written to.
 #![tactic(auto)]
 
+mod columns;
+mod decimals;
+mod lines;
 mod sinks;
 mod to_write;
 
+pub use lines::table;
 pub use sinks::{Failed, Sink, WriteFault};
 pub use to_write::ToWrite;
 

@@ -1,0 +1,190 @@
+//! The columns of a row, each as the text of a field.
+
+ghost use Rattle.std.specs.Prelude.{◌≡◌, ◌+◌, ◌-◌, ◌*◌, ◌/◌, ◌%◌, ◌<◌, ◌≤◌, [], ◌∷◌, ◌++◌, IfSome};
+ghost use Rattle.std.specs.Fmt.{decimal, signed_decimal};
+ghost use Rattle.arrayvec.specs.ArrayVec.{array_vec_len};
+ghost use Rattle.modes_cpr.specs.Pair.{IsWhole};
+ghost use Rattle.station_report.specs.Text.{or_dash, hex_digit, address_text, callsign_text, squawk_text, velocity_text, latitude_text, longitude_text, degrees_text, degrees_sign, parts_text};
+
+use crate::decimals::{Field, push_five_digits, push_number, push_short, push_signed};
+use modes_cpr::{Degrees, Position};
+use modes_fields::{Callsign, Squawk, Velocity};
+
+fn hex_digit(d: u32) -> u8
+    requires { d < 16 }
+    ensures { result ≡ hex_digit d }
+{
+    if d < 10 {
+        b'0' + d as u8
+    } else {
+        b'A' + (d - 10) as u8
+    }
+}
+
+/// Six upper-case hexadecimal digits.
+#[tactic(auto, unfolding(crate::specs::Text::address_text))]
+pub(crate) fn address_field(address: u32) -> Field
+    ensures { result.items ≡ address_text address }
+{
+    let mut field = Field::new();
+    field.push(hex_digit(address / 1048576 % 16));
+    field.push(hex_digit(address / 65536 % 16));
+    field.push(hex_digit(address / 4096 % 16));
+    field.push(hex_digit(address / 256 % 16));
+    field.push(hex_digit(address / 16 % 16));
+    field.push(hex_digit(address % 16));
+    field
+}
+
+pub(crate) fn callsign_field(callsign: Option<Callsign>) -> Field
+    ensures { result.items ≡ or_dash callsign_text callsign }
+{
+    let mut field = Field::new();
+    match callsign {
+        None => field.push(b'-'),
+        Some(callsign) => {
+            let _fits = field.try_extend_from_slice(callsign.bytes());
+        }
+    }
+    field
+}
+
+/// A whole number, as an altitude in feet or a vertical rate in feet a minute.
+pub(crate) fn signed_field(n: Option<i32>) -> Field
+    ensures { result.items ≡ or_dash signed_decimal n }
+{
+    let mut field = Field::new();
+    match n {
+        None => field.push(b'-'),
+        Some(n) => push_signed(&mut field, n),
+    }
+    field
+}
+
+/// A whole number without a sign.
+pub(crate) fn decimal_field(n: u64) -> Field
+    ensures { result.items ≡ decimal n }
+{
+    let mut field = Field::new();
+    push_number(&mut field, n);
+    field
+}
+
+/// Four octal digits.
+pub(crate) fn squawk_field(squawk: Option<Squawk>) -> Field
+    ensures { result.items ≡ or_dash squawk_text squawk }
+{
+    let mut field = Field::new();
+    match squawk {
+        None => field.push(b'-'),
+        Some(squawk) => push_squawk(&mut field, squawk),
+    }
+    field
+}
+
+#[tactic(auto, unfolding(crate::specs::Text::squawk_text))]
+fn push_squawk(field: &mut Field, squawk: Squawk)
+    requires { array_vec_len field.old ≡ 0 }
+    ensures { field.new.items ≡ field.old.items ++ squawk_text squawk }
+{
+    let value = squawk.value();
+    field.push(b'0' + (value / 512 % 8) as u8);
+    field.push(b'0' + (value / 64 % 8) as u8);
+    field.push(b'0' + (value / 8 % 8) as u8);
+    field.push(b'0' + (value % 8) as u8);
+}
+
+pub(crate) fn velocity_field(velocity: Option<Velocity>) -> Field
+    ensures { result.items ≡ or_dash velocity_text velocity }
+{
+    let mut field = Field::new();
+    match velocity {
+        None => field.push(b'-'),
+        Some(velocity) => push_velocity(&mut field, velocity),
+    }
+    field
+}
+
+/// `east/north`, `Hheading/Tspeed` or `Hheading/Ispeed`.
+#[tactic(auto, unfolding(crate::specs::Text::velocity_text))]
+fn push_velocity(field: &mut Field, velocity: Velocity)
+    requires { array_vec_len field.old ≡ 0 }
+    ensures { field.new.items ≡ field.old.items ++ velocity_text velocity }
+{
+    match velocity {
+        Velocity::Ground { east, north } => {
+            push_signed(field, i32::from(east));
+            field.push(b'/');
+            push_signed(field, i32::from(north));
+        }
+        Velocity::Air {
+            heading,
+            is_true,
+            speed,
+        } => {
+            field.push(b'H');
+            push_short(field, heading);
+            field.push(b'/');
+            field.push(if is_true { b'T' } else { b'I' });
+            push_short(field, speed);
+        }
+    }
+}
+
+pub(crate) fn latitude_field(position: Option<Position>) -> Field
+    requires { IfSome position IsWhole }
+    ensures { result.items ≡ or_dash latitude_text position }
+{
+    let mut field = Field::new();
+    match position {
+        None => field.push(b'-'),
+        Some(position) => push_degrees(&mut field, position.lat),
+    }
+    field
+}
+
+pub(crate) fn longitude_field(position: Option<Position>) -> Field
+    requires { IfSome position IsWhole }
+    ensures { result.items ≡ or_dash longitude_text position }
+{
+    let mut field = Field::new();
+    match position {
+        None => field.push(b'-'),
+        Some(position) => push_degrees(&mut field, position.lon),
+    }
+    field
+}
+
+/// Degrees, cut off after five decimals.
+#[tactic(auto, unfolding(crate::specs::Text::degrees_text))]
+fn push_degrees(field: &mut Field, degrees: Degrees)
+    requires empty { array_vec_len field.old ≡ 0 }
+    requires whole { 0 < degrees.den }
+    ensures { field.new.items ≡ field.old.items ++ degrees_text degrees }
+{
+    let magnitude = degrees.num.unsigned_abs();
+    let den = u64::from(degrees.den);
+    let part = magnitude % den * 100_000 / den;
+    push_parts(field, degrees.num.is_negative(), magnitude / den, part);
+}
+
+/// Whole degrees, and what stands after the point.
+fn push_parts(field: &mut Field, is_negative: bool, whole: u64, part: u64)
+    requires { array_vec_len field.old ≡ 0 }
+    ensures { field.new.items ≡ field.old.items ++ parts_text is_negative whole part }
+{
+    push_sign(field, is_negative, whole == 0 && part == 0);
+    push_number(field, whole);
+    field.push(b'.');
+    push_five_digits(field, part);
+}
+
+fn push_sign(field: &mut Field, is_negative: bool, is_zero: bool)
+    requires { array_vec_len field.old < 32 }
+    ensures items { field.new.items ≡ field.old.items ++ degrees_sign is_negative is_zero }
+    ensures len { array_vec_len field.new ≤ array_vec_len field.old + 1 }
+{
+    if is_negative && !is_zero {
+        field.push(b'-');
+    }
+}
