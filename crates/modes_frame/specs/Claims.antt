@@ -1,27 +1,27 @@
--- Whom a frame speaks for (ICAO Annex 10 Volume IV, 3.1.2.3.2.1.3, 3.1.2.3.3 and 3.1.2.5.2.2).
+-- Whom a frame speaks for (ICAO Annex 10 Volume IV, 3.1.2.3.3.2).
 use Rattle.std.specs.Prelude.{ℕ, ◌==◌, ◌||◌, not, nat_lt, Bool, true, List, Result, Ok, Err, if◌then◌else◌, take, drop}
 use Rattle.modes_frame.specs.Frames.{df_of, bits_of, number_of, remainder_of}
 use Rattle.modes_frame.specs.declared.claims.Claim.{Claim}
 use Rattle.modes_frame.specs.declared.claims.CheckFault.{CheckFault}
 use Rattle.modes_frame.specs.declared.claims.CheckFault.TheVariants.{Unsupported, BadParity, Unassigned}
 
--- the address announced, AA: the number in bits 9 to 32
+-- the address announced, AA: the number in bits 9 to 32 (3.1.2.5.2.2.2)
 unfoldable pub address_field : List ℕ → ℕ
 address_field bytes = number_of (take 24 (drop 8 (bits_of bytes)))
 
--- the formats that end with AP, in which the parity is overlaid with the address
+-- the formats that end with AP: the address is laid over the parity (3.1.2.3.2.1.3)
 abbrev pub is_overlaid_format : ℕ → Bool
 is_overlaid_format df = df == 0 || df == 4 || df == 5 || df == 16 || df == 20 || df == 21
 
--- the formats that carry AA and end with PI: the all-call reply and the extended squitter
+-- the formats that carry AA and end with PI: the all-call reply and the extended squitter (3.1.2.3.2.1.4)
 abbrev pub is_announced_format : ℕ → Bool
 is_announced_format df = df == 11 || df == 17
 
--- in PI an all-call reply has an interrogator code of 7 bits, 0 in a squitter; an extended squitter has 0
+-- over the parity of an all-call reply lies a code of 7 bits, over that of an extended squitter nothing
 abbrev pub has_parity : ℕ → ℕ → Bool
 has_parity df remainder = if df == 11 then nat_lt remainder 128 else remainder == 0
 
--- no aircraft has the address of 24 zeros or of 24 ones
+-- no aircraft is given the address of 24 zeros or of 24 ones (Volume III, Part I, Chapter 9)
 abbrev pub is_unassigned : ℕ → Bool
 is_unassigned address = address == 0 || address == 0xFFFFFF
 

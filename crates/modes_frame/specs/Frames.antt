@@ -3,7 +3,7 @@ use Rattle.std.specs.Prelude.{◌≡◌, ℕ, ◌+◌, ◌-◌, ◌*◌, ◌/◌
 use Rattle.std.specs.List.{flat_map}
 use Rattle.std.proofs.Common.{get_or}
 
--- the downlink format DF: bits 1 to 5 (3.1.2.3.2.1)
+-- the downlink format DF: bits 1 to 5 (3.1.2.3.2.1.2)
 abbrev pub df_of : List ℕ → ℕ
 df_of bytes = slice_index bytes 0 / 8
 
