@@ -15,3 +15,6 @@ pub use cutter::{Cut, Cutter, LineBuf};
 pub use frame::Frame;
 pub use line::{Line, LineFault, read_line, read_trimmed};
 pub use parity::remainder;
+
+#[cfg(test)]
+mod tests;
