@@ -1,0 +1,7 @@
+pub mod DeskLemmas
+pub mod DigitLemmas
+pub mod DrawingLemmas
+pub mod EndLemmas
+pub mod EndingLemmas
+pub mod RowLemmas
+pub mod WalkLemmas

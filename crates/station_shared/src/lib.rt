@@ -1,0 +1,16 @@
+//! The station: a desk that keeps the journal, and what feeds it.
+#![tactic(auto)]
+
+pub mod command;
+pub mod desk;
+pub mod from_read;
+pub mod replaying;
+pub mod source;
+pub mod tally;
+
+pub use command::{Command, CommandFault, read_command};
+pub use desk::Desk;
+pub use from_read::FromRead;
+pub use replaying::{ReplayFault, replay};
+pub use source::Source;
+pub use tally::Tally;
