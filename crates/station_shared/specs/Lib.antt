@@ -3,5 +3,7 @@ pub mod Command
 pub mod Counting
 pub mod Desk
 pub mod Drawing
+pub mod Feeds
+pub mod Pump
 pub mod Replay
 pub mod Source

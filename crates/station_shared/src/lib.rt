@@ -3,14 +3,18 @@
 
 pub mod command;
 pub mod desk;
+pub mod feed;
 pub mod from_read;
+pub mod pumping;
 pub mod replaying;
 pub mod source;
 pub mod tally;
 
 pub use command::{Command, CommandFault, read_command};
 pub use desk::Desk;
+pub use feed::{DeskFeed, Feed};
 pub use from_read::FromRead;
+pub use pumping::{PumpFault, pump};
 pub use replaying::{ReplayFault, replay};
 pub use source::Source;
 pub use tally::Tally;

@@ -1,0 +1,41 @@
+//! What takes frames, one after another.
+ghost use Rattle.std.specs.Prelude.{◌≡◌, ◌≤◌};
+
+use crate::desk::Desk;
+use modes_frame::Frame;
+use station_journal::Refusal;
+use std::sync::Wait;
+
+/// What takes frames, one after another.
+pub trait Feed {
+    ghost use Rattle.std.specs.Prelude.{ℕ, List, Result};
+    ghost use Rattle.station_journal.specs.declared.Refusal.{Refusal};
+
+    /// One call: the state before it, the frame, the answer, and the state after it.
+    ghost gives: { Self → List ℕ → Result (Unit {0}) Refusal → Self → Type 0 };
+
+    /// Takes a frame, or tells why it is refused.
+    fn feed<R: Wait>(&mut self, rt: &R, frame: Frame) -> Result<(), Refusal>
+        ensures { gives self.old frame result self.new };
+}
+
+/// A desk that is lent, of at most 4,096 aircraft, and the seat that feeds it.
+pub struct DeskFeed<'a, const N: usize> {
+    pub desk: &'a mut Desk<N>,
+    pub seat: u8,
+    pub ghost small: { N ≤ 4096 },
+}
+
+impl<'a, const N: usize> Feed for DeskFeed<'a, N> {
+    ghost use Rattle.std.specs.Prelude.{◌≡◌};
+    ghost use Rattle.station_shared.specs.Feeds.{FeedSteps};
+
+    ghost gives = { λ x frame answer y. FeedSteps x.desk.now.log x.seat frame answer y.desk.now.log × (y.seat ≡ x.seat) × (y.desk.ghost_name ≡ x.desk.ghost_name) };
+
+    fn feed<R: Wait>(&mut self, rt: &R, frame: Frame) -> Result<(), Refusal> {
+        match self.desk.feed(rt, self.seat, frame) {
+            Ok(_) => Ok(()),
+            Err(refusal) => Err(refusal),
+        }
+    }
+}
