@@ -9,19 +9,16 @@ use Rattle.station_journal.specs.Past.{clock, live}
 use Rattle.station_journal.specs.Table.{row, table, live_addresses, find_row}
 use Rattle.station_journal.proofs.RisingLemmas.{AllOver, IsRising, is_in, same_rising, rising_live, in_live}
 use Rattle.station_book.specs.declared.tracks.Track.{Track}
-use Rattle.station_book.specs.Tracks.{find_track, track_row, AllAbove, Rising}
+use Rattle.station_book.specs.Tracks.{address_of, find_track, track_row, AllAbove, Rising}
 use Rattle.station_book.specs.State.{State, rows}
 use Rattle.station_book.specs.Matching.{Tracks, TracksAt, MatchesPast}
 use Rattle.station_book.proofs.TracksLemmas.{find_below}
-
-abbrev pub address_of : Track → ℕ
-address_of track = track.address
 
 over_from_above : (a : ℕ) (tracks : List Track) → AllAbove a tracks → AllOver a (map address_of tracks)
 over_from_above a [] above = tt
 over_from_above a (track ∷ rest) above = (above.0, over_from_above a rest above.1)
 
-rising_addresses : (tracks : List Track) → Rising tracks → IsRising (map address_of tracks)
+pub rising_addresses : (tracks : List Track) → Rising tracks → IsRising (map address_of tracks)
 rising_addresses [] rising = tt
 rising_addresses (track ∷ rest) rising = (over_from_above track.address rest rising.0, rising_addresses rest rising.1)
 

@@ -96,11 +96,19 @@ abbrev pub Rising : List Track → Type 0
 Rising [] = Unit {0}
 Rising (track ∷ rest) = AllAbove track.address rest × Rising rest
 
--- i tracks are below the address, and those from i on are not
-pub record IsRank (tracks : List Track) (a i : ℕ) : Type 0 where
-  pub in_range : i ≤ length tracks
-  pub before : (k : ℕ) (d : Track) → k < i → (slice_index_or tracks k d).address < a
-  pub after : (d : Track) → i < length tracks → a ≤ (slice_index_or tracks i d).address
+abbrev pub address_of : Track → ℕ
+address_of track = track.address
+
+-- i of the rising addresses are below a, and those from i on are not
+pub record IsRank (addresses : List ℕ) (a i : ℕ) : Type 0 where
+  pub in_range : i ≤ length addresses
+  pub before : (k d : ℕ) → k < i → slice_index_or addresses k d < a
+  pub after : (d : ℕ) → i < length addresses → a ≤ slice_index_or addresses i d
+
+-- no track was heard before the moment
+abbrev pub HeardFrom : ℕ → List Track → Type 0
+HeardFrom moment [] = Unit {0}
+HeardFrom moment (track ∷ rest) = (moment ≤ track.heard) × HeardFrom moment rest
 
 -- the track of the address stands at this place, or would stand there
 abbrev pub IsPlace : List Track → ℕ → Result ℕ ℕ → Type 0

@@ -5,6 +5,7 @@
 pub mod laws;
 pub mod running;
 pub mod steps;
+mod table;
 mod tracks;
 
 pub use running::Book;

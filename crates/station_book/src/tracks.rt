@@ -1,11 +1,9 @@
-//! What is kept of an aircraft, and the tracks by rising address.
+//! What is kept of an aircraft.
 
-ghost use Rattle.std.specs.Prelude.{◌≡◌, ◌<◌, false, is_some};
-ghost use Rattle.arrayvec.specs.ArrayVec.{array_vec_len};
+ghost use Rattle.std.specs.Prelude.{◌≡◌};
 ghost use Rattle.station_journal.specs.Past.{stamp, or_older};
-ghost use Rattle.station_book.specs.Tracks.{blank, kept_fix, updated, track_row, find_track, put_track, swept, track_or_blank, Rising, IsRank, IsPlace};
+ghost use Rattle.station_book.specs.Tracks.{blank, kept_fix, updated, track_row};
 
-use arrayvec::ArrayVec;
 use modes_cpr::Position;
 use modes_fields::{Callsign, Fields, Place, Squawk, Velocity};
 use station_journal::aging::{fresh, or_older, pair_with, stamp, with_parity};
@@ -100,56 +98,4 @@ pub fn track_row(now: u64, track: &Track) -> Aircraft
         position: fresh(60_000, now, track.position),
         heard: track.heard,
     }
-}
-
-/// How many tracks are below the address.
-fn rank_of(tracks: &[Track], address: u32) -> usize
-    requires { Rising tracks.now }
-    ensures { IsRank tracks.now address result }
-{
-    tracks.partition_point(|track| track.address < address)
-}
-
-/// Where the track of the address stands, or where it would stand.
-pub fn locate(tracks: &[Track], address: u32) -> Result<usize, usize>
-    requires { Rising tracks.now }
-    ensures { IsPlace tracks.now address result }
-{
-    let rank = rank_of(tracks, address);
-    if rank < tracks.len() {
-        let there = tracks[rank].address;
-        if there == address {
-            return Ok(rank);
-        }
-    }
-    Err(rank)
-}
-
-/// Takes a frame of the address, whose track has this place, heard at the moment now.
-pub fn hear<const N: usize>(
-    tracks: &mut ArrayVec<Track, N>,
-    now: u64,
-    place: Result<usize, usize>,
-    address: u32,
-    fields: &Fields,
-)
-    requires place { IsPlace tracks.old.items address place }
-    requires room { is_some (find_track address tracks.old.items) ≡ false → array_vec_len tracks.old < N }
-    ensures { tracks.new.items ≡ put_track (updated now fields.now (track_or_blank address tracks.old.items)) tracks.old.items }
-{
-    match place {
-        Ok(rank) => update(&mut tracks[rank], now, fields),
-        Err(rank) => {
-            let mut track = blank(address);
-            update(&mut track, now, fields);
-            tracks.insert(rank, track);
-        }
-    }
-}
-
-/// Drops the tracks that were heard more than 60,000 ms before now.
-pub fn sweep<const N: usize>(tracks: &mut ArrayVec<Track, N>, now: u64)
-    ensures { tracks.new.items ≡ swept now tracks.old.items }
-{
-    tracks.retain(|track| now.saturating_sub(track.heard) <= 60_000);
 }

@@ -1,6 +1,6 @@
 use Rattle.std.proofs.Common.{rules}
 use Rattle.arrayvec.proofs.ArrayVecLemmas.{filter-from_retain}
-use Rattle.station_book.proofs.tracks.sweep.Goals as goal
+use Rattle.station_book.proofs.table.retain_recent.Goals as goal
 
 pub returns : goal.returns
 returns g c = filter-from_retain _ _ _ (λ x b f' y called. search rules) _ _ c.retain.ensures.filtered

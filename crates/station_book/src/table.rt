@@ -1,0 +1,146 @@
+//! The tracks of the live aircraft, by rising address.
+
+ghost use Rattle.std.specs.Prelude.{◌≡◌, ℕ, ◌<◌, ◌≤◌, ◌==◌, List, [], length, map, slice_get, None, Some};
+ghost use Rattle.station_journal.proofs.RisingLemmas.{IsRising};
+ghost use Rattle.station_book.specs.Tracks.{updated, find_track, put_track, swept, track_or_blank, address_of, IsRank, IsPlace, HeardFrom};
+
+use crate::tracks::{Track, blank, update};
+use arrayvec::ArrayVec;
+use modes_fields::Fields;
+use std::marker::Model;
+
+/// At most `N` tracks by rising address.
+#[derive(Drop)]
+pub struct Table<const N: usize> {
+    // The addresses of the tracks, apart from them: what is searched is small.
+    addresses: ArrayVec<u32, N>,
+    tracks: ArrayVec<Track, N>,
+    // No track was heard before this moment, so most ticks have nothing to sweep.
+    oldest: u64,
+}
+
+impl<const N: usize> Model for Table<N> {
+    ghost use Rattle.std.specs.Prelude.{◌≡◌, List, map};
+    ghost use Rattle.station_book.specs.declared.tracks.Track.{Track};
+    ghost use Rattle.station_book.specs.Tracks.{Rising, HeardFrom, address_of};
+
+    ghost Value = { List Track };
+
+    ghost view = { λ t. t.tracks.items };
+
+    ghost invariant = { λ t. record { rising : Rising t.tracks.items; addresses : t.addresses.items ≡ map address_of t.tracks.items; oldest : HeardFrom t.oldest t.tracks.items } };
+}
+
+impl<const N: usize> Table<N> {
+    /// A table without tracks.
+    pub fn new() -> Self
+        ensures { result ≡ [] }
+    {
+        Table {
+            addresses: ArrayVec::new(),
+            tracks: ArrayVec::new(),
+            oldest: u64::MAX,
+        }
+    }
+
+    /// How many tracks there are.
+    pub fn len(&self) -> usize
+        ensures { result ≡ length self.now }
+    {
+        self.tracks.len()
+    }
+
+    /// Whether there are `N` tracks.
+    pub fn is_full(&self) -> bool
+        ensures value { result ≡ (length self.now == N) }
+        ensures fits { length self.now ≤ N }
+    {
+        self.tracks.is_full()
+    }
+
+    /// The track at the place.
+    pub fn track(&self, place: usize) -> &Track
+        requires { place < length self.now }
+        ensures { slice_get self.now place ≡ Some result.now }
+    {
+        &self.tracks[place]
+    }
+
+    /// Where the track of the address stands, or where it would stand.
+    pub fn locate(&self, address: u32) -> Result<usize, usize>
+        ensures { IsPlace self.now address result }
+    {
+        let rank = rank_of(self.addresses.as_slice(), address);
+        if rank < self.addresses.len() {
+            let there = self.addresses[rank];
+            if there == address {
+                return Ok(rank);
+            }
+        }
+        Err(rank)
+    }
+
+    /// Takes what a frame of the address carries, heard at the moment now. The place is that of the address.
+    pub fn hear(&mut self, place: Result<usize, usize>, now: u64, address: u32, fields: &Fields)
+        requires place { IsPlace self.old address place }
+        requires room { find_track address self.old ≡ None → length self.old < N }
+        ensures { self.new ≡ put_track (updated now fields.now (track_or_blank address self.old)) self.old }
+    {
+        self.oldest = self.oldest.min(now);
+        match place {
+            Ok(rank) => update(&mut self.tracks[rank], now, fields),
+            Err(rank) => {
+                let mut track = blank(address);
+                update(&mut track, now, fields);
+                self.addresses.insert(rank, address);
+                self.tracks.insert(rank, track);
+            }
+        }
+    }
+
+    /// Drops the tracks that were heard more than 60,000 ms before now.
+    pub fn sweep(&mut self, now: u64)
+        ensures { self.new ≡ swept now self.old }
+    {
+        if now.saturating_sub(self.oldest) > 60_000 {
+            retain_recent(&mut self.tracks, now);
+            set_addresses(&mut self.addresses, self.tracks.as_slice());
+            self.oldest = oldest_of(self.tracks.as_slice());
+        }
+    }
+}
+
+/// How many of the rising addresses are below this one.
+fn rank_of(addresses: &[u32], address: u32) -> usize
+    requires { IsRising addresses.now }
+    ensures { IsRank addresses.now address result }
+{
+    addresses.partition_point(|other| *other < address)
+}
+
+fn retain_recent<const N: usize>(tracks: &mut ArrayVec<Track, N>, now: u64)
+    ensures { tracks.new.items ≡ swept now tracks.old.items }
+{
+    tracks.retain(|track| now.saturating_sub(track.heard) <= 60_000);
+}
+
+fn set_addresses<const N: usize>(addresses: &mut ArrayVec<u32, N>, tracks: &[Track])
+    requires { length tracks.now ≤ N }
+    ensures { addresses.new.items ≡ map address_of tracks.now }
+{
+    addresses.clear();
+    for track in tracks {
+        addresses.push(track.address);
+    }
+}
+
+/// A moment before which none of the tracks was heard.
+fn oldest_of(tracks: &[Track]) -> u64
+    ensures { HeardFrom result tracks.now }
+{
+    let mut oldest = u64::MAX;
+    for track in tracks {
+        oldest = oldest.min(track.heard);
+    }
+    oldest
+}
