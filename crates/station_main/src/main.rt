@@ -1,9 +1,15 @@
 //! The program `groundstation`.
 #![tactic(auto)]
 
+mod faults;
+mod limits;
 mod program;
+mod replay_job;
+#[cfg(test)]
+mod tests;
 mod words;
 
+use faults::{Fault, tell};
 use program::program;
 use std::alloc::{AllocError, Global};
 use std::env;
@@ -14,19 +20,30 @@ use std::rt::Env;
 fn main(rt: HostRuntime) -> ExitCode {
     let owned = match own_words(&rt) {
         Ok(owned) => owned,
-        Err(ErrorKind::OutOfMemory) => return told(rt.stderr(), "no memory", 1),
-        Err(_) => return told(rt.stderr(), "an argument is not text", 2),
+        Err(ErrorKind::OutOfMemory) => return no_memory(rt.stderr()),
+        Err(_) => return not_text(rt.stderr()),
     };
     let Ok(words) = borrowed(rt.alloc(), &owned) else {
-        return told(rt.stderr(), "no memory", 1);
+        return no_memory(rt.stderr());
     };
-    let status = program(rt.alloc(), words.as_slice(), rt.stdout(), rt.stderr());
+    let status = program(
+        &rt,
+        rt.alloc(),
+        words.as_slice(),
+        rt.stdin(),
+        rt.stdout(),
+        rt.stderr(),
+    );
     ExitCode::from(status)
 }
 
-fn told<E: Write + Drop>(mut err: E, text: &str, status: u8) -> ExitCode {
-    let _ = writeln!(err, "groundstation: {text}");
-    ExitCode::from(status)
+fn no_memory<E: Write + Drop>(mut err: E) -> ExitCode {
+    ExitCode::from(tell(&mut err, Fault::NoMemory))
+}
+
+fn not_text<E: Write + Drop>(mut err: E) -> ExitCode {
+    let _ = writeln!(err, "error: a word of the command line is not UTF-8");
+    ExitCode::from(2)
 }
 
 fn own_words(rt: &(impl Env + AllocGlobal)) -> Result<Vec<String>, ErrorKind> {

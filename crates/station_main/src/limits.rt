@@ -1,0 +1,14 @@
+// The limits of the program.
+use station_journal::Limits;
+
+/// How many aircraft may be live.
+pub const AIRCRAFT: usize = 512;
+
+/// How many entries the journal may hold, and how many aircraft may be live.
+pub const LIMITS: Limits = Limits {
+    entries: 16_777_216,
+    aircraft: 512,
+};
+
+/// How many reads of one input are made at most.
+pub const TURNS: u32 = u32::MAX;

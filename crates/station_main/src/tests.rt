@@ -1,0 +1,155 @@
+use crate::program::program;
+use std::io::{self, Read, Write};
+use std::sync::Wait;
+
+const IDENTIFICATION: &[u8] = b"*8D4840D6202CC371C32CE0576098;\n?\n";
+
+#[derive(Debug, Drop)]
+struct Ran {
+    status: u8,
+    out: Vec<u8>,
+    err: Vec<u8>,
+}
+
+fn run_words<R: Wait + AllocGlobal, I: Read + Drop>(rt: &R, words: &[&str], input: I) -> Ran {
+    let mut out = Vec::new(rt.alloc());
+    let mut err = Vec::new(rt.alloc());
+    let status = program(rt, rt.alloc(), words, input, &mut out, &mut err);
+    Ran { status, out, err }
+}
+
+fn text(bytes: &Vec<u8>) -> &str {
+    match std::str::from_utf8(bytes.as_slice()) {
+        Ok(text) => text,
+        Err(_) => "",
+    }
+}
+
+#[test]
+fn an_identification_is_shown(rt: HostRuntime) {
+    let shown = run_words(&rt, ["groundstation", "replay"].as_slice(), IDENTIFICATION);
+    assert_eq!(rt;
+        text(&shown.out),
+        "now 0 aircraft 1\n  ADDR CALLSIGN    ALT SQWK     VELOCITY   VERT        LAT        LON AGE\n4840D6 KLM1023       -    -            -      -          -          -   0\n"
+    );
+    assert_eq!(rt;
+        text(&shown.err),
+        "lines 2 frames 1 ticks 0 shows 1 blank 0 modeac 0 faults 0 accepted 1 refused 0\n"
+    );
+    assert_eq!(rt; shown.status, 0);
+}
+
+#[test]
+fn nobody_is_shown_before_a_frame(rt: HostRuntime) {
+    let nothing: &[u8] = b"";
+    let empty = run_words(&rt, ["groundstation", "replay"].as_slice(), nothing);
+    assert!(rt; empty.status == 0 && empty.out.is_empty());
+    assert_eq!(rt;
+        text(&empty.err),
+        "lines 0 frames 0 ticks 0 shows 0 blank 0 modeac 0 faults 0 accepted 0 refused 0\n"
+    );
+    let question: &[u8] = b"?";
+    let asked = run_words(&rt, ["groundstation", "replay"].as_slice(), question);
+    assert_eq!(rt;
+        text(&asked.out),
+        "now 0 aircraft 0\n  ADDR CALLSIGN    ALT SQWK     VELOCITY   VERT        LAT        LON AGE\n"
+    );
+    assert_eq!(rt; asked.status, 0);
+}
+
+// Gives a line, and then fails.
+#[derive(Drop)]
+struct Torn {
+    is_torn: bool,
+}
+
+impl Read for Torn {
+    fn read(&mut self, buffer: &mut [u8]) -> io::Result<usize> {
+        if self.is_torn {
+            return Err(io::Error::from(io::ErrorKind::Other));
+        }
+        self.is_torn = true;
+        let mut line: &[u8] = IDENTIFICATION;
+        line.read(buffer)
+    }
+}
+
+// Takes nothing.
+#[derive(Drop)]
+struct Closed;
+
+impl Write for Closed {
+    fn write(&mut self, _piece: &[u8]) -> io::Result<usize> {
+        Err(io::Error::from(io::ErrorKind::BrokenPipe))
+    }
+
+    fn flush(&mut self) -> io::Result<()> {
+        Ok(())
+    }
+}
+
+#[test]
+fn a_failed_read_or_write_is_told_after_the_tally(rt: HostRuntime) {
+    let torn = run_words(
+        &rt,
+        ["groundstation", "replay"].as_slice(),
+        Torn { is_torn: false },
+    );
+    assert_eq!(rt;
+        text(&torn.err),
+        "lines 2 frames 1 ticks 0 shows 1 blank 0 modeac 0 faults 0 accepted 1 refused 0\ngroundstation: read failed\n"
+    );
+    assert_eq!(rt; torn.status, 1);
+    let mut err = Vec::new(rt.alloc());
+    let status = program(
+        &rt,
+        rt.alloc(),
+        ["groundstation", "replay"].as_slice(),
+        IDENTIFICATION,
+        Closed,
+        &mut err,
+    );
+    assert_eq!(rt;
+        text(&err),
+        "lines 2 frames 1 ticks 0 shows 1 blank 0 modeac 0 faults 0 accepted 1 refused 0\ngroundstation: write failed\n"
+    );
+    assert_eq!(rt; status, 1);
+}
+
+#[test]
+fn words_are_refused(rt: HostRuntime) {
+    let nothing: &[u8] = b"";
+    let none = run_words(&rt, ["groundstation"].as_slice(), nothing);
+    assert!(rt; none.status == 2 && none.out.is_empty());
+    assert_eq!(rt;
+        text(&none.err),
+        "error: 'groundstation' requires a subcommand but one was not provided\n  [subcommands: replay, run, help]\n\nUsage: groundstation <COMMAND>\n\nFor more information, try '--help'.\n"
+    );
+    let zero = run_words(
+        &rt,
+        ["groundstation", "run", "--every", "0", "x"].as_slice(),
+        nothing,
+    );
+    assert!(rt; zero.status == 2 && zero.out.is_empty());
+    assert_eq!(rt;
+        text(&zero.err),
+        "error: invalid value '0' for '--every <MS>': 0 is not in 1..=3600000\n\nFor more information, try '--help'.\n"
+    );
+    let unknown = run_words(&rt, ["groundstation", "fly"].as_slice(), nothing);
+    assert!(rt; unknown.status == 2 && unknown.out.is_empty());
+    assert_eq!(rt;
+        text(&unknown.err),
+        "error: unrecognized subcommand 'fly'\n\nUsage: groundstation <COMMAND>\n\nFor more information, try '--help'.\n"
+    );
+}
+
+#[test]
+fn help_is_written_to_standard_output(rt: HostRuntime) {
+    let nothing: &[u8] = b"";
+    let help = run_words(&rt, ["groundstation", "run", "--help"].as_slice(), nothing);
+    assert!(rt; help.status == 0 && help.err.is_empty());
+    assert_eq!(rt;
+        text(&help.out),
+        "Reads files or named pipes side by side, and writes one table of them all now and then\n\nUsage: groundstation run --every <MS> <PATH>...\n\nArguments:\n  <PATH>...  1 to 8 files or named pipes, each read by a receiver of its own\n\nOptions:\n      --every <MS>  Milliseconds from one table to the next, 1 to 3600000\n  -h, --help        Print help\n"
+    );
+}
