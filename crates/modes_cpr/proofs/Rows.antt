@@ -3,7 +3,7 @@ use Rattle.std.proofs.Common.{◌≡◌, ℕ, ℤ, pos, neg_ℤ, refl, true, fal
 use Rattle.modes_fields.specs.declared.types.Place.{Place}
 use Rattle.modes_cpr.specs.Floor.{floor}
 use Rattle.modes_cpr.specs.declared.points.Position.{Position}
-use Rattle.modes_cpr.specs.Zones.{zone_count}
+use Rattle.modes_cpr.specs.Zones.{zone_count, transitions}
 use Rattle.modes_cpr.specs.Pair.{decoded, zone_index, position_by, position_of}
 use Rattle.modes_cpr.specs.Encoding.{zone_of, bin_of, place_by, place_of}
 
@@ -17,21 +17,21 @@ abbrev point : ℤ → ℕ → ℤ → ℕ → Option Position
 point a b c d = Some (record { lat = record { num = a; den = b }; lon = record { num = c; den = d } })
 
 row_at_a_transition : position_of (even 65536 0) (odd 33860 0) false ≡ point (pos 684195840) 7864320 (pos 0) 262144
-unfolding position_by decoded zone_index floor zone_count
+unfolding position_by decoded zone_index floor zone_count transitions
 row_at_a_transition = refl
 
 row_known : position_of (even 93000 51372) (odd 74158 50194) true ≡ point (pos 404184240) 7733248 (pos 18069840) 4587520
-unfolding position_by decoded zone_index floor zone_count
+unfolding position_by decoded zone_index floor zone_count transitions
 row_known = refl
 
 row_south : position_of (even 0 0) (odd 2185 0) false ≡ point (neg_ℤ (pos 47185920)) 7864320 (pos 0) 7733248
-unfolding position_by decoded zone_index floor zone_count
+unfolding position_by decoded zone_index floor zone_count transitions
 row_south = refl
 
 row_two_counts : position_of (even 97658 0) (odd 93847 0) false ≡ None
-unfolding position_by decoded zone_index floor zone_count
+unfolding position_by decoded zone_index floor zone_count transitions
 row_two_counts = refl
 
 row_back : place_of (record { num = pos 404184240; den = 7733248 }) (record { num = pos 18069840; den = 4587520 }) true ≡ odd 74158 50194
-unfolding place_by bin_of zone_of floor zone_count
+unfolding place_by bin_of zone_of floor zone_count transitions
 row_back = refl

@@ -11,7 +11,7 @@ use Rattle.modes_cpr.specs.Zones.{zone_count}
 abbrev pub bins : ℕ
 bins = 131072
 
--- the latitude zones of the odd and the even grid (Doc 9871 C.2.6.3)
+-- the latitude zones of the odd and the even grid (Doc 9871 C.2.6)
 abbrev pub latitude_zones : Bool → ℕ
 latitude_zones odd = if odd then 59 else 60
 

@@ -1,7 +1,7 @@
 //! The position that an even and an odd place tell.
 
 ghost use Rattle.std.specs.Prelude.{◌≡◌, ◌<◌, ◌≤◌, ◌^◌, ◌*◌, ℕ, pos, unsigned_abs, IfSome, false, true};
-ghost use Rattle.modes_cpr.specs.Pair.{zone_index as zone_index_of, wrapped as wrapped_of, decoded as decoded_of, is_latitude as is_latitude_of, position_of};
+ghost use Rattle.modes_cpr.specs.Pair.{zone_index as zone_index_of, wrapped as wrapped_of, IsWhole, decoded as decoded_of, is_latitude as is_latitude_of, position_of};
 
 use crate::grids::{BINS, angle, longitude_zones};
 use crate::points::{Degrees, Position};
@@ -12,11 +12,10 @@ use modes_fields::Place;
 /// The position that an even and an odd place tell together, as seen by the newest of them.
 ///
 /// There is none where a latitude is beyond a pole, or where the two latitudes have different numbers of longitude
-/// zones. Denominators are the number of zones times 2^17; the fractions aren't reduced (Doc 9871 C.2.6.7).
+/// zones. Denominators are the number of zones times 2^17; the fractions aren't reduced (Doc 9871 C.2.6).
 pub fn pair(even: Place, odd: Place, newest_odd: bool) -> Option<Position>
     ensures value { result ≡ position_of even odd newest_odd }
-    ensures lat_whole { IfSome result (λ p. 0 < p.lat.den) }
-    ensures lon_whole { IfSome result (λ p. 0 < p.lon.den) }
+    ensures whole { IfSome result IsWhole }
 {
     let index = zone_index(60, even.lat, odd.lat);
     let even_lat = decoded(270, 60, index, even.lat);

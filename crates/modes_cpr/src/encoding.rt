@@ -1,6 +1,7 @@
 //! The place that is sent for a point.
 
 ghost use Rattle.std.specs.Prelude.{◌≡◌, ◌<◌, ◌≤◌, ◌^◌, ◌*◌, ℕ, pos, ◌*ℤ◌, unsigned_abs};
+ghost use Rattle.modes_fields.specs.Places.{IsPlace};
 ghost use Rattle.modes_cpr.specs.Encoding.{zone_of as zone_of_angle, bin_of as bin_of_angle, sent as sent_of, place_of};
 
 use crate::grids::{BINS, angle, latitude_zones, longitude_zones};
@@ -11,13 +12,14 @@ use modes_fields::Place;
 
 /// The place that is sent in the even or the odd grid for a point.
 ///
-/// The latitude is from -90 to 90 degrees, the longitude from -360 to 360 (Doc 9871 C.2.6.4).
+/// The latitude is from -90 to 90 degrees, the longitude from -360 to 360 (Doc 9871 C.2.6).
 pub fn encode(lat: Degrees, lon: Degrees, odd: bool) -> Place
     requires lat_whole { 0 < lat.den }
     requires lon_whole { 0 < lon.den }
     requires lat { unsigned_abs lat.num ≤ 90 * lat.den }
     requires lon { unsigned_abs lon.num ≤ 360 * lon.den }
-    ensures { result ≡ place_of lat lon odd }
+    ensures value { result ≡ place_of lat lon odd }
+    ensures place { IsPlace odd result }
 {
     let bands = latitude_zones(odd);
     let y = bin_of(bands, lat);

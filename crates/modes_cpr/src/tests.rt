@@ -2,7 +2,6 @@
 
 ghost use Rattle.std.specs.Prelude.{◌≡◌, ◌<◌};
 
-use crate::transitions::TRANSITIONS;
 use crate::{Degrees, encode, pair, zones};
 use modes_fields::Place;
 use std::test::Fail;
@@ -15,20 +14,17 @@ fn at(num: i64, den: u32) -> Degrees
     Degrees { num, den }
 }
 
+fn place(odd: bool, lat: u32, lon: u32) -> Place {
+    Place { odd, lat, lon }
+}
+
 #[test]
 fn a_pair_of_places_tells_a_position_or_none(rt: HostRuntime) -> Result<(), Fail> {
-    let even = |lat: u32, lon: u32| Place {
-        odd: false,
-        lat,
-        lon,
-    };
-    let odd = |lat: u32, lon: u32| Place {
-        odd: true,
-        lat,
-        lon,
-    };
+    let even = |lat: u32, lon: u32| place(false, lat, lon);
+    let odd = |lat: u32, lon: u32| place(true, lat, lon);
     let p = pair(even(65536, 0), odd(33860, 0), false).ok_or("none")?;
     assert_eq!(rt; p.lat.num, 87 * 7864320);
+    assert_eq!(rt; p.lat.den, 7864320);
     assert_eq!(rt; p.lon.num, 0);
     assert!(rt; pair(even(97658, 0), odd(93847, 0), false).is_none());
     let p = pair(even(0, 0), odd(2185, 0), false).ok_or("none")?;
@@ -41,6 +37,7 @@ fn a_pair_of_places_tells_a_position_or_none(rt: HostRuntime) -> Result<(), Fail
     assert!(rt; pair(even(0, 0), odd(43691, 0), false).is_none());
     let p = pair(even(0, 0), odd(32768, 0), false).ok_or("none")?;
     assert_eq!(rt; p.lat.num, -90 * 7864320);
+    assert_eq!(rt; p.lat.den, 7864320);
     assert_eq!(rt; p.lon.num, 0);
     let p = pair(even(93000, 51372), odd(74158, 50194), true).ok_or("none")?;
     assert_eq!(rt; p.lat.num, 404184240);
@@ -63,68 +60,37 @@ fn zones_fall_at_transition_latitudes(rt: HostRuntime) {
 
 #[test]
 fn a_point_is_sent_as_the_nearest_bin(rt: HostRuntime) {
-    assert_eq!(rt;
-        encode(at(87, 1), at(0, 1), false),
-        Place {
-            odd: false,
-            lat: 65536,
-            lon: 0
-        }
-    );
-    assert_eq!(rt;
-        encode(at(87, 1), at(0, 1), true),
-        Place {
-            odd: true,
-            lat: 33860,
-            lon: 0
-        }
-    );
-    assert_eq!(rt;
-        encode(at(-6, 1), at(0, 1), true),
-        Place {
-            odd: true,
-            lat: 2185,
-            lon: 0
-        }
-    );
+    assert_eq!(rt; encode(at(87, 1), at(0, 1), false), place(false, 65536, 0));
+    assert_eq!(rt; encode(at(87, 1), at(0, 1), true), place(true, 33860, 0));
+    assert_eq!(rt; encode(at(-6, 1), at(0, 1), true), place(true, 2185, 0));
     assert_eq!(rt;
         encode(at(0, 1), at(-180, 1), false),
-        Place {
-            odd: false,
-            lat: 0,
-            lon: 65536
-        }
+        place(false, 0, 65536)
     );
-    assert_eq!(rt;
-        encode(at(0, 1), at(-180, 1), true),
-        Place {
-            odd: true,
-            lat: 0,
-            lon: 0
-        }
-    );
+    assert_eq!(rt; encode(at(0, 1), at(-180, 1), true), place(true, 0, 0));
     assert_eq!(rt;
         encode(at(5999999, 1000000), at(0, 1), false),
-        Place {
-            odd: false,
-            lat: 0,
-            lon: 0
-        }
+        place(false, 0, 0)
     );
-    let place = encode(at(404184240, 7733248), at(18069840, 4587520), true);
-    assert_eq!(rt;
-        place,
-        Place {
-            odd: true,
-            lat: 74158,
-            lon: 50194
-        }
-    );
+    let sent = encode(at(404184240, 7733248), at(18069840, 4587520), true);
+    assert_eq!(rt; sent, place(true, 74158, 50194));
 }
+
+// The transition latitudes as the formats list them, in 1/100,000,000 degree.
+const LATITUDES: [u64; 58] = [
+    1047047130, 1482817437, 1818626357, 2102939493, 2354504487, 2582924707, 2793898710, 2991135686,
+    3177209708, 3353993436, 3522899598, 3685025108, 3841241892, 3992256684, 4138651832, 4280914012,
+    4419454951, 4554626723, 4686733252, 4816039128, 4942776439, 5067150166, 5189342469, 5309516153,
+    5427817472, 5544378444, 5659318756, 5772747354, 5884763776, 5995459277, 6104917774, 6213216659,
+    6320427479, 6426616523, 6531845310, 6636171008, 6739646774, 6842322022, 6944242631, 7045451075,
+    7145986473, 7245884545, 7345177442, 7443893416, 7542056257, 7639684391, 7736789461, 7833374083,
+    7929428225, 8024923213, 8119801349, 8213956981, 8307199445, 8399173563, 8489166191, 8575541621,
+    8653536998, 8700000000,
+];
 
 #[test]
 fn the_greater_number_of_zones_holds_at_each_transition(rt: HostRuntime) {
-    for (k, e) in TRANSITIONS.iter().enumerate() {
+    for (k, e) in LATITUDES.iter().enumerate() {
         assert!(rt; *e <= 8_700_000_000);
         let num = *e as i64;
         assert_eq!(rt; zones(num, 100_000_000) as usize + k, 59);
