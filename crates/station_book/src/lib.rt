@@ -5,7 +5,11 @@
 pub mod laws;
 pub mod running;
 pub mod steps;
+#[cfg(test)]
+mod stream_tests;
 mod table;
+#[cfg(test)]
+mod tests;
 mod tracks;
 
 pub use running::Book;

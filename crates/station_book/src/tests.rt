@@ -1,0 +1,363 @@
+//! Known frames, given to a journal and to a book: both answer and show the same after each.
+
+use crate::{Book, Step};
+use modes_cpr::{Degrees, Position};
+use modes_frame::Frame;
+use station_journal::{Aircraft, Entry, Journal, Limits, NoMemory, Refusal, Rows};
+use std::alloc::Global;
+use std::process::Abort;
+use std::test::Fail;
+
+const KLM1023: &[u8] = &[
+    0x8D, 0x48, 0x40, 0xD6, 0x20, 0x2C, 0xC3, 0x71, 0xC3, 0x2C, 0xE0, 0x57, 0x60, 0x98,
+];
+
+const EVEN: &[u8] = &[
+    0x8D, 0x40, 0x62, 0x1D, 0x58, 0xC3, 0x82, 0xD6, 0x90, 0xC8, 0xAC, 0x28, 0x63, 0xA7,
+];
+
+const ODD: &[u8] = &[
+    0x8D, 0x40, 0x62, 0x1D, 0x58, 0xC3, 0x86, 0x43, 0x5C, 0xC4, 0x12, 0x69, 0x2A, 0xD6,
+];
+// An even place far off, which gives no position with the odd one.
+const FAR: &[u8] = &[
+    0x8D, 0x40, 0x62, 0x1D, 0x58, 0xC3, 0x80, 0x00, 0x00, 0x00, 0x00, 0x53, 0x36, 0x8B,
+];
+
+const ALL_CALL: &[u8] = &[0x5D, 0x51, 0x0A, 0xF9, 0xA8, 0xD8, 0xBC];
+
+#[derive(Clone, Copy)]
+enum Call {
+    Tick(u64),
+    Hear(&'static [u8]),
+}
+
+use Call::{Hear, Tick};
+
+fn frame(bytes: &[u8]) -> Result<Frame, Fail> {
+    Ok(Frame::from_bytes(bytes).ok_or("no frame")?)
+}
+
+fn entry(call: Call) -> Result<Entry, Fail> {
+    match call {
+        Tick(at) => Ok(Entry::Tick { seat: 0, at }),
+        Hear(bytes) => Ok(Entry::Heard {
+            seat: 0,
+            frame: frame(bytes)?,
+        }),
+    }
+}
+
+fn once(journal: &mut Journal, entry: &Entry) -> Result<(), Refusal> {
+    match entry {
+        Entry::Tick { seat, at } => journal.tick(*seat, *at)?,
+        Entry::Heard { seat, frame } => journal.feed(*seat, *frame)?,
+    };
+    Ok(())
+}
+
+// A call that answers want of memory is made once more.
+fn answer(journal: &mut Journal, entry: &Entry) -> Result<(), Refusal> {
+    match once(journal, entry) {
+        Err(Refusal::NoMemory) => once(journal, entry),
+        told => told,
+    }
+}
+
+fn table(journal: &Journal, alloc: Global) -> Result<Vec<Aircraft>, NoMemory> {
+    match journal.all(alloc) {
+        Ok(rows) => Ok(rows),
+        Err(_) => journal.all(alloc),
+    }
+}
+
+fn same_rows<const N: usize>(rt: &impl Abort, rows: &[Aircraft], book: &Book<N>) {
+    assert_eq!(rt; rows.len(), book.len());
+    for (i, row) in rows.iter().enumerate() {
+        if i < book.len() {
+            assert_eq!(rt; book.row(i), *row);
+            assert_eq!(rt; book.get(row.address), Some(*row));
+        }
+    }
+}
+
+fn same_verdict<const N: usize>(
+    rt: &impl Abort,
+    book: &Book<N>,
+    entry: &Entry,
+    told: Result<(), Refusal>,
+) {
+    assert_eq!(rt; book.verdict_of(&Step::of(entry)), told);
+    match entry {
+        Entry::Tick { seat: _, at } => assert_eq!(rt; book.verdict_tick(*at), told),
+        Entry::Heard { seat: _, frame } => assert_eq!(rt; book.verdict(frame), told),
+    }
+}
+
+// Gives the calls to a journal and to a book. Both answer and show the same after each.
+fn compare<const N: usize>(
+    rt: &impl Abort,
+    alloc: Global,
+    calls: &[Call],
+) -> Result<Book<N>, Fail> {
+    let limits = Limits {
+        entries: 16,
+        aircraft: u32::try_from(N).unwrap_or(u32::MAX),
+    };
+    let mut journal = Journal::new(alloc, limits);
+    let mut book = Book::<N>::new();
+    for call in calls {
+        let entry = entry(*call)?;
+        let told = answer(&mut journal, &entry);
+        same_verdict(rt, &book, &entry, told);
+        book.offer(&entry);
+        let rows = table(&journal, alloc)?;
+        same_rows(rt, rows.as_slice(), &book);
+        assert_eq!(rt; book.now(), journal.now());
+        assert_eq!(rt; book.entries(), journal.len());
+    }
+    Ok(book)
+}
+
+fn hundred_thousandths(degrees: Degrees) -> i128 {
+    let den = degrees.den as i128;
+    if den == 0 {
+        return 0;
+    }
+    (degrees.num as i128 * 200_000 + den).div_euclid(2 * den)
+}
+
+// Latitude and longitude in 1/100,000 degree.
+fn shown(position: Position) -> (i128, i128) {
+    (
+        hundred_thousandths(position.lat),
+        hundred_thousandths(position.lon),
+    )
+}
+
+fn position<const N: usize>(book: &Book<N>) -> Option<(i128, i128)> {
+    Some(shown(book.get(0x40621D)?.position?))
+}
+
+fn altitude<const N: usize>(book: &Book<N>) -> Option<i32> {
+    book.get(0x40621D)?.altitude
+}
+
+const NEWEST_ODD: (i128, i128) = (5_226_578, 393_891);
+
+const NEWEST_EVEN: (i128, i128) = (5_225_720, 391_937);
+
+#[test]
+fn pairs_of_places(rt: HostRuntime) -> Result<(), Fail> {
+    let alloc = rt.alloc();
+    let book: Book<4> = compare(&rt, alloc, &[Hear(EVEN), Hear(ODD)])?;
+    assert_eq!(rt; position(&book), Some(NEWEST_ODD));
+    assert_eq!(rt; altitude(&book), Some(38_000));
+    let book: Book<4> = compare(&rt, alloc, &[Hear(ODD), Hear(EVEN)])?;
+    assert_eq!(rt; position(&book), Some(NEWEST_EVEN));
+    let book: Book<4> = compare(&rt, alloc, &[Hear(EVEN)])?;
+    assert_eq!(rt; position(&book), None);
+    assert_eq!(rt; altitude(&book), Some(38_000));
+    Ok(())
+}
+
+#[test]
+fn places_of_a_pair_are_at_most_ten_seconds_apart(rt: HostRuntime) -> Result<(), Fail> {
+    let alloc = rt.alloc();
+    let near = [Tick(1), Hear(EVEN), Tick(10_001), Hear(ODD)];
+    let book: Book<4> = compare(&rt, alloc, &near)?;
+    assert_eq!(rt; position(&book), Some(NEWEST_ODD));
+    let apart = [Tick(1), Hear(EVEN), Tick(10_002), Hear(ODD)];
+    let book: Book<4> = compare(&rt, alloc, &apart)?;
+    assert_eq!(rt; position(&book), None);
+    let again = [
+        Tick(1),
+        Hear(EVEN),
+        Tick(5000),
+        Hear(ODD),
+        Tick(9000),
+        Hear(EVEN),
+    ];
+    let book: Book<4> = compare(&rt, alloc, &again)?;
+    assert_eq!(rt; position(&book), Some(NEWEST_EVEN));
+    Ok(())
+}
+
+#[test]
+fn an_aircraft_lives_for_sixty_seconds(rt: HostRuntime) -> Result<(), Fail> {
+    let alloc = rt.alloc();
+    let book: Book<4> = compare(&rt, alloc, &[Tick(1000), Hear(KLM1023), Tick(61_000)])?;
+    let row = book.get(0x4840D6).ok_or("no aircraft")?;
+    assert!(rt; row.callsign.ok_or("no callsign")?.bytes() == b"KLM1023".as_slice());
+    assert_eq!(rt; row.heard, 1000);
+    let over = [
+        Tick(1000),
+        Hear(KLM1023),
+        Tick(61_000),
+        Tick(61_001),
+        Tick(61_001),
+    ];
+    let book: Book<4> = compare(&rt, alloc, &over)?;
+    assert_eq!(rt; book.len(), 0);
+    assert_eq!(rt; book.now(), 61_001);
+    assert_eq!(rt; book.verdict_tick(61_001), Err(Refusal::NotLater(61_001)));
+    Ok(())
+}
+
+#[test]
+fn the_last_tick_of_all(rt: HostRuntime) -> Result<(), Fail> {
+    let alloc = rt.alloc();
+    let book: Book<4> = compare(
+        &rt,
+        alloc,
+        &[Tick(0), Hear(KLM1023), Tick(u64::MAX), Tick(u64::MAX)],
+    )?;
+    assert_eq!(rt; book.entries(), 2);
+    assert_eq!(rt; book.verdict_tick(5), Err(Refusal::NotLater(u64::MAX)));
+    assert_eq!(rt; Book::<4>::new().verdict_tick(0), Err(Refusal::NotLater(0)));
+    Ok(())
+}
+
+#[test]
+fn a_swept_aircraft_starts_anew(rt: HostRuntime) -> Result<(), Fail> {
+    let alloc = rt.alloc();
+    for later in [60_001, 60_002] {
+        let calls = [Tick(1), Hear(EVEN), Tick(later), Hear(ODD)];
+        let book: Book<4> = compare(&rt, alloc, &calls)?;
+        assert_eq!(rt; altitude(&book), Some(38_000));
+        assert_eq!(rt; position(&book), None);
+    }
+    let calls = [Tick(1), Hear(EVEN), Tick(5000), Hear(ODD), Tick(65_000)];
+    let book: Book<4> = compare(&rt, alloc, &calls)?;
+    assert_eq!(rt; position(&book), Some(NEWEST_ODD));
+    assert_eq!(rt; book.get(0x40621D).ok_or("no aircraft")?.heard, 5000);
+    let calls = [Tick(1), Hear(EVEN), Tick(5000), Hear(ODD), Tick(65_001)];
+    let book: Book<4> = compare(&rt, alloc, &calls)?;
+    assert_eq!(rt; book.len(), 0);
+    Ok(())
+}
+
+#[test]
+fn a_failed_pair_leaves_the_position_to_age(rt: HostRuntime) -> Result<(), Fail> {
+    let alloc = rt.alloc();
+    let calls = [
+        Tick(1000),
+        Hear(EVEN),
+        Hear(ODD),
+        Tick(2000),
+        Hear(FAR),
+        Tick(61_000),
+    ];
+    let book: Book<4> = compare(&rt, alloc, &calls)?;
+    assert_eq!(rt; position(&book), Some(NEWEST_ODD));
+    assert_eq!(rt; book.get(0x40621D).ok_or("no aircraft")?.heard, 2000);
+    let calls = [
+        Tick(1000),
+        Hear(EVEN),
+        Hear(ODD),
+        Tick(2000),
+        Hear(FAR),
+        Tick(61_001),
+    ];
+    let book: Book<4> = compare(&rt, alloc, &calls)?;
+    assert_eq!(rt; position(&book), None);
+    assert_eq!(rt; altitude(&book), Some(38_000));
+    Ok(())
+}
+
+#[test]
+fn a_full_book_frees_a_place_at_a_tick(rt: HostRuntime) -> Result<(), Fail> {
+    let alloc = rt.alloc();
+    let calls = [Hear(KLM1023), Hear(ALL_CALL), Hear(KLM1023)];
+    let book: Book<1> = compare(&rt, alloc, &calls)?;
+    assert_eq!(rt; book.entries(), 2);
+    assert_eq!(rt;
+        book.verdict_of(&Step::of(&entry(Hear(ALL_CALL))?)),
+        Err(Refusal::BookFull)
+    );
+    let calls = [
+        Hear(KLM1023),
+        Hear(ALL_CALL),
+        Hear(KLM1023),
+        Tick(60_001),
+        Hear(ALL_CALL),
+    ];
+    let book: Book<1> = compare(&rt, alloc, &calls)?;
+    assert_eq!(rt; book.entries(), 4);
+    assert!(rt; book.get(0x4840D6).is_none());
+    assert!(rt; book.get(0x510AF9).is_some());
+    Ok(())
+}
+
+// Replies of 4840D6, whose address lies on their parity.
+const SHORT_AIR: &[u8] = &[0x00, 0x00, 0x14, 0xB4, 0x96, 0xB1, 0x48];
+
+const LONG_AIR: &[u8] = &[
+    0x80, 0x00, 0x14, 0xB4, 0x00, 0x00, 0x00, 0x00, 0x00, 0x00, 0x00, 0x3E, 0xAE, 0x64,
+];
+
+const LONG_ALTITUDE: &[u8] = &[
+    0xA0, 0x00, 0x14, 0xB4, 0x00, 0x00, 0x00, 0x00, 0x00, 0x00, 0x00, 0xCF, 0x19, 0x1A,
+];
+
+const LONG_IDENTITY: &[u8] = &[
+    0xA8, 0x00, 0x11, 0x6D, 0x00, 0x00, 0x00, 0x00, 0x00, 0x00, 0x00, 0xF7, 0x2A, 0xAA,
+];
+
+#[test]
+fn overlaid_replies_speak_for_live_aircraft(rt: HostRuntime) -> Result<(), Fail> {
+    let alloc = rt.alloc();
+    for reply in [SHORT_AIR, LONG_AIR, LONG_ALTITUDE, LONG_IDENTITY] {
+        let book: Book<4> = compare(&rt, alloc, &[Hear(reply)])?;
+        assert_eq!(rt; book.entries(), 0);
+        assert_eq!(rt;
+            book.verdict_of(&Step::of(&entry(Hear(reply))?)),
+            Err(Refusal::Unknown(0x4840D6))
+        );
+    }
+    for reply in [SHORT_AIR, LONG_AIR, LONG_ALTITUDE] {
+        let book: Book<4> = compare(&rt, alloc, &[Hear(KLM1023), Hear(reply)])?;
+        assert_eq!(rt;
+            book.get(0x4840D6).ok_or("no aircraft")?.altitude,
+            Some(32_300)
+        );
+    }
+    Ok(())
+}
+
+#[test]
+fn a_squawk_is_told_in_octal(rt: HostRuntime) -> Result<(), Fail> {
+    let book: Book<4> = compare(&rt, rt.alloc(), &[Hear(KLM1023), Hear(LONG_IDENTITY)])?;
+    let row = book.get(0x4840D6).ok_or("no aircraft")?;
+    assert_eq!(rt; row.squawk.ok_or("no squawk")?.value(), 0o356);
+    Ok(())
+}
+
+#[test]
+fn what_a_book_refuses_leaves_it_as_it_was(rt: HostRuntime) -> Result<(), Fail> {
+    let mut book = Book::<4>::starting(7);
+    for call in [
+        Tick(7),
+        Hear(SHORT_AIR),
+        Hear(&[
+            0x8D, 0x48, 0x40, 0xD6, 0x20, 0x2C, 0xC3, 0x71, 0xC3, 0x2C, 0xE0, 0x57, 0x60, 0x99,
+        ]),
+    ] {
+        book.offer(&entry(call)?);
+        book.offer_step(&Step::of(&entry(call)?));
+    }
+    assert_eq!(rt; book.entries(), 0);
+    assert_eq!(rt; book.now(), 7);
+    assert_eq!(rt; book.len(), 0);
+    Ok(())
+}
+
+#[test]
+fn a_book_of_512_aircraft_is_made(rt: HostRuntime) -> Result<(), Fail> {
+    let mut book = Book::<512>::new();
+    book.offer(&entry(Tick(5))?);
+    book.offer(&entry(Hear(KLM1023))?);
+    assert_eq!(rt; book.len(), 1);
+    assert_eq!(rt; book.now(), 5);
+    Ok(())
+}
