@@ -1,11 +1,12 @@
 -- One more byte at the end, and the lines.
-use Rattle.std.proofs.Common.{◌≡◌, ℕ, nat_eq, nat_le, nat_lt, Bool, true, false, cond, List, [], ◌∷◌, ◌++◌, Some, None, refl, sym, ap, ◌∙◌, length, map, length-append, rules, tests, subst, append-nil, inl, inr}
+use Rattle.std.proofs.Common.{◌≡◌, ℕ, nat_eq, nat_le, nat_lt, Bool, true, false, cond, List, [], ◌∷◌, ◌++◌, Some, None, refl, sym, ap, ◌∙◌, length, map, length-append, rules, tests, subst, append-nil, inl, inr, ◌≢◌, ◌<◌, suc, append_assoc, get_or, arith, take, ◌≤◌, ◌+◌}
 use Rattle.std.proofs.lemmas.Bool.{cases_Bool}
 use Rattle.std.proofs.lemmas.Bool.Decides.{eqb_tells}
-use Rattle.std.proofs.lemmas.List.{map-append}
+use Rattle.std.proofs.lemmas.List.{map-append, length-take-le, get_or-take, take_more}
 use Rattle.std.specs.Option.{option_to_list}
+use Rattle.modes_frame.specs.declared.cutter.Cut.{Cut}
 use Rattle.modes_frame.specs.declared.cutter.Cut.TheVariants.{Whole}
-use Rattle.modes_frame.specs.Lines.{Pieces, onto, pieces, cut, pending, ended_cuts, grown, after, told}
+use Rattle.modes_frame.specs.Lines.{Pieces, onto, pieces, cut, pending, ended_cuts, grown, after, told, lengthened}
 
 -- the pieces with a line feed at the end, and with another byte
 abbrev ended_by : Pieces → Pieces
@@ -67,3 +68,62 @@ ended-push bs c = elim (eqb_tells c 10) [
       (ap (λ p. map cut p.ended) (pieces-line_feed bs) ∙ map-append cut (pieces bs).ended ((pieces bs).rest ∷ []))
   | inr h ↦ ap (λ p. map cut p.ended) (pieces-more bs c h.0) ∙ sym (append-nil (ended_cuts bs)) ∙ ap (λ b. ended_cuts bs ++ option_to_list (cond b (Some (pending bs)) None)) (sym h.0)
 ]
+
+-- ---- more bytes, none of them a line feed
+
+abbrev pub HasNone : List ℕ → Type 0
+HasNone cs = (k : ℕ) → k < length cs → get_or cs k 0 ≢ 10
+
+has-none-rest : (c : ℕ) (cs : List ℕ) → HasNone (c ∷ cs) → HasNone cs
+has-none-rest c cs none k h = none (suc k) (omega arith)
+
+abbrev lengthened_by : Pieces → List ℕ → Pieces
+lengthened_by p cs = record { ended = p.ended; rest = p.rest ++ cs }
+
+no-line_feed : (c : ℕ) → c ≢ 10 → nat_eq c 10 ≡ false
+no-line_feed c other = elim (eqb_tells c 10) [ inl h ↦ absurd (other h.1) | inr h ↦ h.0 ]
+
+pieces-grown : (bs cs : List ℕ) → HasNone cs → pieces (bs ++ cs) ≡ lengthened_by (pieces bs) cs
+pieces-grown bs [] none = ap pieces (append-nil bs) ∙ ap (λ r. record { ended = (pieces bs).ended; rest = r }) (sym (append-nil (pieces bs).rest))
+pieces-grown bs (c ∷ cs) none =
+    ap pieces (sym (append_assoc bs (c ∷ []) cs))
+    ∙ pieces-grown (bs ++ c ∷ []) cs (has-none-rest c cs none)
+    ∙ ap (λ p. lengthened_by p cs) (pieces-more bs c (no-line_feed c (none 0 (omega arith))))
+    ∙ ap (λ r. record { ended = (pieces bs).ended; rest = r }) (append_assoc (pieces bs).rest (c ∷ []) cs)
+
+cut-lengthened : (line cs : List ℕ) → lengthened (cut line) cs ≡ cut (line ++ cs)
+cut-lengthened line cs =
+    let len = length-append line cs in
+    elim (cases_Bool (nat_le (length line) 64)) [
+      | inl fits ↦ rw fits refl
+      | inr long ↦ rw long (let more : nat_le (length (line ++ cs)) 64 ≡ false = search (rules, tests) in rw more)
+    ]
+
+pub pending-lengthened : (bs cs : List ℕ) → HasNone cs → lengthened (pending bs) cs ≡ pending (bs ++ cs)
+pending-lengthened bs cs none = cut-lengthened (pieces bs).rest cs ∙ ap (λ p. cut p.rest) (sym (pieces-grown bs cs none))
+
+pub ended-lengthened : (bs cs : List ℕ) → HasNone cs → ended_cuts (bs ++ cs) ≡ ended_cuts bs
+ended-lengthened bs cs none = ap (λ p. map cut p.ended) (pieces-grown bs cs none)
+
+pub none-before : (bytes : List ℕ) (end : ℕ) → end ≤ length bytes → ((k : ℕ) → k < end → get_or bytes k 0 ≢ 10) → HasNone (take end bytes)
+none-before bytes end within none k h =
+    let n = length-take-le end bytes within in
+    let before : k < end = omega arith in
+    λ e. none k before (sym (get_or-take end bytes k 0 before) ∙ e)
+
+-- the bytes up to a line feed and that one, after others
+pub to-line_feed : (before bytes : List ℕ) (end : ℕ) → end < length bytes → get_or bytes end 0 ≡ 10
+    → (before ++ take end bytes) ++ 10 ∷ [] ≡ before ++ take (end + 1) bytes
+to-line_feed before bytes end within is =
+    append_assoc before (take end bytes) (10 ∷ [])
+    ∙ ap (λ l. before ++ l) (ap (λ c. take end bytes ++ c ∷ []) (sym is) ∙ sym (take_more bytes end 0 within))
+
+-- what is held after the bytes before a line feed, and that no line was ended
+pub held-before : (self new : Cut) (before bytes : List ℕ) (end : ℕ) → end ≤ length bytes → ((k : ℕ) → k < end → get_or bytes k 0 ≢ 10)
+    → new ≡ lengthened self (take end bytes) → self ≡ pending before → new ≡ pending (before ++ take end bytes)
+held-before self new before bytes end within none e h =
+    e ∙ ap (λ v. lengthened v (take end bytes)) h ∙ pending-lengthened before (take end bytes) (none-before bytes end within none)
+
+pub ended-before : (before bytes : List ℕ) (end : ℕ) → end ≤ length bytes → ((k : ℕ) → k < end → get_or bytes k 0 ≢ 10)
+    → ended_cuts (before ++ take end bytes) ≡ ended_cuts before
+ended-before before bytes end within none = ended-lengthened before (take end bytes) (none-before bytes end within none)

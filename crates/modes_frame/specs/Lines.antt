@@ -54,3 +54,8 @@ abbrev pub told_last : Cut → Option Cut
 told_last (Whole []) = None
 told_last (Whole (c ∷ cs)) = Some (Whole (c ∷ cs))
 told_last TooLong = Some TooLong
+
+-- a line with bytes after it, none of them a line feed
+abbrev pub lengthened : Cut → List ℕ → Cut
+lengthened (Whole line) piece = cut (line ++ piece)
+lengthened TooLong piece = TooLong

@@ -4,6 +4,7 @@
 pub mod blanks;
 pub mod claims;
 pub mod cutter;
+mod digits;
 pub mod frame;
 pub mod line;
 pub mod parity;

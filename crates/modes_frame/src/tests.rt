@@ -300,3 +300,20 @@ fn a_line_of_64_bytes(rt: HostRuntime) {
     assert!(rt; told(&mut cutter, &[b'x'; 65]).is_none());
     assert_eq!(rt; cutter.finish(), Some(Cut::TooLong));
 }
+
+#[test]
+fn lines_of_a_piece(rt: HostRuntime) {
+    let mut cutter = Cutter::new();
+    assert_eq!(rt; cutter.push(b'*'), None);
+    let (count, cut) = cutter.push_line(b"0000;\n\n*00");
+    assert_eq!(rt; count, 6);
+    assert!(rt; is_whole(cut, b"*0000;"));
+    let (count, cut) = cutter.push_line(b"\n*00");
+    assert_eq!(rt; count, 1);
+    assert!(rt; is_whole(cut, b""));
+    assert_eq!(rt; cutter.push_line(b"*00"), (3, None));
+    assert_eq!(rt; cutter.push_line(&[b'0'; 62]), (62, None));
+    assert_eq!(rt; cutter.push_line(b"\n"), (1, Some(Cut::TooLong)));
+    assert_eq!(rt; cutter.push_line(b""), (0, None));
+    assert_eq!(rt; cutter.finish(), None);
+}
