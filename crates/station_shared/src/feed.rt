@@ -20,6 +20,7 @@ pub trait Feed {
 }
 
 /// A desk that is lent, of at most 4,096 aircraft, and the seat that feeds it.
+#[derive(Drop)]
 pub struct DeskFeed<'a, const N: usize> {
     pub desk: &'a mut Desk<N>,
     pub seat: u8,

@@ -3,6 +3,8 @@
 
 pub mod command;
 pub mod desk;
+#[cfg(test)]
+mod fakes;
 pub mod feed;
 pub mod from_read;
 pub mod pumping;

@@ -1,0 +1,125 @@
+//! Pumps over a desk.
+use crate::desk::Desk;
+use crate::fakes::{Pieces, Spaces, new_desk};
+use crate::feed::DeskFeed;
+use crate::pumping::{PumpFault, pump};
+use crate::source::Source;
+use crate::tally::Tally;
+use station_journal::Limits;
+use std::alloc::Global;
+use std::process::Abort;
+use std::sync::Wait;
+
+// Pumps the source through a desk without entries, by seat 0. A pump that wants memory is made once more.
+fn pumped<S: Source + Copy, R: Abort + Wait>(
+    rt: &R,
+    alloc: Global,
+    source: S,
+    turns: u32,
+) -> Result<Tally, PumpFault> {
+    match pump_once(rt, alloc, source, turns) {
+        Err(PumpFault::NoMemory(_)) => pump_once(rt, alloc, source, turns),
+        answer => answer,
+    }
+}
+
+fn pump_once<S: Source + Copy, R: Abort + Wait>(
+    rt: &R,
+    alloc: Global,
+    source: S,
+    turns: u32,
+) -> Result<Tally, PumpFault> {
+    let limits = Limits {
+        entries: 16_777_216,
+        aircraft: 512,
+    };
+    let mut desk: Desk<512> = new_desk(rt, alloc, limits);
+    let mut from = source;
+    let answer = {
+        let mut feed = DeskFeed {
+            desk: &mut desk,
+            seat: 0,
+        };
+        pump(rt, &mut feed, &mut from, turns)
+    };
+    let _journal = desk.end(rt);
+    answer
+}
+
+#[test]
+fn lines_are_counted_by_kind(rt: HostRuntime) {
+    let lines = b"*8D4840D6202CC371C32CE0576098;\n*0000;\n\nx\n*2A00516D492B80;";
+    let want = Tally {
+        lines: 5,
+        frames: 2,
+        ticks: 0,
+        shows: 0,
+        blank: 1,
+        mode_ac: 1,
+        faults: 1,
+        accepted: 1,
+        refused: 1,
+    };
+    assert_eq!(rt; pumped(&rt, rt.alloc(), Pieces::new(lines), 9), Ok(want));
+    let none = Err(PumpFault::TooManyTurns(Tally::new()));
+    assert_eq!(rt; pumped(&rt, rt.alloc(), Pieces::new(lines), 0), none);
+}
+
+#[test]
+fn ticks_and_questions_are_faults(rt: HostRuntime) {
+    let want = Tally {
+        lines: 3,
+        frames: 0,
+        ticks: 0,
+        shows: 0,
+        blank: 0,
+        mode_ac: 0,
+        faults: 3,
+        accepted: 0,
+        refused: 0,
+    };
+    assert_eq!(rt;
+        pumped(&rt, rt.alloc(), Pieces::new(b"+1\n?\n+x\n"), 9),
+        Ok(want)
+    );
+}
+
+#[test]
+fn failed_read_ends_a_pump(rt: HostRuntime) {
+    let mut source = Pieces::new(b"*8D4840D6202CC371C32CE0576098;\n*0000;\n");
+    source.most = 31;
+    source.fails_at = 2;
+    let want = Tally {
+        lines: 1,
+        frames: 1,
+        ticks: 0,
+        shows: 0,
+        blank: 0,
+        mode_ac: 0,
+        faults: 0,
+        accepted: 1,
+        refused: 0,
+    };
+    assert_eq!(rt;
+        pumped(&rt, rt.alloc(), source, 9),
+        Err(PumpFault::Read(want))
+    );
+}
+
+#[test]
+fn endless_line_is_one_fault(rt: HostRuntime) {
+    let want = Tally {
+        lines: 1,
+        frames: 0,
+        ticks: 0,
+        shows: 0,
+        blank: 0,
+        mode_ac: 0,
+        faults: 1,
+        accepted: 0,
+        refused: 0,
+    };
+    assert_eq!(rt; pumped(&rt, rt.alloc(), Spaces::new(2000), 2001), Ok(want));
+    let none = Err(PumpFault::TooManyTurns(Tally::new()));
+    assert_eq!(rt; pumped(&rt, rt.alloc(), Spaces::new(2000), 2000), none);
+}
