@@ -1,4 +1,4 @@
-// A frame.
+// Frames (ICAO Annex 10 Volume IV, 3.1.2.3).
 ghost use Rattle.std.specs.Prelude.{◌≡◌, ◌≤◌, ◌<◌, ◌↔◌, ◌*◌, ℕ, List, IsSome, IfSome, length};
 
 use std::marker::Model;
@@ -9,7 +9,8 @@ enum Bytes {
     Long([u8; 14]),
 }
 
-/// A short frame with DF below 16, or a long one with DF 16 or more.
+/// A frame as it was sent: 56 bits with a downlink format below 16, or 112 bits with 16 or more. Contracts see it as
+/// its bytes.
 #[derive(Clone, Copy, Debug, PartialEq, Eq)]
 pub struct Frame {
     store: Bytes,
@@ -34,6 +35,7 @@ impl Model for Frame {
 impl Frame {
     ghost use Rattle.modes_frame.specs.Frames.{IsFrame, df_of, bits_of, bit_of};
 
+    /// The frame of these bytes. None where their number is not the one that their downlink format has.
     pub fn from_bytes(bytes: &[u8]) -> Option<Frame>
         ensures some { IsSome result ↔ IsFrame bytes.now }
         ensures value { IfSome result (λ f. f ≡ bytes.now) }
@@ -60,6 +62,7 @@ impl Frame {
         }
     }
 
+    /// The 7 or 14 bytes of the frame.
     pub fn bytes(&self) -> &[u8]
         ensures bytes { result.now ≡ self.now }
         ensures frame { IsFrame self.now }
@@ -70,6 +73,7 @@ impl Frame {
         }
     }
 
+    /// The downlink format, 0 to 31: bits 1 to 5 (3.1.2.3.2.1.2).
     pub fn df(&self) -> u8
         ensures value { result ≡ df_of self.now }
         ensures frame { IsFrame self.now }
@@ -77,7 +81,7 @@ impl Frame {
         self.bytes()[0] / 8
     }
 
-    /// 56 or 112.
+    /// The number of bits, 56 or 112.
     pub fn bits(&self) -> usize
         ensures count { result ≡ 8 * length self.now }
         ensures frame { IsFrame self.now }
@@ -85,7 +89,7 @@ impl Frame {
         8 * self.bytes().len()
     }
 
-    /// Bit `n`, counted from 1.
+    /// Bit `n`, where bit 1 is the first that was sent.
     pub fn bit(&self, n: usize) -> bool
         requires first { 1 ≤ n }
         requires last { n ≤ 8 * length self.now }
