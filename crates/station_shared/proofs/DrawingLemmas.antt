@@ -1,9 +1,10 @@
 -- Bytes of a source, one read after another.
-use Rattle.std.proofs.Common.{◌≡◌, ℕ, ◌+◌, ◌≤◌, List, [], ◌∷◌, ◌++◌, Option, Result, Ok, Err, refl, sym, ap, ◌∙◌, subst, append_assoc, append-nil, map, arith, add-one}
+use Rattle.std.proofs.Common.{◌≡◌, ℕ, ◌+◌, ◌-◌, ◌≤◌, List, [], ◌∷◌, ◌++◌, length, take, drop, length-drop, Option, Result, Ok, Err, refl, sym, ap, ◌∙◌, subst, append_assoc, append-nil, map, arith, add-one}
 use Rattle.std.specs.Option.{option_to_list}
 use Rattle.std.specs.Io.KnownBytes.{Consumes, Keeps, IsAtEnd}
 use Rattle.std.proofs.KnownBytes.{Consumes-nil, Consumes-trans, Consumes-kept}
-use Rattle.std.proofs.lemmas.List.{map-append}
+use Rattle.std.proofs.lemmas.List.{map-append, take_all}
+use Rattle.std.proofs.Math.Seq.{take-add}
 use Rattle.modes_frame.specs.declared.cutter.Cut.{Cut}
 use Rattle.modes_frame.specs.Lines.{pieces, cut, cuts, last_line, pending, ended_cuts, told}
 use Rattle.modes_frame.proofs.LinesLemmas.{ended-push}
@@ -30,17 +31,23 @@ counted_up-more n old mid new p q = q ∙ ap (λ k. one_more k) p ∙ ap (λ k. 
 
 -- ---- bytes of one piece
 
+-- the first of what is left after some bytes come next
+pub next_piece : (bytes : List ℕ) (i n : ℕ) → take (i + n) bytes ≡ take i bytes ++ take n (take (length bytes - i) (drop i bytes))
+next_piece bytes i n =
+    let whole : take (length bytes - i) (drop i bytes) ≡ drop i bytes = take_all (length bytes - i) (drop i bytes) (omega (arith, length-drop i bytes)) in
+    take-add i n bytes ∙ ap (λ rest. take i bytes ++ take n rest) (sym whole)
+
 module _ {X E : Type 0} (Took : X → List Cut → Result (Unit {0}) E → X → Type 0)
     (joined : (x y z : X) (cs ds : List Cut) (r : Result (Unit {0}) E) → Took x cs (Ok tt) y → Took y ds r z → Took x (cs ++ ds) r z)
-    (before bytes : List ℕ) (c : ℕ) (held : Cut) (x y : X) (so_far : TakesBytes Took before bytes held x y (Ok tt)) (more : List ℕ) (next : more ≡ bytes ++ c ∷ []) where
-  all_bytes : before ++ more ≡ (before ++ bytes) ++ c ∷ []
-  all_bytes = ap (λ bs. before ++ bs) next ∙ sym (append_assoc before bytes (c ∷ []))
+    (before bytes : List ℕ) (piece : List ℕ) (held : Cut) (x y : X) (so_far : TakesBytes Took before bytes held x y (Ok tt)) (more : List ℕ) (next : more ≡ bytes ++ piece) where
+  all_bytes : before ++ more ≡ (before ++ bytes) ++ piece
+  all_bytes = ap (λ bs. before ++ bs) next ∙ sym (append_assoc before bytes (piece))
 
   all_ended : ended_cuts (before ++ bytes) ≡ ended_cuts before ++ so_far.lines
   all_ended = so_far.ended ∙ ap (λ ls. ended_cuts before ++ (so_far.lines ++ ls)) so_far.all_taken.0 ∙ ap (λ ls. ended_cuts before ++ ls) (append-nil so_far.lines)
 
-  -- the byte ended no line
-  pub TakesBytes-quiet : (held_now : Cut) → held_now ≡ pending ((before ++ bytes) ++ c ∷ []) → ended_cuts ((before ++ bytes) ++ c ∷ []) ≡ ended_cuts (before ++ bytes) ++ [] → TakesBytes Took before more held_now x y (Ok tt)
+  -- the piece ended no line
+  pub TakesBytes-quiet : (held_now : Cut) → held_now ≡ pending ((before ++ bytes) ++ piece) → ended_cuts ((before ++ bytes) ++ piece) ≡ ended_cuts (before ++ bytes) ++ [] → TakesBytes Took before more held_now x y (Ok tt)
   TakesBytes-quiet held_now h e = record {
     lines = so_far.lines;
     left_out = [];
@@ -49,11 +56,11 @@ module _ {X E : Type 0} (Took : X → List Cut → Result (Unit {0}) E → X →
     took = so_far.took;
   }
 
-  -- the byte ended a line
-  ended_line : (line : Cut) → ended_cuts ((before ++ bytes) ++ c ∷ []) ≡ ended_cuts (before ++ bytes) ++ line ∷ [] → ended_cuts (before ++ more) ≡ ended_cuts before ++ (so_far.lines ++ line ∷ [])
+  -- the piece ended a line
+  ended_line : (line : Cut) → ended_cuts ((before ++ bytes) ++ piece) ≡ ended_cuts (before ++ bytes) ++ line ∷ [] → ended_cuts (before ++ more) ≡ ended_cuts before ++ (so_far.lines ++ line ∷ [])
   ended_line line e = ap ended_cuts all_bytes ∙ e ∙ ap (λ ls. ls ++ line ∷ []) all_ended ∙ append_assoc (ended_cuts before) so_far.lines (line ∷ [])
 
-  pub TakesBytes-line : (held_now line : Cut) (z : X) → held_now ≡ pending ((before ++ bytes) ++ c ∷ []) → ended_cuts ((before ++ bytes) ++ c ∷ []) ≡ ended_cuts (before ++ bytes) ++ line ∷ [] → Took y (line ∷ []) (Ok tt) z → TakesBytes Took before more held_now x z (Ok tt)
+  pub TakesBytes-line : (held_now line : Cut) (z : X) → held_now ≡ pending ((before ++ bytes) ++ piece) → ended_cuts ((before ++ bytes) ++ piece) ≡ ended_cuts (before ++ bytes) ++ line ∷ [] → Took y (line ∷ []) (Ok tt) z → TakesBytes Took before more held_now x z (Ok tt)
   TakesBytes-line held_now line z h e took = record {
     lines = so_far.lines ++ line ∷ [];
     left_out = [];
@@ -62,8 +69,8 @@ module _ {X E : Type 0} (Took : X → List Cut → Result (Unit {0}) E → X →
     took = joined x y z so_far.lines (line ∷ []) (Ok tt) so_far.took took;
   }
 
-  -- the byte ended a line that stopped the taking
-  pub TakesBytes-stop : (held_now line : Cut) (z : X) (stop : E) (whole rest : List ℕ) → whole ≡ more ++ rest → ended_cuts ((before ++ bytes) ++ c ∷ []) ≡ ended_cuts (before ++ bytes) ++ line ∷ [] → Took y (line ∷ []) (Err stop) z → TakesBytes Took before whole held_now x z (Err stop)
+  -- the piece ended a line that stopped the taking
+  pub TakesBytes-stop : (held_now line : Cut) (z : X) (stop : E) (whole rest : List ℕ) → whole ≡ more ++ rest → ended_cuts ((before ++ bytes) ++ piece) ≡ ended_cuts (before ++ bytes) ++ line ∷ [] → Took y (line ∷ []) (Err stop) z → TakesBytes Took before whole held_now x z (Err stop)
   TakesBytes-stop held_now line z stop whole rest w e took =
       let others = ended-more (before ++ more) rest in
       record {
