@@ -1,0 +1,494 @@
+//! Worked examples, with the values that are known for them.
+
+ghost use Rattle.std.specs.Prelude.{◌≡◌, ◌<◌, ◌≤◌, length, OnOk};
+ghost use Rattle.station_journal.specs.Log.{most_entries};
+
+use crate::{Aircraft, Entry, Journal, Limits, NoMemory, Refusal, Rows};
+use modes_cpr::{Degrees, Position};
+use modes_fields::Velocity;
+use modes_frame::Frame;
+use std::alloc::Global;
+use std::process::Abort;
+use std::test::Fail;
+
+// 4840D6, callsign KLM1023
+const IDENTIFICATION: &[u8] = &[
+    0x8D, 0x48, 0x40, 0xD6, 0x20, 0x2C, 0xC3, 0x71, 0xC3, 0x2C, 0xE0, 0x57, 0x60, 0x98,
+];
+// 40621D, an even place at 38,000 feet, and an odd one
+const EVEN: &[u8] = &[
+    0x8D, 0x40, 0x62, 0x1D, 0x58, 0xC3, 0x82, 0xD6, 0x90, 0xC8, 0xAC, 0x28, 0x63, 0xA7,
+];
+
+const ODD: &[u8] = &[
+    0x8D, 0x40, 0x62, 0x1D, 0x58, 0xC3, 0x86, 0x43, 0x5C, 0xC4, 0x12, 0x69, 0x2A, 0xD6,
+];
+// 40621D, an even place that gives no position with the odd one
+const FAR: &[u8] = &[
+    0x8D, 0x40, 0x62, 0x1D, 0x58, 0xC3, 0x80, 0x00, 0x00, 0x00, 0x00, 0x53, 0x36, 0x8B,
+];
+// 485020, its speed over ground
+const SPEED: &[u8] = &[
+    0x8D, 0x48, 0x50, 0x20, 0x99, 0x44, 0x09, 0x94, 0x08, 0x38, 0x17, 0x5B, 0x28, 0x4F,
+];
+// A05F21, its heading and airspeed
+const AIRSPEED: &[u8] = &[
+    0x8D, 0xA0, 0x5F, 0x21, 0x9B, 0x06, 0xB6, 0xAF, 0x18, 0x94, 0x00, 0xCB, 0xC3, 0x3F,
+];
+// 510AF9: an all-call reply, and its squawk 0356 and altitude -1200 under an overlaid address
+const ALL_CALL: &[u8] = &[0x5D, 0x51, 0x0A, 0xF9, 0xA8, 0xD8, 0xBC];
+
+const IDENTITY: &[u8] = &[0x2A, 0x00, 0x51, 0x6D, 0x49, 0x2B, 0x80];
+
+const LOW: &[u8] = &[0x20, 0x00, 0x01, 0x00, 0xDF, 0x61, 0x26];
+// 484FDE: all-call replies under an interrogator code and without
+const INTERROGATED: &[u8] = &[0x5D, 0x48, 0x4F, 0xDE, 0xA2, 0x48, 0xF5];
+
+const SQUITTER: &[u8] = &[0x5D, 0x48, 0x4F, 0xDE, 0xA2, 0x48, 0xE3];
+// 4840D6 under an overlaid address: altitude 32,300 in formats 0, 16 and 20, squawk 0356 in 21
+const SHORT_AIR: &[u8] = &[0x00, 0x00, 0x14, 0xB4, 0x96, 0xB1, 0x48];
+
+const LONG_AIR: &[u8] = &[
+    0x80, 0x00, 0x14, 0xB4, 0x00, 0x00, 0x00, 0x00, 0x00, 0x00, 0x00, 0x3E, 0xAE, 0x64,
+];
+
+const COMM_B_ALTITUDE: &[u8] = &[
+    0xA0, 0x00, 0x14, 0xB4, 0x00, 0x00, 0x00, 0x00, 0x00, 0x00, 0x00, 0xCF, 0x19, 0x1A,
+];
+
+const COMM_B_IDENTITY: &[u8] = &[
+    0xA8, 0x00, 0x11, 0x6D, 0x00, 0x00, 0x00, 0x00, 0x00, 0x00, 0x00, 0xF7, 0x2A, 0xAA,
+];
+// 4840D6, type codes 4 and 5 without a value
+const UNNAMED: &[u8] = &[
+    0x8D, 0x48, 0x40, 0xD6, 0x20, 0x00, 0x00, 0x00, 0x00, 0x00, 0x00, 0xDD, 0x09, 0xC1,
+];
+
+const SURFACE: &[u8] = &[
+    0x8D, 0x48, 0x40, 0xD6, 0x28, 0x00, 0x00, 0x00, 0x00, 0x00, 0x00, 0x3E, 0xFA, 0x54,
+];
+// Frames that speak for no aircraft.
+const SPOILED: &[u8] = &[
+    0x8D, 0x48, 0x40, 0xD6, 0x20, 0x2C, 0xC3, 0x71, 0xC3, 0x2C, 0xE0, 0x57, 0x60, 0x99,
+];
+
+const SPOILED_REPLY: &[u8] = &[0x5D, 0x48, 0x4F, 0xDE, 0xA2, 0x48, 0x63];
+
+const ZEROS: &[u8] = &[0x5D, 0x00, 0x00, 0x00, 0x64, 0xE7, 0x12];
+
+const ONES: &[u8] = &[0x5D, 0xFF, 0xFF, 0xFF, 0x28, 0xE0, 0x24];
+
+const NOBODY: &[u8] = &[0x00, 0x00, 0x00, 0x00, 0x00, 0x00, 0x00];
+
+const FORMAT_1: &[u8] = &[0x08, 0x00, 0x00, 0x00, 0x00, 0x00, 0x00];
+
+const MANY: Limits = Limits {
+    entries: 16_777_216,
+    aircraft: 512,
+};
+
+const ONE_AIRCRAFT: Limits = Limits {
+    entries: 16,
+    aircraft: 1,
+};
+
+const ONE_ENTRY: Limits = Limits {
+    entries: 1,
+    aircraft: 1,
+};
+
+#[derive(Clone, Copy)]
+enum Call {
+    Tick(u64),
+    Hear(&'static [u8]),
+}
+
+use Call::{Hear, Tick};
+
+type Script = &'static [(Call, Result<u64, Refusal>)];
+
+fn frame(bytes: &[u8]) -> Result<Frame, Fail> {
+    Ok(Frame::from_bytes(bytes).ok_or("no frame")?)
+}
+
+fn once(journal: &mut Journal, call: Call) -> Result<Result<u64, Refusal>, Fail> {
+    match call {
+        Tick(at) => Ok(journal.tick(0, at)),
+        Hear(bytes) => Ok(journal.feed(0, frame(bytes)?)),
+    }
+}
+
+// A call that answers want of memory is made once more.
+fn answer(journal: &mut Journal, call: Call) -> Result<Result<u64, Refusal>, Fail> {
+    match once(journal, call)? {
+        Err(Refusal::NoMemory) => once(journal, call),
+        told => Ok(told),
+    }
+}
+
+// The journal after the calls, each of which answers as the script says.
+fn played(rt: &impl Abort, alloc: Global, limits: Limits, script: Script) -> Result<Journal, Fail>
+    requires { limits.entries ≤ most_entries }
+{
+    let mut journal = Journal::new(alloc, limits);
+    for (call, told) in script {
+        assert_eq!(rt; answer(&mut journal, *call)?, *told);
+    }
+    Ok(journal)
+}
+
+// The journal after the calls, each of which is accepted.
+fn after(rt: &impl Abort, alloc: Global, calls: &[Call]) -> Result<Journal, Fail> {
+    let mut journal = Journal::new(alloc, MANY);
+    for call in calls {
+        assert!(rt; answer(&mut journal, *call)?.is_ok());
+    }
+    Ok(journal)
+}
+
+fn table(journal: &Journal, alloc: Global) -> Result<Vec<Aircraft>, NoMemory> {
+    match journal.all(alloc) {
+        Ok(rows) => Ok(rows),
+        Err(_) => journal.all(alloc),
+    }
+}
+
+fn reserve(journal: &mut Journal) -> Result<(), NoMemory>
+    ensures same { journal.new.log ≡ journal.old.log }
+    ensures ok { OnOk result (length journal.new.log.entries < journal.new.room) }
+{
+    match journal.room() {
+        Ok(()) => Ok(()),
+        Err(_) => journal.room(),
+    }
+}
+
+fn row(journal: &Journal, address: u32) -> Result<Aircraft, Fail> {
+    Ok(journal.aircraft(address).ok_or("no aircraft")?)
+}
+
+// In 1/100,000 degree.
+fn rounded(degrees: Degrees) -> i128 {
+    let den = degrees.den as i128;
+    if den == 0 {
+        return 0;
+    }
+    (degrees.num as i128 * 200_000 + den).div_euclid(2 * den)
+}
+
+// The position of 40621D, which has told no callsign and no squawk.
+fn position(journal: &Journal) -> Result<Option<Position>, Fail> {
+    let told = row(journal, 0x40621D)?;
+    match (told.callsign, told.squawk) {
+        (None, None) => Ok(told.position),
+        _ => Err(Fail::from("a callsign or a squawk")),
+    }
+}
+
+// Its latitude and longitude in 1/100,000 degree.
+fn shown_position(journal: &Journal) -> Result<Option<(i128, i128)>, Fail> {
+    match position(journal)? {
+        Some(position) => Ok(Some((rounded(position.lat), rounded(position.lon)))),
+        None => Ok(None),
+    }
+}
+
+const IN_ORDER: Script = &[
+    (Tick(0), Err(Refusal::NotLater(0))),
+    (Hear(IDENTIFICATION), Ok(0)),
+    (Hear(ALL_CALL), Err(Refusal::JournalFull)),
+    (Hear(SPEED), Err(Refusal::JournalFull)),
+    (Hear(IDENTIFICATION), Err(Refusal::JournalFull)),
+    (Hear(IDENTITY), Err(Refusal::Unknown(0x510AF9))),
+    (Tick(5), Err(Refusal::JournalFull)),
+    (Tick(0), Err(Refusal::NotLater(0))),
+    (Hear(SPOILED), Err(Refusal::BadParity(1))),
+    (Hear(SPOILED_REPLY), Err(Refusal::BadParity(128))),
+    (Hear(ZEROS), Err(Refusal::Unassigned(0))),
+    (Hear(ONES), Err(Refusal::Unassigned(0xFF_FFFF))),
+    (Hear(NOBODY), Err(Refusal::Unknown(0))),
+    (Hear(FORMAT_1), Err(Refusal::Unsupported(1))),
+];
+
+#[test]
+fn refusals_in_their_order(rt: HostRuntime) -> Result<(), Fail> {
+    let journal = played(&rt, rt.alloc(), ONE_ENTRY, IN_ORDER)?;
+    assert_eq!(rt; journal.len(), 1);
+    let first = Entry::Heard {
+        seat: 0,
+        frame: frame(IDENTIFICATION)?,
+    };
+    assert_eq!(rt; journal.get(0), Some(first));
+    assert_eq!(rt; journal.get(1), None);
+    assert_eq!(rt; journal.limits(), ONE_ENTRY);
+    Ok(())
+}
+
+const FULL_TABLE: Script = &[
+    (Hear(IDENTIFICATION), Ok(0)),
+    (Hear(ALL_CALL), Err(Refusal::BookFull)),
+    (Hear(SPEED), Err(Refusal::BookFull)),
+    (Hear(IDENTIFICATION), Ok(1)),
+    (Tick(60_001), Ok(2)),
+    (Hear(ALL_CALL), Ok(3)),
+];
+
+#[test]
+fn a_full_table_takes_another_aircraft_when_one_is_gone(rt: HostRuntime) -> Result<(), Fail> {
+    let journal = played(&rt, rt.alloc(), ONE_AIRCRAFT, FULL_TABLE)?;
+    assert_eq!(rt; journal.aircraft(0x4840D6), None);
+    assert_eq!(rt; Rows::len(&journal), 1);
+    Ok(())
+}
+
+#[test]
+fn aircraft_stand_by_rising_address(rt: HostRuntime) -> Result<(), Fail> {
+    let mut journal = after(&rt, rt.alloc(), &[Hear(IDENTIFICATION), Hear(SPEED)])?;
+    let rows = table(&journal, rt.alloc())?;
+    assert_eq!(rt; rows.len(), 2);
+    assert_eq!(rt; Rows::row(&rows, 0).address, 0x4840D6);
+    assert_eq!(rt; Rows::row(&rows, 1).address, 0x485020);
+    assert_eq!(rt; Rows::len(&journal), 2);
+    assert_eq!(rt; Rows::row(&journal, 0).address, 0x4840D6);
+    assert_eq!(rt; Rows::row(&journal, 1).address, 0x485020);
+    assert_eq!(rt; journal.aircraft(1), None);
+    reserve(&mut journal)?;
+    assert_eq!(rt; journal.len(), 2);
+    Ok(())
+}
+
+#[test]
+fn an_entry_goes_into_the_room_reserved(rt: HostRuntime) -> Result<(), Fail> {
+    let mut journal = Journal::new(rt.alloc(), MANY);
+    reserve(&mut journal)?;
+    journal.push_reserved(Entry::Tick { seat: 3, at: 5 });
+    assert_eq!(rt; journal.get(0), Some(Entry::Tick { seat: 3, at: 5 }));
+    assert_eq!(rt; journal.now(), 5);
+    Ok(())
+}
+
+#[test]
+fn fields_of_one_frame(rt: HostRuntime) -> Result<(), Fail> {
+    let calls = [
+        Hear(SPEED),
+        Hear(AIRSPEED),
+        Hear(EVEN),
+        Hear(UNNAMED),
+        Hear(SURFACE),
+    ];
+    let journal = after(&rt, rt.alloc(), &calls)?;
+    let by_ground = row(&journal, 0x485020)?;
+    let ground = Velocity::Ground {
+        east: -8,
+        north: -159,
+    };
+    assert_eq!(rt; by_ground.velocity, Some(ground));
+    assert_eq!(rt; by_ground.vertical, Some(-832));
+    assert_eq!(rt; by_ground.callsign, None);
+    let by_air = row(&journal, 0xA05F21)?;
+    let air = Velocity::Air {
+        heading: 694,
+        is_true: true,
+        speed: 375,
+    };
+    assert_eq!(rt; by_air.velocity, Some(air));
+    assert_eq!(rt; by_air.vertical, Some(-2304));
+    let at_a_place = row(&journal, 0x40621D)?;
+    assert_eq!(rt; at_a_place.altitude, Some(38_000));
+    assert_eq!(rt; at_a_place.position, None);
+    let sighted = row(&journal, 0x4840D6)?;
+    assert_eq!(rt; sighted.callsign, None);
+    assert_eq!(rt; sighted.altitude, None);
+    assert_eq!(rt; sighted.velocity, None);
+    Ok(())
+}
+
+const OVERLAID: Script = &[
+    (Hear(IDENTITY), Err(Refusal::Unknown(0x510AF9))),
+    (Hear(ALL_CALL), Ok(0)),
+    (Hear(IDENTITY), Ok(1)),
+    (Hear(LOW), Ok(2)),
+    (Hear(INTERROGATED), Err(Refusal::Unknown(0x484FDE))),
+    (Hear(SQUITTER), Ok(3)),
+    (Hear(INTERROGATED), Ok(4)),
+    (Hear(SHORT_AIR), Err(Refusal::Unknown(0x4840D6))),
+    (Hear(LONG_AIR), Err(Refusal::Unknown(0x4840D6))),
+    (Hear(COMM_B_ALTITUDE), Err(Refusal::Unknown(0x4840D6))),
+    (Hear(COMM_B_IDENTITY), Err(Refusal::Unknown(0x4840D6))),
+    (Hear(IDENTIFICATION), Ok(5)),
+    (Hear(COMM_B_IDENTITY), Ok(6)),
+];
+
+#[test]
+fn overlaid_frames_speak_for_aircraft_that_are_live(rt: HostRuntime) -> Result<(), Fail> {
+    let journal = played(&rt, rt.alloc(), MANY, OVERLAID)?;
+    let low = row(&journal, 0x510AF9)?;
+    assert_eq!(rt; low.altitude, Some(-1200));
+    assert_eq!(rt; low.squawk.ok_or("no squawk")?.value(), 0o356);
+    let klm = row(&journal, 0x4840D6)?;
+    assert_eq!(rt; klm.squawk.ok_or("no squawk")?.value(), 0o356);
+    for bytes in [SHORT_AIR, LONG_AIR, COMM_B_ALTITUDE] {
+        let journal = after(&rt, rt.alloc(), &[Hear(IDENTIFICATION), Hear(bytes)])?;
+        assert_eq!(rt; row(&journal, 0x4840D6)?.altitude, Some(32_300));
+    }
+    Ok(())
+}
+
+const LIVE: Script = &[
+    (Hear(ALL_CALL), Ok(0)),
+    (Tick(60_000), Ok(1)),
+    (Hear(IDENTITY), Ok(2)),
+    (Tick(120_001), Ok(3)),
+    (Hear(IDENTITY), Err(Refusal::Unknown(0x510AF9))),
+];
+
+const GONE: Script = &[
+    (Hear(ALL_CALL), Ok(0)),
+    (Tick(60_001), Ok(1)),
+    (Hear(IDENTITY), Err(Refusal::Unknown(0x510AF9))),
+];
+
+#[test]
+fn an_aircraft_is_live_for_60_seconds(rt: HostRuntime) -> Result<(), Fail> {
+    let journal = played(&rt, rt.alloc(), MANY, LIVE)?;
+    assert_eq!(rt; journal.len(), 4);
+    let journal = played(&rt, rt.alloc(), MANY, GONE)?;
+    assert_eq!(rt; Rows::len(&journal), 0);
+    let journal = after(
+        &rt,
+        rt.alloc(),
+        &[Tick(1), Hear(IDENTIFICATION), Tick(60_001)],
+    )?;
+    assert_eq!(rt; Rows::len(&journal), 1);
+    let journal = after(
+        &rt,
+        rt.alloc(),
+        &[Tick(1), Hear(IDENTIFICATION), Tick(60_002)],
+    )?;
+    assert_eq!(rt; Rows::len(&journal), 0);
+    Ok(())
+}
+
+const TICKS: Script = &[
+    (Tick(0), Err(Refusal::NotLater(0))),
+    (Tick(1000), Ok(0)),
+    (Hear(IDENTIFICATION), Ok(1)),
+    (Tick(61_000), Ok(2)),
+];
+
+const LAST_TICK: Script = &[
+    (Tick(1000), Ok(0)),
+    (Hear(IDENTIFICATION), Ok(1)),
+    (Tick(61_000), Ok(2)),
+    (Tick(61_001), Ok(3)),
+    (Tick(61_001), Err(Refusal::NotLater(61_001))),
+    (Tick(u64::MAX), Ok(4)),
+    (Tick(u64::MAX), Err(Refusal::NotLater(u64::MAX))),
+    (Tick(7), Err(Refusal::NotLater(u64::MAX))),
+];
+
+#[test]
+fn ticks_and_ages(rt: HostRuntime) -> Result<(), Fail> {
+    let journal = played(&rt, rt.alloc(), MANY, TICKS)?;
+    let told = row(&journal, 0x4840D6)?;
+    assert_eq!(rt; told.heard, 1000);
+    assert!(rt; told.callsign.ok_or("no callsign")?.bytes() == b"KLM1023".as_slice());
+    assert_eq!(rt; journal.now(), 61_000);
+    let journal = played(&rt, rt.alloc(), MANY, LAST_TICK)?;
+    assert_eq!(rt; Rows::len(&journal), 0);
+    assert_eq!(rt; journal.now(), u64::MAX);
+    Ok(())
+}
+
+#[test]
+fn a_frame_heard_by_two_seats_stands_twice(rt: HostRuntime) -> Result<(), Fail> {
+    let mut journal = after(&rt, rt.alloc(), &[Tick(1), Hear(IDENTIFICATION)])?;
+    let heard = frame(IDENTIFICATION)?;
+    let told = match journal.feed(1, heard) {
+        Err(Refusal::NoMemory) => journal.feed(1, heard),
+        told => told,
+    };
+    assert_eq!(rt; told, Ok(2));
+    let first = Entry::Heard {
+        seat: 0,
+        frame: heard,
+    };
+    let second = Entry::Heard {
+        seat: 1,
+        frame: heard,
+    };
+    assert_eq!(rt; journal.get(1), Some(first));
+    assert_eq!(rt; journal.get(2), Some(second));
+    Ok(())
+}
+
+const BY_ODD: Option<(i128, i128)> = Some((5_226_578, 393_891));
+
+const BY_EVEN: Option<(i128, i128)> = Some((5_225_720, 391_937));
+
+const PAIRS: &[(&[Call], Option<(i128, i128)>)] = &[
+    (&[Hear(EVEN), Hear(ODD)], BY_ODD),
+    (&[Hear(ODD), Hear(EVEN)], BY_EVEN),
+    (&[Hear(EVEN)], None),
+    (&[Tick(1), Hear(EVEN), Tick(10_001), Hear(ODD)], BY_ODD),
+    (&[Tick(1), Hear(EVEN), Tick(10_002), Hear(ODD)], None),
+    (&[Tick(1), Hear(EVEN), Tick(60_001), Hear(ODD)], None),
+    (&[Tick(1), Hear(EVEN), Tick(60_002), Hear(ODD)], None),
+    (
+        &[Tick(1), Hear(EVEN), Tick(5000), Hear(ODD), Tick(65_000)],
+        BY_ODD,
+    ),
+    (
+        &[
+            Tick(1),
+            Hear(EVEN),
+            Tick(5000),
+            Hear(ODD),
+            Tick(9000),
+            Hear(EVEN),
+        ],
+        BY_EVEN,
+    ),
+    (
+        &[
+            Tick(1000),
+            Hear(EVEN),
+            Hear(ODD),
+            Tick(2000),
+            Hear(FAR),
+            Tick(61_000),
+        ],
+        BY_ODD,
+    ),
+    (
+        &[
+            Tick(1000),
+            Hear(EVEN),
+            Hear(ODD),
+            Tick(2000),
+            Hear(FAR),
+            Tick(61_001),
+        ],
+        None,
+    ),
+];
+
+#[test]
+fn positions_of_pairs(rt: HostRuntime) -> Result<(), Fail> {
+    for (calls, shown) in PAIRS {
+        let journal = after(&rt, rt.alloc(), calls)?;
+        assert_eq!(rt; shown_position(&journal)?, *shown);
+    }
+    Ok(())
+}
+
+#[test]
+fn a_position_is_a_fraction_that_is_not_reduced(rt: HostRuntime) -> Result<(), Fail> {
+    let journal = after(&rt, rt.alloc(), &[Hear(EVEN), Hear(ODD)])?;
+    let position = position(&journal)?.ok_or("no position")?;
+    assert_eq!(rt; position.lat.num, 404_184_240);
+    assert_eq!(rt; position.lat.den, 7_733_248);
+    assert_eq!(rt; position.lon.num, 18_069_840);
+    assert_eq!(rt; position.lon.den, 4_587_520);
+    Ok(())
+}
