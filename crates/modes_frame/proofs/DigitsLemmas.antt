@@ -1,11 +1,7 @@
 -- Digits in pairs: the only fault is a bad digit, and its place is within the text.
-use Rattle.std.proofs.Common.{◌≡◌, ℕ, ◌+◌, ◌-◌, ◌*◌, ◌<◌, ◌≤◌, List, [], ◌∷◌, Option, Some, None, Result, Ok, Err, MatchResult, ◌≢◌, length, arith, refl, sym, ◌∙◌, subst, ◌++◌, Bool, true, not, nat_lt, nat_eq, ap, eqb-true, get_or, take, append_assoc, ◌%◌}
+use Rattle.std.proofs.Common.{◌≡◌, ℕ, ◌+◌, ◌-◌, ◌*◌, ◌<◌, ◌≤◌, List, [], ◌∷◌, Option, Some, None, Result, Ok, Err, MatchResult, ◌≢◌, length, arith, refl, sym, ◌∙◌, subst}
 use Rattle.hex.specs.Hex.{decode_pairs, decode_sized, digit_or_error, hex_digit_value, ◌>>=◌}
-use Rattle.std.proofs.lemmas.List.{take_more, take_more_set, take_all}
-use Rattle.std.proofs.Math.ListN.{set}
 use Rattle.modes_frame.specs.Reading.{Decoded}
-use Rattle.modes_frame.specs.LineRules.{Writes}
-use Rattle.modes_frame.proofs.AllBytes.{all_of_width, all_of_width-at}
 use Rattle.hex.specs.declared.error.FromHexError.{FromHexError}
 use Rattle.hex.specs.declared.error.FromHexError.TheVariants.{InvalidHexCharacter, OddLength, InvalidStringLength, OutOfMemory}
 
@@ -77,65 +73,3 @@ module _ (digits bytes new : List ℕ) (even : length digits ≡ 2 * length byte
 
   pub never : (e d : FromHexError) → e ≡ d → IsOther d → Outcome new (Err e) (decode_sized digits (length bytes)) → ⊥
   never e d is other h = no-other (length digits) e new (decode_sized digits (length bytes)) (within digits bytes even) h (λ c k f. subst IsOther (sym is ∙ f) other)
-
--- ---- a table of digits
-
-abbrev is_value : ℕ → Option ℕ → Bool
-is_value v None = not (nat_lt v 16)
-is_value v (Some w) = nat_eq v w
-
-value-told : (v : ℕ) (o : Option ℕ) → is_value v o ≡ true → v < 16 → o ≡ Some v
-value-told v None e h = grind arith
-value-told v (Some w) e h = ap Some (sym (eqb-true v w e))
-
-pub values-at : (table : List ℕ) → all_of_width 8 (λ c. is_value (get_or table c 0) (hex_digit_value c)) ≡ true
-    → (c : ℕ) → c < 256 → get_or table c 0 < 16 → hex_digit_value c ≡ Some (get_or table c 0)
-values-at table all c h small = value-told (get_or table c 0) (hex_digit_value c) (all_of_width-at 8 (λ c. is_value (get_or table c 0) (hex_digit_value c)) all c h) small
-
--- digits that write bytes are decoded to these
-pub Writes-decodes : (i : ℕ) (digits bytes : List ℕ) → Writes digits bytes → decode_pairs i digits ≡ Ok bytes
-unfolding decode_pairs
-Writes-decodes i [] bytes w = ap Ok (sym w)
-Writes-decodes i (high ∷ []) bytes w = absurd w
-Writes-decodes i (high ∷ low ∷ digits) [] w = absurd w
-Writes-decodes i (high ∷ low ∷ digits) (byte ∷ bytes) w =
-    let value : byte ≡ w.0.0 * 16 + w.0.1 = w.0.4 ∙ (omega arith) in
-    (λ j. (digit_or_error high i (w.0.2 j) >>= λ h. digit_or_error low (i + 1) (w.0.3 j) >>= λ l. Ok (h * 16 + l)) >>= λ b. decode_pairs (i + 2) digits >>= λ bs. Ok (b ∷ bs))
-    ∙ (λ j. Writes-decodes (i + 2) digits bytes w.1 j >>= λ bs. Ok ((w.0.0 * 16 + w.0.1) ∷ bs))
-    ∙ ap (λ b. Ok (b ∷ bytes)) (sym value)
-
--- one more pair
-pub Writes-more : (digits bytes : List ℕ) (high low h l : ℕ) → Writes digits bytes → hex_digit_value high ≡ Some h → hex_digit_value low ≡ Some l
-    → Writes (digits ++ high ∷ low ∷ []) (bytes ++ (16 * h + l) ∷ [])
-Writes-more [] bytes high low h l w e f = subst (λ bs. Writes (high ∷ low ∷ []) (bs ++ (16 * h + l) ∷ [])) (sym w) ((h, l, e, f, refl), refl)
-Writes-more (d ∷ []) bytes high low h l w e f = absurd w
-Writes-more (c ∷ d ∷ digits) [] high low h l w e f = absurd w
-Writes-more (c ∷ d ∷ digits) (byte ∷ bytes) high low h l w e f = (w.0, Writes-more digits bytes high low h l w.1 e f)
-
-take-pair : (digits : List ℕ) (i : ℕ) → 2 * i + 1 < length digits
-    → take (2 * (i + 1)) digits ≡ take (2 * i) digits ++ get_or digits (2 * i) 0 ∷ get_or digits (2 * i + 1) 0 ∷ []
-take-pair digits i h =
-    ap (λ n. take n digits) (let e : 2 * (i + 1) ≡ 2 * i + 1 + 1 = omega arith in e)
-    ∙ take_more digits (2 * i + 1) 0 h
-    ∙ ap (λ l. l ++ get_or digits (2 * i + 1) 0 ∷ []) (take_more digits (2 * i) 0 (omega arith))
-    ∙ append_assoc (take (2 * i) digits) (get_or digits (2 * i) 0 ∷ []) (get_or digits (2 * i + 1) 0 ∷ [])
-
--- a pair more of what a loop writes
-pub pair-written : (digits bytes : List ℕ) (i h l : ℕ) → 2 * i + 1 < length digits → i < length bytes → h < 16 → l < 16
-    → Writes (take (2 * i) digits) (take i bytes) → hex_digit_value (get_or digits (2 * i) 0) ≡ Some h → hex_digit_value (get_or digits (2 * i + 1) 0) ≡ Some l
-    → Writes (take (2 * (i + 1)) digits) (take (i + 1) (set bytes i (h % 16 * 16 + l % 16)))
-pair-written digits bytes i h l more room lh ll w e f =
-    let value : 16 * h + l ≡ h % 16 * 16 + l % 16 = omega arith in
-    let pair = Writes-more (take (2 * i) digits) (take i bytes) (get_or digits (2 * i) 0) (get_or digits (2 * i + 1) 0) h l w e f in
-    let set_is : take i bytes ++ (16 * h + l) ∷ [] ≡ take (i + 1) (set bytes i (h % 16 * 16 + l % 16)) =
-    ap (λ n. take i bytes ++ n ∷ []) value ∙ sym (take_more_set bytes i (h % 16 * 16 + l % 16) room) in
-    subst (λ ds. Writes ds (take (i + 1) (set bytes i (h % 16 * 16 + l % 16)))) (sym (take-pair digits i more))
-    (subst (λ bs. Writes (take (2 * i) digits ++ get_or digits (2 * i) 0 ∷ get_or digits (2 * i + 1) 0 ∷ []) bs) set_is pair)
-
--- all that a loop wrote
-pub all-written : (digits bytes : List ℕ) (i : ℕ) → length digits ≡ 2 * length bytes → length bytes ≤ i → Writes (take (2 * i) digits) (take i bytes)
-    → decode_pairs 0 digits ≡ Ok bytes
-all-written digits bytes i even all w =
-    Writes-decodes 0 digits bytes
-    (subst (λ ds. Writes ds bytes) (take_all (2 * i) digits (omega arith))
-    (subst (λ bs. Writes (take (2 * i) digits) bs) (take_all i bytes all) w))

@@ -1,6 +1,6 @@
 use Rattle.std.proofs.Common.{arith}
 use Rattle.modes_frame.proofs.DigitsLemmas.{bad_digit, never}
-use Rattle.modes_frame.proofs.digits.decode_or_place.Goals as goal
+use Rattle.modes_frame.proofs.digits.decode_digits.Goals as goal
 
 pub overflow_cast-result : goal.overflow_cast-result
 overflow_cast-result c =
