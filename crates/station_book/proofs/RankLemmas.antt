@@ -75,6 +75,25 @@ rising_at (x ∷ xs) up zero (suc j) d le lt = let above : x < get_or xs j d = o
 rising_at (x ∷ xs) up (suc i) zero d le lt = absurd (omega arith)
 rising_at (x ∷ xs) up (suc i) (suc j) d le lt = rising_at xs up.1 i j d (omega arith) (omega arith)
 
+-- where an address stands among rising ones is its rank
+below_at : (xs : List ℕ) → IsRising xs → (k i d e : ℕ) → k < i → i < length xs → get_or xs k d < get_or xs i e
+below_at [] up k i d e lt within = absurd (omega arith)
+below_at (x ∷ xs) up k zero d e lt within = absurd (omega arith)
+below_at (x ∷ xs) up zero (suc i) d e lt within = over_at x xs i e up.0 (omega arith)
+below_at (x ∷ xs) up (suc k) (suc i) d e lt within = below_at xs up.1 k i d e (omega arith) (omega arith)
+
+same_within : (xs : List ℕ) (i d e : ℕ) → i < length xs → get_or xs i d ≡ get_or xs i e
+same_within [] i d e within = absurd (omega arith)
+same_within (x ∷ xs) zero d e within = refl
+same_within (x ∷ xs) (suc i) d e within = same_within xs i d e (omega arith)
+
+pub rank_where_it_stands : (xs : List ℕ) (a i d : ℕ) → IsRising xs → i < length xs → get_or xs i d ≡ a → IsRank xs a i
+rank_where_it_stands xs a i d up within same = record {
+  in_range = omega (arith, within);
+  before = λ k e lt. let below : get_or xs k e < get_or xs i d = below_at xs up k i e d lt within in omega (arith, same);
+  after = λ e lt. let here : get_or xs i e ≡ get_or xs i d = same_within xs i e d within in omega (arith, same);
+}
+
 -- a search by halves gives the rank
 pub rank_from_point : (xs : List ℕ) (a i : ℕ) → i ≤ length xs → IsPartitionPoint (λ x. ltb x a ≡ true) (λ x. ltb x a ≡ false) xs i → IsRank xs a i
 rank_from_point xs a i le point = record {

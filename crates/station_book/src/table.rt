@@ -1,6 +1,6 @@
 //! The tracks of the live aircraft, by rising address.
 
-ghost use Rattle.std.specs.Prelude.{◌≡◌, ℕ, ◌<◌, ◌≤◌, ◌==◌, List, [], length, map, slice_get, None, Some};
+ghost use Rattle.std.specs.Prelude.{◌≡◌, IsTrue, Ok, ◌<◌, ◌≤◌, ◌==◌, List, [], length, map, slice_get, None, Some};
 ghost use Rattle.station_journal.proofs.RisingLemmas.{IsRising};
 ghost use Rattle.station_book.specs.Tracks.{updated, find_track, put_track, swept, track_or_blank, address_of, IsRank, IsPlace, HeardFrom};
 
@@ -8,6 +8,9 @@ use crate::tracks::{Track, blank, update};
 use arrayvec::ArrayVec;
 use modes_fields::Fields;
 use std::marker::Model;
+
+/// How many hints are kept, one for each value of an address' low bits.
+const HINTS: usize = 2048;
 
 /// At most `N` tracks by rising address.
 #[derive(Drop)]
@@ -17,6 +20,8 @@ pub struct Table<const N: usize> {
     tracks: ArrayVec<Track, N>,
     // No track was heard before this moment, so most ticks have nothing to sweep.
     oldest: u64,
+    // Where an address with these low bits stood when it was last heard. A search is made only where it moved.
+    hints: [u16; HINTS],
 }
 
 impl<const N: usize> Model for Table<N> {
@@ -40,6 +45,7 @@ impl<const N: usize> Table<N> {
             addresses: ArrayVec::new(),
             tracks: ArrayVec::new(),
             oldest: u64::MAX,
+            hints: [0; HINTS],
         }
     }
 
@@ -70,6 +76,29 @@ impl<const N: usize> Table<N> {
     pub fn locate(&self, address: u32) -> Result<usize, usize>
         ensures { IsPlace self.now address result }
     {
+        let hint = usize::from(self.hints[address as usize % HINTS]);
+        if self.stands_at(hint, address) {
+            Ok(hint)
+        } else {
+            self.search(address)
+        }
+    }
+
+    fn stands_at(&self, place: usize, address: u32) -> bool
+        ensures { IsTrue result → IsPlace self.now address (Ok place) }
+    {
+        if place < self.addresses.len() {
+            let there = self.addresses[place];
+            if there == address {
+                return true;
+            }
+        }
+        false
+    }
+
+    fn search(&self, address: u32) -> Result<usize, usize>
+        ensures { IsPlace self.now address result }
+    {
         let rank = rank_of(self.addresses.as_slice(), address);
         if rank < self.addresses.len() {
             let there = self.addresses[rank];
@@ -88,7 +117,10 @@ impl<const N: usize> Table<N> {
     {
         self.oldest = self.oldest.min(now);
         match place {
-            Ok(rank) => update(&mut self.tracks[rank], now, fields),
+            Ok(rank) => {
+                self.hints[address as usize % HINTS] = u16::try_from(rank).unwrap_or(0);
+                update(&mut self.tracks[rank], now, fields);
+            }
             Err(rank) => {
                 let mut track = blank(address);
                 update(&mut track, now, fields);

@@ -2,7 +2,7 @@ use Rattle.std.proofs.Common.{◌≡◌, ◌≢◌, ◌<◌, ◌≤◌, length, 
 use Rattle.station_book.specs.Tracks.{address_of, IsRank}
 use Rattle.station_book.proofs.TableLemmas.{rising_addresses}
 use Rattle.station_book.proofs.RankLemmas.{place_at_rank, place_at_gap}
-use Rattle.station_book.proofs.table.Table.locate.Goals as goal
+use Rattle.station_book.proofs.table.Table.search.Goals as goal
 
 pub rank_of-rank-requires : goal.rank_of-rank-requires
 rank_of-rank-requires g c = rw (c.as_slice.ensures.value, c.self.invariant.addresses) (rising_addresses c.self.inside.tracks.items c.self.invariant.rising)
