@@ -1,5 +1,5 @@
 -- From what `clap` ensures of its getters to the job.
-use Rattle.std.proofs.Common.{◌≡◌, ◌∙◌, ℕ, List, Option, Some, None, Result, Ok, true, map, option_map, refl, sym, ap, ap₂, length, codes}
+use Rattle.std.proofs.Common.{inl, inr, ◌≡◌, ◌∙◌, ℕ, List, Option, Some, None, Result, Ok, true, map, option_map, refl, sym, ap, ap₂, length, codes}
 use Rattle.std.specs.Prelude.{unwrap_or}
 use Rattle.std.specs.Box.{box_value}
 use Rattle.clap.specs.declared.parser.matches.ArgMatches.{ArgMatches}
@@ -10,12 +10,18 @@ use Rattle.std.proofs.lemmas.List.{length-map}
 use Rattle.std.proofs.lemmas.Option.{none-some}
 use Rattle.std.specs.Str.Parse.{ParsesUnsigned}
 use Rattle.clap.specs.Words.{ReadsOne, Row, Text, found_of, is_simple, rows_of, subcommand_name_of, subcommand_of, subcommand_rows_of}
+use Rattle.clap.specs.Faults.{is_simple_and_free}
+use Rattle.station_main.proofs.JobLemmas.{NamesJobOf}
 use Rattle.clap.proofs.OnLiterals.{clap_on_literals}
 use Rattle.station_main.specs.Command.{GivesJob, NamesJob, number, station}
 
 pub is_simple-station : is_simple station ≡ true
 unfolding clap_on_literals
 is_simple-station = refl
+
+pub is_free-station : is_simple_and_free station ≡ true
+unfolding clap_on_literals
+is_free-station = refl
 
 -- what `get_one` read is the number of the text
 pub reads_number : {E : Type 0} (k : ℕ) (G : List ℕ → Result ℕ E → Type 0) (one : Option (List ℕ)) (every : ℕ)
@@ -50,3 +56,16 @@ pub names_run : (words : List Text) (rows : List Row) → subcommand_of station 
     → (job : Job) → GivesJob rows job → NamesJob words job
 names_run words rows is Replay given = absurd given
 names_run words rows is (Run milliseconds paths) given = (rows, is, given)
+
+name_first : {B : Type 0} (f : B → Text) (g : B → List Row) (o : Option B) → option_map {T = Text × List Row} (λ p. p.0) (option_map {U = Text × List Row} (λ b. (f b, g b)) o) ≡ option_map f o
+name_first f g None = refl
+name_first f g (Some b) = refl
+
+pub name_of_rows : (m : ArgMatches) → option_map {T = Text × List Row} (λ p. p.0) (subcommand_rows_of m) ≡ subcommand_name_of m
+name_of_rows m = name_first (λ b. (out-SubCommand (box_value b)).name.now) (λ b. rows_of (found_of (out-SubCommand (box_value b)).matches)) (out-ArgMatches m).subcommand
+
+-- the job that isn't `run` is `replay`
+pub names_replay : (words : List Text) (name : Text) → option_map {T = Text × List Row} (λ p. p.0) (subcommand_of station words) ≡ Some name → NamesJobOf name → (name ≡ codes "run" → ⊥)
+    → option_map {T = Text × List Row} (λ p. p.0) (subcommand_of station words) ≡ Some (codes "replay")
+names_replay words name said (inl replay_is) other = said ∙ ap Some replay_is
+names_replay words name said (inr run_is) other = absurd (other run_is)

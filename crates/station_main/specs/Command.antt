@@ -1,7 +1,7 @@
 -- The command line as `clap` reads it, and the job that its words name.
 use Rattle.std.specs.Prelude.{◌≡◌, ◌≤◌, ℕ, List, Some, codes, true, false, pos, map, length, option_map, ⊤}
 use Rattle.std.specs.String.{string_bytes}
-use Rattle.std.specs.Str.Parse.{digits_value, without_leading_plus}
+use Rattle.std.specs.Str.Parse.{IsNumeral, digits_value, without_leading_plus}
 use Rattle.clap.specs.Words.{App, Row, Rule, Text, all_of, new_app, new_rule, one_of, subcommand_of}
 use Rattle.clap.specs.Words.{app_of, rule_of, with_rule, with_subcommand}
 use Rattle.clap.specs.declared.builder.arg.Arg.{Arg}
@@ -61,6 +61,18 @@ pub record GivesRun (rows : List Row) (milliseconds : ℕ) (paths : List Text) :
   pub every : one_of (codes "every") rows ≡ Some text
   pub every_is : milliseconds ≡ number text
   pub paths_are : all_of (codes "path") rows ≡ Some paths
+
+-- what the words of `run` give where they are refused for nothing
+pub record IsGiven (rows : List Row) : Type 0 where
+  pub text : Text
+  pub every : one_of (codes "every") rows ≡ Some text
+  pub numeral : IsNumeral 10 (without_leading_plus text)
+  pub least : 1 ≤ number text
+  pub most : number text ≤ 3600000
+  pub paths : List Text
+  pub paths_are : all_of (codes "path") rows ≡ Some paths
+  pub some : 1 ≤ length paths
+  pub few : length paths ≤ 8
 
 abbrev pub GivesJob : List Row → Job → Type 0
 GivesJob rows Replay = ⊥

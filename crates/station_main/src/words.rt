@@ -1,12 +1,13 @@
 // The words of the command line.
-ghost use Rattle.clap.specs.Words.{found_of, rows_of};
-ghost use Rattle.station_main.specs.Command.{GivesJob, IsArg, IsInRange, IsMade, NamesJob, every, path, replay, run, station};
-ghost use Rattle.std.specs.Prelude.{◌≡◌, IfOk, map};
+ghost use Rattle.clap.specs.Words.{found_of, rows_of, takes};
+ghost use Rattle.station_main.specs.Command.{GivesJob, IsArg, IsGiven, IsInRange, IsMade, NamesJob, every, path, replay, run, station};
+ghost use Rattle.station_main.specs.declared.words.WordsFault.TheVariants.{NoMemory};
+ghost use Rattle.std.specs.Prelude.{◌≡◌, IfErr, IfOk, map, true};
 ghost use Rattle.std.specs.String.{string_bytes};
 
 use clap::error::ErrorKind;
 use clap::{Arg, ArgAction, ArgMatches, Command, value_parser};
-use std::alloc::{AllocError, AllocFailed, Global};
+use std::alloc::{AllocError, Global};
 
 /// What the words ask for.
 #[derive(Debug, Drop)]
@@ -28,18 +29,24 @@ pub enum WordsFault {
 }
 
 impl From<AllocError> for WordsFault {
+    ghost use Rattle.std.specs.Prelude.{◌≡◌};
+    ghost use Rattle.station_main.specs.declared.words.WordsFault.TheVariants.{NoMemory};
+
+    ghost from_gives = { λ _ fault. fault ≡ NoMemory };
+
     fn from(_error: AllocError) -> WordsFault {
         WordsFault::NoMemory
     }
 }
 
-impl<T: Drop> From<AllocFailed<T>> for WordsFault {
-    fn from(_error: AllocFailed<T>) -> WordsFault {
-        WordsFault::NoMemory
-    }
-}
-
 impl From<clap::Error> for WordsFault {
+    ghost use Rattle.clap.specs.Words.{kind_of};
+    ghost use Rattle.clap.specs.declared.error.kind.ErrorKind.TheVariants.{OutOfMemory};
+    ghost use Rattle.std.specs.Prelude.{◌≡◌};
+    ghost use Rattle.station_main.specs.declared.words.WordsFault.TheVariants.{NoMemory};
+
+    ghost from_gives = { λ error fault. kind_of error ≡ OutOfMemory → fault ≡ NoMemory };
+
     fn from(error: clap::Error) -> WordsFault {
         if error.kind() == ErrorKind::OutOfMemory {
             return WordsFault::NoMemory;
@@ -50,35 +57,35 @@ impl From<clap::Error> for WordsFault {
 
 const MOST_PATHS: usize = 8;
 
-const MOST_MILLISECONDS: u32 = 3_600_000;
-
 /// Reads the words of a command line, of which the first is the program's name: the subcommand, and for `run` the
-/// values of `--every` and PATH, as `clap` reads them.
+/// values of `--every` and PATH, as `clap` reads them. Words that the command line takes are refused for want of
+/// memory alone.
 pub fn read_words<'a>(alloc: Global, words: &'a [&'a str]) -> Result<Job, WordsFault>
     ensures job { IfOk result (NamesJob (map (λ w. w.now) words.entry.now)) }
     ensures range { IfOk result IsInRange }
+    ensures taken { IfErr result (λ fault. takes station (map (λ w. w.now) words.entry.now) ≡ true → fault ≡ NoMemory) }
 {
     let matches = station_command(alloc)?.try_get_matches_from(words)?;
-    match matches.subcommand() {
-        Some(("replay", _)) => Ok(Job::Replay),
-        Some(("run", given)) => read_run(alloc, given),
-        _ => Err(not_given(alloc)),
+    let Some((name, given)) = matches.subcommand() else {
+        unreachable!()
+    };
+    if name == "run" {
+        return Ok(read_run(alloc, given)?);
     }
+    Ok(Job::Replay)
 }
 
-fn read_run(alloc: Global, given: &ArgMatches<'_>) -> Result<Job, WordsFault>
+fn read_run(alloc: Global, given: &ArgMatches<'_>) -> Result<Job, AllocError>
+    requires { IsGiven (rows_of (found_of given.now)) }
     ensures job { IfOk result (λ job. GivesJob (rows_of (found_of given.now)) job) }
     ensures range { IfOk result IsInRange }
 {
     let Some(every) = given.get_one::<u32>("every") else {
-        return Err(not_given(alloc));
+        unreachable!()
     };
     let Some(texts) = given.get_strs("path") else {
-        return Err(not_given(alloc));
+        unreachable!()
     };
-    if every < 1 || every > MOST_MILLISECONDS || texts.is_empty() || texts.len() > MOST_PATHS {
-        return Err(not_given(alloc));
-    }
     let paths = owned(alloc, texts)?;
     Ok(Job::Run { every, paths })
 }
@@ -91,21 +98,6 @@ fn owned(alloc: Global, texts: &[&str]) -> Result<Vec<String>, AllocError>
         paths.push(String::from_str(alloc, text)?)?;
     }
     Ok(paths)
-}
-
-// `clap` has checked already that the values are there and in their ranges, so this never comes.
-fn not_given(alloc: Global) -> WordsFault {
-    let mut command = match station_command(alloc) {
-        Ok(command) => command,
-        Err(_) => return WordsFault::NoMemory,
-    };
-    match command.error(
-        ErrorKind::InvalidValue,
-        "one --every and 1 to 8 PATHs are wanted",
-    ) {
-        Ok(error) => WordsFault::Clap(error),
-        Err(_) => WordsFault::NoMemory,
-    }
 }
 
 fn station_command<'a>(alloc: Global) -> Result<Command<'a>, AllocError>

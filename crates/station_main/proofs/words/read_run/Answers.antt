@@ -1,9 +1,22 @@
-use Rattle.std.proofs.Common.{rules, ◌∙◌, Some, sym, ap, codes}
+use Rattle.std.proofs.Common.{◌≡◌, ◌∙◌, ℕ, List, Some, map, sym, ap, arith, length, Bor, codes}
+use Rattle.std.proofs.lemmas.List.{length-map}
 use Rattle.std.specs.Str.Parse.{ExplainsUnsignedError, HasUnsignedDigitsIfOk, ParsesUnsigned}
 use Rattle.clap.specs.Words.{found_of, one_text}
 use Rattle.clap.proofs.WalkLemmas.{one_text-rows, raw_values-rows}
+use Rattle.station_main.specs.Command.{number}
+use Rattle.station_main.proofs.RunLemmas.{none_some, some_same}
 use Rattle.station_main.proofs.WordsLemmas.{reads_number, same_length}
 use Rattle.station_main.proofs.words.read_run.Goals as goal
+
+pub unreachable-requires : goal.unreachable-requires
+unreachable-requires c =
+    let one = one_text-rows (found_of c.args.given.now) (codes "every") ∙ c.requires.every in
+    let failed = c.in_default.ensures.value c.requires.text one in
+    failed.1.0 (c.requires.numeral, omega (arith, c.requires.most))
+
+pub unreachable-requires-in_default-get_strs : goal.unreachable-requires-in_default-get_strs
+unreachable-requires-in_default-get_strs c =
+    none_some c.requires.paths (c.in_default-get_strs.ensures ∙ raw_values-rows (found_of c.args.given.now) (codes "path") ∙ c.requires.paths_are)
 
 pub returns-clause-job : goal.returns-clause-job
 returns-clause-job c =
@@ -18,5 +31,12 @@ returns-clause-job c =
 
 pub returns-clause-range : goal.returns-clause-range
 returns-clause-range c =
-    let same = same_length _ _ c.in_ok-paths.paths.items c.in-Some-get_strs.texts.now c.in_ok-paths.ensures in
-    (search rules, search rules, rw same (search rules), rw same (search rules))
+    let found = found_of c.args.given.now in
+    let read = reads_number 32 (λ t r. ParsesUnsigned 32 10 t r × ExplainsUnsignedError 10 t r × HasUnsignedDigitsIfOk t r) (one_text found (codes "every")) c.in-Some.every (λ t r g. g.0) c.in-Some.ensures.none c.in-Some.ensures.value in
+    let text_is = some_same read.0 c.requires.text (sym read.1 ∙ one_text-rows found (codes "every") ∙ c.requires.every) in
+    let every_is : c.in-Some.every ≡ number c.requires.text = read.2 ∙ ap number text_is in
+    let texts = c.in-Some-get_strs.texts.now in
+    let texts_are = some_same (map {A = Bor (List ℕ)} {B = List ℕ} (λ t. t.now) texts) c.requires.paths (c.in-Some-get_strs.ensures ∙ raw_values-rows found (codes "path") ∙ c.requires.paths_are) in
+    let count : length c.in_ok-paths.paths.items ≡ length c.requires.paths =
+    same_length _ _ c.in_ok-paths.paths.items texts c.in_ok-paths.ensures ∙ sym (length-map texts _) ∙ ap length texts_are in
+    (rw every_is c.requires.least, rw every_is c.requires.most, rw count c.requires.some, rw count c.requires.few)

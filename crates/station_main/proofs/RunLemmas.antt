@@ -1,0 +1,324 @@
+-- What `run` is given where its words are refused for nothing.
+use Rattle.std.proofs.Common.{rules, ◌≡◌, ◌∙◌, ◌≤◌, ◌⊎◌, inl, inr, ℕ, Bool, true, false, zero, suc, List, [], ◌∷◌, ◌++◌, Option, Some, None, refl, sym, ap, ap₂, subst, ◌==◌, length, codes, drop, arith, pos}
+use Rattle.std.specs.Prelude.{⊤, nat_lt, int_le, unwrap_or, slice_get, option_and_then, neg_ℤ, find, is_some, not, ◌&&◌, ◌||◌, cond, fold, option_map, if◌then◌else◌}
+use Rattle.std.specs.Option.{option_map_or}
+use Rattle.std.specs.Str.{bytes_eq}
+use Rattle.clap.specs.Faults.{entered_fault, fault_of, level_fault, use_fault, set_fault, repeat_fault, values_fault, check_fault, walk_fault, settle_fault, defaults_fault}
+use Rattle.clap.specs.declared.error.kind.ErrorKind.{ErrorKind}
+use Rattle.clap.specs.declared.error.kind.ErrorKind.TheVariants as kind
+use Rattle.clap.specs.Facts.{explicit_source}
+use Rattle.std.proofs.lemmas.Bool.{eqb-true, leb-true, ltb-false}
+use Rattle.clap.specs.Kinds.{Kinds, or_else, range_kinds, value_kinds, values_kinds}
+use Rattle.clap.specs.Simple.{help_shape, App, Shape, built, built_leaf, entered, filled, help_rule, inherited, label_of, marked_built, rows_at, argument_words, names_of, with_index, with_leaf_noted}
+use Rattle.clap.specs.Takes.{is_given}
+use Rattle.clap.specs.ValueTests.{fits_i64, is_numeral, is_signed_in}
+use Rattle.clap.specs.Values.{read_as}
+use Rattle.clap.specs.Lexer.{without_minus}
+use Rattle.std.specs.Str.Parse.{IsNumeral, digits_value, starts_with_minus, without_leading_plus}
+use Rattle.clap.proofs.ValueTestLemmas.{accepts-Accepts}
+use Rattle.clap.proofs.WalkLemmas.{both}
+use Rattle.clap.specs.Walk.{row_text, Row, Rule, Text, answers_to, at_row, has_row, used, used_as, finished, settled, walk, walk_from, more_values, nothing_held, with_default, rows_after, without}
+use Rattle.clap.specs.Words.{subcommand_of}
+use Rattle.clap.specs.declared.builder.action.ArgAction.TheVariants.{Set}
+use Rattle.clap.specs.declared.builder.value_parser.Reading.{Reading}
+use Rattle.clap.specs.declared.builder.value_parser.Reading.TheVariants.{WithoutMinus, AsWritten}
+use Rattle.clap.specs.declared.builder.value_parser.ValueParser.TheVariants.{Signed}
+use Rattle.clap.specs.declared.parser.matches.ValueSource.TheVariants.{CommandLine}
+use Rattle.clap.proofs.OnLiterals.{clap_on_literals}
+use Rattle.station_main.specs.Command.{IsGiven, every, number, path, replay, run, station}
+use Rattle.station_main.proofs.WalkedLemmas.{Keeps, both_none, not_none, settles, walks}
+
+-- ---- rows
+
+-- the row of `--every` or of PATH, as a use leaves it that is refused for nothing
+abbrev pub Good : Row → Type 0
+Good r = ((r.id ≡ codes "every") × (r.reading ≡ WithoutMinus) × ((v : Text) × (r.values ≡ v ∷ []) × (is_signed_in (pos 1) (pos 3600000) v ≡ true)))
+    ⊎ ((r.id ≡ codes "path") × (1 ≤ length r.values) × (length r.values ≤ 8))
+
+abbrev pub Fine : List Row → Type 0
+Fine [] = ⊤
+Fine (r ∷ rs) = Good r × Fine rs
+
+fine_snoc : (rows : List Row) (r : Row) → Fine rows → Good r → Fine (rows ++ r ∷ [])
+fine_snoc [] r f g = (g, f)
+fine_snoc (x ∷ xs) r f g = (f.0, fine_snoc xs r f.1 g)
+
+pub some_same : {X : Type 0} (x y : X) → Some x ≡ Some y → x ≡ y
+some_same x y e = ap (λ o. option_map_or (λ z. z) o x) e
+
+pub none_some : {X : Type 0} (x : X) → None ≡ Some x → ⊥
+none_some x e = let bad : false ≡ true = ap is_some e in absurd (search rules)
+
+fine_step : (b : Bool) (x : Row) (rest : Option Row) (r : Row) (test : Row → Bool) → test x ≡ b → cond b (Some x) rest ≡ Some r → Good x
+    → (rest ≡ Some r → Good r × (test r ≡ true)) → Good r × (test r ≡ true)
+fine_step true x rest r test is e good others = let same = some_same x r e in (subst Good same good, subst (λ y. test y ≡ true) same is)
+fine_step false x rest r test is e good others = others e
+
+fine_found : (rows : List Row) (test : Row → Bool) (r : Row) → find test rows ≡ Some r → Fine rows → Good r × (test r ≡ true)
+fine_found [] test r e f = absurd (none_some r e)
+fine_found (x ∷ xs) test r e f = fine_step (test x) x (find test xs) r test refl e f.0 (λ found. fine_found xs test r found f.1)
+
+absent_step : (b : Bool) (r : Row) (rs missing : List Row) (id : Text) (change : Row → List Row) → (b || has_row id rs) ≡ false
+    → (has_row id rs ≡ false → at_row id change missing rs ≡ rs ++ missing)
+    → (if b then change r ++ rs else r ∷ at_row id change missing rs) ≡ r ∷ (rs ++ missing)
+absent_step true r rs missing id change e others = absurd (search rules)
+absent_step false r rs missing id change e others = ap (λ t. r ∷ t) (others e)
+
+-- where no row has the id, a change of its row is a new row
+absent : (id : Text) (change : Row → List Row) (missing rows : List Row) → has_row id rows ≡ false → at_row id change missing rows ≡ rows ++ missing
+absent id change missing [] e = refl
+absent id change missing (r ∷ rs) e = absent_step (bytes_eq r.id id) r rs missing id change e (absent id change missing rs)
+
+append_nil : (rows : List Row) → rows ++ [] ≡ rows
+append_nil [] = refl
+append_nil (r ∷ rs) = ap (λ t. r ∷ t) (append_nil rs)
+
+row_for : Text → Reading → List Text → Row
+row_for id how values = record { id = id; values = values; count = None; source = Some CommandLine; reading = how }
+
+set_adds : (id : Text) (how : Reading) (values : List Text) (rows : List Row) → has_row id rows ≡ false
+    → used_as Set id how values rows ≡ rows ++ row_for id how values ∷ []
+unfolding row_for
+set_adds id how values rows none =
+    let bare : without id rows ≡ rows = absent id (λ _. []) [] rows none ∙ append_nil rows in
+    let none_there : has_row id (without id rows) ≡ false = ap (has_row id) bare ∙ none in
+    absent id (more_values CommandLine values) (row_for id how values ∷ []) (without id rows) none_there ∙ ap (λ t. t ++ row_for id how values ∷ []) bare
+
+-- ---- uses
+
+not_repeated : (b : Bool) → (if b && true then kind.ArgumentConflict ∷ [] else []) ≡ [] → b ≡ false
+not_repeated true e = absurd (not_none _ _ e)
+not_repeated false e = refl
+
+accepted : (b : Bool) (k : ErrorKind) → (if b then [] else k ∷ []) ≡ [] → b ≡ true
+accepted true k e = refl
+accepted false k e = absurd (not_none _ _ e)
+
+abbrev pub every_rule : Rule
+every_rule = with_index 1 (filled every)
+
+abbrev pub path_rule : Rule
+path_rule = with_index 1 (filled path)
+
+abbrev pub help_flag : Rule
+help_flag = with_index 2 (filled help_rule)
+
+exactly_by : (b : Bool) (n : ℕ) → (1 == n) ≡ b → (if b then [] else kind.WrongNumberOfValues ∷ []) ≡ [] → 1 ≡ n
+exactly_by true n is e = eqb-true 1 n is
+exactly_by false n is e = absurd (not_none _ _ e)
+
+none_given : (b : Bool) (rest : Kinds) → (if b then kind.InvalidValue ∷ [] else rest) ≡ [] → rest ≡ []
+none_given true rest e = absurd (not_none _ _ e)
+none_given false rest e = e
+
+exactly_one : (n : ℕ) → range_kinds 1 1 n ≡ [] → 1 ≡ n
+exactly_one n e = exactly_by (1 == n) n refl (none_given (n == 0) (if 1 == n then [] else kind.WrongNumberOfValues ∷ []) e)
+
+keeps_every : (values : List Text) (rows : List Row) → use_fault false every_rule values rows ≡ [] → Fine rows → Fine (used every_rule values rows)
+unfolding row_for
+keeps_every [] rows e f = absurd (not_none _ _ e)
+keeps_every (v ∷ []) rows e f =
+    let parts = both_none (repeat_fault false (codes "every") rows) (values_kinds false (Signed (pos 1) (pos 3600000)) (v ∷ [])) e in
+    let none = not_repeated (has_row (codes "every") rows) parts.0 in
+    let passes = accepted (is_signed_in (pos 1) (pos 3600000) v) _ (both_none (value_kinds false (Signed (pos 1) (pos 3600000)) v) [] parts.1).0 in
+    subst Fine (sym (set_adds (codes "every") WithoutMinus (v ∷ []) rows none)) (fine_snoc rows (row_for (codes "every") WithoutMinus (v ∷ [])) f (inl (refl, refl, (v, refl, passes))))
+keeps_every (v ∷ w ∷ vs) rows e f =
+    let counted = both_none (range_kinds 1 1 (length (v ∷ w ∷ vs))) (set_fault false every_rule (v ∷ w ∷ vs) rows) e in
+    let one = exactly_one (length (v ∷ w ∷ vs)) counted.0 in
+    absurd (omega (arith, one))
+
+at_most : (b : Bool) (n : ℕ) → nat_lt 8 n ≡ b → (if b then kind.TooManyValues ∷ [] else []) ≡ [] → n ≤ 8
+at_most true n is e = absurd (not_none _ _ e)
+at_most false n is e = ltb-false 8 n is
+
+enough : (b : Bool) (rest : Kinds) → (if b then kind.TooFewValues ∷ [] else rest) ≡ [] → rest ≡ []
+enough true rest e = absurd (not_none _ _ e)
+enough false rest e = e
+
+at_most_eight : (n : ℕ) → range_kinds 1 8 n ≡ [] → n ≤ 8
+at_most_eight n e =
+    let many = if nat_lt 8 n then kind.TooManyValues ∷ [] else [] in
+    at_most (nat_lt 8 n) n refl (enough (nat_lt n 1) many (none_given (n == 0) (if nat_lt n 1 then kind.TooFewValues ∷ [] else many) e))
+
+keeps_path : (values : List Text) (rows : List Row) → use_fault false path_rule values rows ≡ [] → Fine rows → Fine (used path_rule values rows)
+unfolding row_for
+keeps_path [] rows e f = absurd (not_none _ _ e)
+keeps_path (v ∷ vs) rows e f =
+    let counted = both_none (range_kinds 1 8 (length (v ∷ vs))) (set_fault false path_rule (v ∷ vs) rows) e in
+    let few = at_most_eight (length (v ∷ vs)) counted.0 in
+    let parts = both_none (repeat_fault false (codes "path") rows) (values_fault path_rule (v ∷ vs)) counted.1 in
+    let none = not_repeated (has_row (codes "path") rows) parts.0 in
+    subst Fine (sym (set_adds (codes "path") AsWritten (v ∷ vs) rows none)) (fine_snoc rows (row_for (codes "path") AsWritten (v ∷ vs)) f (inr (refl, omega arith, few)))
+
+keeps_help : (values : List Text) (rows : List Row) → use_fault false help_flag values rows ≡ [] → Fine rows → Fine (used help_flag values rows)
+keeps_help values rows e f = absurd (not_none _ _ (both_none (range_kinds 0 0 (length values)) (kind.DisplayHelp ∷ []) e).1)
+
+abbrev pub Among : {X : Type 0} → X → List X → Type 0
+Among a [] = ⊥
+Among a (x ∷ xs) = (x ≡ a) ⊎ Among a xs
+
+among_step : {X : Type 0} (b : Bool) (x : X) (rest : Option X) (xs : List X) (a : X) → cond b (Some x) rest ≡ Some a → (rest ≡ Some a → Among a xs) → (x ≡ a) ⊎ Among a xs
+among_step true x rest xs a e others = inl (some_same x a e)
+among_step false x rest xs a e others = inr (others e)
+
+pub among : {X : Type 0} (test : X → Bool) (xs : List X) (a : X) → find test xs ≡ Some a → Among a xs
+among test [] a e = absurd (none_some a e)
+among test (x ∷ xs) a e = among_step (test x) x (find test xs) xs a e (among test xs a)
+
+abbrev run_rules : List Rule
+run_rules = every_rule ∷ path_rule ∷ help_flag ∷ []
+
+keeps_among : (a : Rule) (values : List Text) (rows : List Row) → Among a run_rules → use_fault false a values rows ≡ [] → Fine rows → Fine (used a values rows)
+keeps_among a values rows (inl same) e f = subst (λ b. Fine (used b values rows)) same (keeps_every values rows (subst (λ b. use_fault false b values rows ≡ []) (sym same) e) f)
+keeps_among a values rows (inr (inl same)) e f = subst (λ b. Fine (used b values rows)) same (keeps_path values rows (subst (λ b. use_fault false b values rows ≡ []) (sym same) e) f)
+keeps_among a values rows (inr (inr (inl same))) e f = subst (λ b. Fine (used b values rows)) same (keeps_help values rows (subst (λ b. use_fault false b values rows ≡ []) (sym same) e) f)
+keeps_among a values rows (inr (inr (inr none))) e f = absurd none
+
+-- ---- the words of `run`
+
+abbrev pub run_shape : Shape
+run_shape = built_leaf (inherited (with_leaf_noted (marked_built station.top)) run.top)
+
+keeps_run : Keeps run_shape.rules run_shape.args_override_self Fine
+keeps_run a values rows found e f = keeps_among a values rows (among found.0 run_shape.rules a found.1) e f
+
+either_way : (b : Bool) (rows : List Row) → (if b then rows else rows) ≡ rows
+either_way true rows = refl
+either_way false rows = refl
+
+finished_is : (rows : List Row) → fold with_default rows run_rules ≡ rows
+finished_is rows =
+    let first = either_way (has_row (codes "every") rows) rows in
+    let second = either_way (has_row (codes "path") rows) rows in
+    let third = either_way (has_row (codes "help") rows) rows in
+    ap (λ t. fold with_default t (path_rule ∷ help_flag ∷ [])) first ∙ ap (λ t. fold with_default t (help_flag ∷ [])) second ∙ third
+
+both_given : (b c : Bool) (k : ErrorKind) → (if not b || (not c || false) then k ∷ [] else []) ≡ [] → (b ≡ true) × (c ≡ true)
+both_given true true k e = (refl, refl)
+both_given true false k e = absurd (not_none _ _ e)
+both_given false c k e = absurd (not_none _ _ e)
+
+there : (o : Option Row) → option_map_or (λ r. explicit_source r.source) o false ≡ true → (r : Row) × (o ≡ Some r)
+there None e = absurd (search rules)
+there (Some r) e = (r, refl)
+
+abbrev HasBoth : List Row → Type 0
+HasBoth rows = Fine rows × (is_given (codes "every") rows ≡ true) × (is_given (codes "path") rows ≡ true)
+
+run_level : (words : List Text) → level_fault run_shape [] nothing_held words false [] ≡ [] → HasBoth (rows_after run_shape.rules [] words)
+run_level words e =
+    let end = (walk run_shape.rules [] nothing_held words).held in
+    let walked_on = both_none (walk_fault run_shape [] (walk_from nothing_held) words) (or_else (settle_fault run_shape.rules false end) (or_else (defaults_fault (settled run_shape.rules end).rows run_shape.rules) (check_fault run_shape (finished run_shape.rules end) false))) e in
+    let ended = both_none (settle_fault run_shape.rules false end) (or_else (defaults_fault (settled run_shape.rules end).rows run_shape.rules) (check_fault run_shape (finished run_shape.rules end) false)) walked_on.1 in
+    let checked = both_none (defaults_fault (settled run_shape.rules end).rows run_shape.rules) (check_fault run_shape (finished run_shape.rules end) false) ended.1 in
+    let fine_end = walks run_shape Fine keeps_run [] (walk_from nothing_held) words walked_on.0 tt in
+    let fine_settled = settles run_shape Fine keeps_run end ended.0 fine_end in
+    let fine = subst Fine (sym (finished_is (settled run_shape.rules end).rows)) fine_settled in
+    let rows = finished run_shape.rules end in
+    let given = both_given (is_given (codes "every") rows) (is_given (codes "path") rows) kind.MissingRequiredArgument checked.1 in
+    (fine, given.0, given.1)
+
+-- ---- from the whole line down to `run`
+
+record Level (subs : List Shape) (name : Text) (rows : List Row) : Type 0 where
+  shape : Shape
+  words : List Text
+  is_among : Among shape subs
+  name_is : shape.name ≡ name
+  rows_are : rows_after shape.rules [] words ≡ rows
+  passes : level_fault shape [] nothing_held words false [] ≡ []
+
+level_found : (o : Option Shape) (test : Shape → Bool) (subs : List Shape) (words : List Text) (name : Text) (rows : List Row) → find test subs ≡ o
+    → option_map (λ s. rows_at s words) o ≡ Some (name, rows) → option_map_or (λ s. level_fault s [] nothing_held words false []) o [] ≡ [] → Level subs name rows
+level_found None test subs words name rows is e f = absurd (none_some (name, rows) e)
+level_found (Some s) test subs words name rows is e f =
+    let same = some_same (rows_at s words) (name, rows) e in
+    record { shape = s; words = words; is_among = among test subs s is; name_is = ap (λ q. q.0) same; rows_are = ap (λ q. q.1) same; passes = f }
+
+level_down : (a : App) (stop : Option (Text × List Text)) (name : Text) (rows : List Row) → entered a stop ≡ Some (name, rows) → entered_fault a stop ≡ [] → Level a.subs name rows
+level_down a None name rows e f = absurd (none_some (name, rows) e)
+level_down a (Some p) name rows e f = level_found (find (λ s. answers_to p.0 (label_of s)) a.subs) _ a.subs p.1 name rows refl e f
+
+abbrev pub replay_shape : Shape
+replay_shape = built_leaf (inherited (with_leaf_noted (marked_built station.top)) replay.top)
+
+run_among : (s : Shape) (words : List Text) (rows : List Row) → Among s (replay_shape ∷ run_shape ∷ built_leaf help_shape ∷ []) → s.name ≡ codes "run"
+    → level_fault s [] nothing_held words false [] ≡ [] → rows_after s.rules [] words ≡ rows → HasBoth rows
+run_among s words rows (inl same) name_is passes rows_are = let bad : 6 ≡ 3 = ap (λ (t : Text). length t) (ap (λ (t : Shape). t.name) same ∙ name_is) in absurd (omega (arith, bad))
+run_among s words rows (inr (inl same)) name_is passes rows_are =
+    let level = subst (λ t. level_fault t [] nothing_held words false [] ≡ []) (sym same) passes in
+    subst HasBoth (ap (λ t. rows_after t.rules [] words) same ∙ rows_are) (run_level words level)
+run_among s words rows (inr (inr (inl same))) name_is passes rows_are = let bad : 4 ≡ 3 = ap (λ (t : Text). length t) (ap (λ (t : Shape). t.name) same ∙ name_is) in absurd (omega (arith, bad))
+run_among s words rows (inr (inr (inr none))) name_is passes rows_are = absurd none
+
+pub shapes_are : (built station).subs ≡ replay_shape ∷ run_shape ∷ built_leaf help_shape ∷ []
+unfolding clap_on_literals
+shapes_are = refl
+
+has_both : (words : List Text) (rows : List Row) → subcommand_of station words ≡ Some (codes "run", rows) → fault_of station words ≡ [] → HasBoth rows
+has_both words rows named passes =
+    let a = built station in
+    let stop = (walk a.top.rules (names_of a) nothing_held (argument_words station words)).stopped in
+    let below = (both_none (entered_fault a stop) _ (both_none (walk_fault a.top (names_of a) (walk_from nothing_held) (argument_words station words)) _ passes).1).0 in
+    let level = level_down a stop (codes "run") rows named below in
+    run_among level.shape level.words rows (subst (Among level.shape) shapes_are level.is_among) level.name_is level.passes level.rows_are
+
+-- ---- the values
+
+not_below : (n : ℕ) → int_le (pos 1) (neg_ℤ (pos n)) ≡ true → ⊥
+not_below zero e = absurd (search rules)
+not_below (suc n) e = absurd (search rules)
+
+signed_facts : (b : Bool) (v : Text)
+    → (let ds = cond b (drop 1 v) (without_leading_plus v) in
+    let z = cond b (neg_ℤ (pos (digits_value 10 ds))) (pos (digits_value 10 ds)) in
+    is_numeral ds && (fits_i64 z && (int_le (pos 1) z && int_le z (pos 3600000)))) ≡ true
+    → (b ≡ false) × (1 ≤ number v) × (number v ≤ 3600000)
+signed_facts true v e = absurd (not_below (digits_value 10 (drop 1 v)) (both _ _ (both _ _ (both _ _ e).1).1).0)
+signed_facts false v e =
+    let bounds = both _ _ (both _ _ (both _ _ e).1).1 in
+    (refl, leb-true 1 (number v) bounds.0, leb-true (number v) 3600000 bounds.1)
+
+kept : (b : Bool) (x : ℕ) (xs : Text) → b ≡ false → unwrap_or (if b then Some xs else None) (x ∷ xs) ≡ x ∷ xs
+kept true x xs e = absurd (search rules)
+kept false x xs e = refl
+
+no_minus : (v : Text) → starts_with_minus v ≡ false → without_minus v ≡ v
+no_minus [] e = refl
+no_minus (x ∷ xs) e = kept (x == 45) x xs e
+
+every_value : (r : Row) → Good r → bytes_eq r.id (codes "every") ≡ true → (v : Text) × (row_text r ≡ Some (without_minus v)) × (is_signed_in (pos 1) (pos 3600000) v ≡ true)
+every_value r (inl h) e =
+    (h.2.0, ap₂ {C = Option Text} (λ how vs. option_map (read_as how) (slice_get vs 0)) h.1 h.2.1, h.2.2)
+every_value r (inr h) e = let bad : false ≡ true = ap (λ t. bytes_eq t (codes "every")) (sym h.0) ∙ e in absurd (search rules)
+
+path_values : (r : Row) → Good r → bytes_eq r.id (codes "path") ≡ true → (1 ≤ length r.values) × (length r.values ≤ 8)
+path_values r (inl h) e = let bad : false ≡ true = ap (λ t. bytes_eq t (codes "path")) (sym h.0) ∙ e in absurd (search rules)
+path_values r (inr h) e = (h.1, h.2)
+
+given_values : (rows : List Row) → HasBoth rows → IsGiven rows
+given_values rows h =
+    let every_row = there (find (λ r. bytes_eq r.id (codes "every")) rows) h.1 in
+    let every_good = fine_found rows (λ r. bytes_eq r.id (codes "every")) every_row.0 every_row.1 h.0 in
+    let found = every_value every_row.0 every_good.0 every_good.1 in
+    let v = found.0 in
+    let facts = signed_facts (starts_with_minus v) v found.2 in
+    let plain_v = no_minus v facts.0 in
+    let numeral = subst (λ b. IsNumeral 10 (cond b (drop 1 v) (without_leading_plus v))) facts.0 (accepts-Accepts false (Signed (pos 1) (pos 3600000)) v found.2).0 in
+    let path_row = there (find (λ r. bytes_eq r.id (codes "path")) rows) h.2 in
+    let path_good = fine_found rows (λ r. bytes_eq r.id (codes "path")) path_row.0 path_row.1 h.0 in
+    let counts = path_values path_row.0 path_good.0 path_good.1 in
+    record {
+      text = v;
+      every = ap (option_and_then row_text) every_row.1 ∙ found.1 ∙ ap (λ t. Some t) plain_v;
+      numeral = numeral;
+      least = facts.1;
+      most = facts.2;
+      paths = path_row.0.values;
+      paths_are = ap (option_map (λ r. r.values)) path_row.1;
+      some = counts.0;
+      few = counts.1;
+    }
+
+pub run_given : (words : List Text) (rows : List Row) → subcommand_of station words ≡ Some (codes "run", rows) → fault_of station words ≡ [] → IsGiven rows
+run_given words rows named passes = given_values rows (has_both words rows named passes)
