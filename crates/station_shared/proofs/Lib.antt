@@ -1,8 +1,10 @@
+pub mod Adding
 pub mod DeskLemmas
 pub mod DigitLemmas
 pub mod DrawingLemmas
 pub mod EndLemmas
 pub mod EndingLemmas
+pub mod Fronts
 pub mod PumpLemmas
 pub mod RowLemmas
 pub mod WalkLemmas

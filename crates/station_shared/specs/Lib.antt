@@ -4,6 +4,7 @@ pub mod Counting
 pub mod Desk
 pub mod Drawing
 pub mod Feeds
+pub mod History
 pub mod Pump
 pub mod Replay
 pub mod Source

@@ -7,6 +7,7 @@ pub mod desk;
 mod fakes;
 pub mod feed;
 pub mod from_read;
+pub mod history;
 pub mod pumping;
 pub mod replaying;
 pub mod source;
