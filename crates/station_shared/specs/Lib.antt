@@ -7,4 +7,5 @@ pub mod Feeds
 pub mod History
 pub mod Pump
 pub mod Replay
+pub mod Seats
 pub mod Source

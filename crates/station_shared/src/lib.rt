@@ -8,6 +8,7 @@ mod fakes;
 pub mod feed;
 pub mod from_read;
 pub mod history;
+pub mod names;
 pub mod pumping;
 pub mod replaying;
 pub mod source;

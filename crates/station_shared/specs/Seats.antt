@@ -1,0 +1,74 @@
+-- What seats, receipts and looks are seen as, and what a call tells of them.
+use Rattle.std.specs.Prelude.{◌≡◌, ℕ, zero, suc, ◌+◌, ◌⊎◌, eqb, cond, List, [], ◌∷◌, ◌++◌, None}
+use mathlib.Core.List.{IsPrefix}
+use Rattle.station_journal.specs.declared.Entry.{Entry}
+use Rattle.station_journal.specs.declared.Entry.TheVariants.{Tick, Heard}
+use Rattle.station_journal.specs.declared.Limits.{Limits}
+use Rattle.station_journal.specs.declared.Refusal.{Refusal}
+use Rattle.station_journal.specs.Log.{Log, IsLegal, refusal_of, verdict_behind}
+use Rattle.station_shared.specs.History.{Known}
+
+-- the journal of a station under these limits, which began without entries
+abbrev pub log_of : Limits → List Entry → Log
+log_of limits entries = record { base = 0; limits = limits; entries = entries }
+
+-- the number of the seat whose entry it is
+abbrev pub seat_of : Entry → ℕ
+seat_of (Tick seat at) = seat
+seat_of (Heard seat frame) = seat
+
+-- how many entries a seat has
+abbrev pub count_of : ℕ → List Entry → ℕ
+count_of seat [] = 0
+count_of seat (e ∷ es) = cond (eqb (seat_of e) seat) 1 0 + count_of seat es
+
+-- a seat: its number, how many of its calls were accepted, and what it has seen of the journal
+pub record Seated : Type 0 where
+  pub number : ℕ
+  pub accepted : ℕ
+  pub seen : List Entry
+
+-- after all that had been seen, the entry was accepted, as one more of the seat's; the receipt and the seat know just
+-- that list
+pub record Accepted (limits : Limits) (old new : Seated) (e : Entry) (receipt : Known) : Type 0 where
+  pub mid : List Entry
+  pub seen : new.seen ≡ mid ++ e ∷ []
+  pub legal : IsLegal (log_of limits mid)
+  pub later : IsPrefix old.seen mid
+  pub verdict : refusal_of (log_of limits mid) e ≡ None
+  pub list : receipt.entries ≡ new.seen
+  pub accepted : new.accepted ≡ old.accepted + 1
+  pub number : new.number ≡ old.number
+
+-- the refusal is that of a journal which begins with all that had been seen; want of memory is told only where the
+-- verdict accepts there
+pub record Refused (limits : Limits) (old new : Seated) (e : Entry) (refusal : Refusal) : Type 0 where
+  pub later : IsPrefix old.seen new.seen
+  pub legal : IsLegal (log_of limits new.seen)
+  pub verdict : refusal_of (log_of limits new.seen) e ≡ verdict_behind refusal
+  pub accepted : new.accepted ≡ old.accepted
+  pub number : new.number ≡ old.number
+
+-- the same seat, which has seen all that it had seen, and all of this list, and is one of the two
+pub record Told (old new : Seated) (list : List Entry) : Type 0 where
+  pub later : IsPrefix old.seen new.seen
+  pub told : IsPrefix list new.seen
+  pub one : (new.seen ≡ old.seen) ⊎ (new.seen ≡ list)
+  pub accepted : new.accepted ≡ old.accepted
+  pub number : new.number ≡ old.number
+
+-- the same seat, which has seen as much or more, and all of it legal
+pub record Looks (limits : Limits) (old new : Seated) : Type 0 where
+  pub later : IsPrefix old.seen new.seen
+  pub legal : IsLegal (log_of limits new.seen)
+  pub accepted : new.accepted ≡ old.accepted
+  pub number : new.number ≡ old.number
+
+-- a seat that has seen nothing
+abbrev pub newcomer : ℕ → Seated
+newcomer n = record { number = n; accepted = 0; seen = [] }
+
+-- seats that have seen nothing, numbered from 0
+abbrev pub newcomers : ℕ → List Seated
+newcomers zero = []
+newcomers (suc n) = newcomers n ++ newcomer n ∷ []
