@@ -1,4 +1,7 @@
 pub mod Adding
+pub mod Beginnings
+pub mod Closing
+pub mod Counts
 pub mod DeskLemmas
 pub mod DigitLemmas
 pub mod DrawingLemmas

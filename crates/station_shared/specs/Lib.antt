@@ -1,4 +1,5 @@
 pub mod Calls
+pub mod Closing
 pub mod Command
 pub mod Counting
 pub mod Desk

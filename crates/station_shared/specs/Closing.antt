@@ -1,0 +1,46 @@
+-- What the seats given at a close say of the journal.
+use Rattle.std.specs.Prelude.{◌≡◌, ℕ, zero, suc, ◌<◌, ◌≤◌, eqb, cond, fold, List, [], ◌∷◌, ◌++◌, length, count_by, sum, sum_by}
+use mathlib.Core.List.{IsPrefix}
+use Rattle.station_journal.specs.declared.Entry.{Entry}
+use Rattle.station_journal.specs.declared.Limits.{Limits}
+use Rattle.station_journal.specs.Log.{IsLegal}
+use Rattle.station_shared.specs.Seats.{Seated, log_of, count_of}
+
+-- the fact holds of each seat
+abbrev pub EachSeat : (Seated → Type 0) → List Seated → Type 0
+EachSeat P [] = Unit {0}
+EachSeat P (s ∷ seats) = P s × EachSeat P seats
+
+-- the numbers of the seats are those below n, each once
+pub record EachOnce (n : ℕ) (seats : List Seated) : Type 0 where
+  pub as_many : length seats ≡ n
+  pub below : EachSeat (λ s. s.number < n) seats
+  pub once : (k : ℕ) → k < n → count_by (λ s. eqb k s.number) seats ≡ 1
+
+-- what is kept of each seat
+abbrev pub Backed : List Entry → Seated → Type 0
+Backed es s = IsPrefix s.seen es × (s.accepted ≤ count_of s.number es)
+
+-- the accepted calls of the last seat with this number
+abbrev pub accepted_at : ℕ → List Seated → ℕ
+accepted_at k seats = fold (λ d s. cond (eqb k s.number) s.accepted d) 0 seats
+
+-- the accepted calls by seat number
+abbrev pub accepted_by : ℕ → List Seated → List ℕ
+accepted_by zero seats = []
+accepted_by (suc n) seats = accepted_by n seats ++ accepted_at n seats ∷ []
+
+-- how often each number below n stands in the list
+abbrev pub counts_below : ℕ → List Entry → List ℕ
+counts_below zero es = []
+counts_below (suc n) es = counts_below n es ++ count_of n es ∷ []
+
+-- the journal is legal and begins with all that each seat has seen, and has no entry but the accepted calls of the
+-- seats: as many of each number as that seat was accepted
+pub record Closes (limits : Limits) (n : ℕ) (es : List Entry) (seats : List Seated) : Type 0 where
+  pub legal : IsLegal (log_of limits es)
+  pub seen : EachSeat (λ s. IsPrefix s.seen es) seats
+  pub total : sum_by (λ s. s.accepted) seats ≡ length es
+  pub each : EachSeat (λ s. count_of s.number es ≡ s.accepted) seats
+  pub by_number : accepted_by n seats ≡ counts_below n es
+  pub all : sum (accepted_by n seats) ≡ length es
