@@ -3,84 +3,20 @@
 ghost use Rattle.std.specs.Prelude.{◌≡◌, ◌<◌, ◌≤◌, length, OnOk};
 ghost use Rattle.station_journal.specs.Log.{most_entries};
 
+mod known;
+mod positions;
+
+use crate::tests::known::{
+    AIRSPEED, ALL_CALL, COMM_B_ALTITUDE, COMM_B_IDENTITY, EVEN, FORMAT_1, IDENTIFICATION, IDENTITY,
+    INTERROGATED, LONG_AIR, LOW, NOBODY, ONES, SHORT_AIR, SPEED, SPOILED, SPOILED_REPLY, SQUITTER,
+    SURFACE, UNNAMED, ZEROS,
+};
 use crate::{Aircraft, Entry, Journal, Limits, NoMemory, Refusal, Rows};
-use modes_cpr::{Degrees, Position};
 use modes_fields::Velocity;
 use modes_frame::Frame;
 use std::alloc::Global;
 use std::process::Abort;
 use std::test::Fail;
-
-// 4840D6, callsign KLM1023
-const IDENTIFICATION: &[u8] = &[
-    0x8D, 0x48, 0x40, 0xD6, 0x20, 0x2C, 0xC3, 0x71, 0xC3, 0x2C, 0xE0, 0x57, 0x60, 0x98,
-];
-// 40621D, an even place at 38,000 feet, and an odd one
-const EVEN: &[u8] = &[
-    0x8D, 0x40, 0x62, 0x1D, 0x58, 0xC3, 0x82, 0xD6, 0x90, 0xC8, 0xAC, 0x28, 0x63, 0xA7,
-];
-
-const ODD: &[u8] = &[
-    0x8D, 0x40, 0x62, 0x1D, 0x58, 0xC3, 0x86, 0x43, 0x5C, 0xC4, 0x12, 0x69, 0x2A, 0xD6,
-];
-// 40621D, an even place that gives no position with the odd one
-const FAR: &[u8] = &[
-    0x8D, 0x40, 0x62, 0x1D, 0x58, 0xC3, 0x80, 0x00, 0x00, 0x00, 0x00, 0x53, 0x36, 0x8B,
-];
-// 485020, its speed over ground
-const SPEED: &[u8] = &[
-    0x8D, 0x48, 0x50, 0x20, 0x99, 0x44, 0x09, 0x94, 0x08, 0x38, 0x17, 0x5B, 0x28, 0x4F,
-];
-// A05F21, its heading and airspeed
-const AIRSPEED: &[u8] = &[
-    0x8D, 0xA0, 0x5F, 0x21, 0x9B, 0x06, 0xB6, 0xAF, 0x18, 0x94, 0x00, 0xCB, 0xC3, 0x3F,
-];
-// 510AF9: an all-call reply, and its squawk 0356 and altitude -1200 under an overlaid address
-const ALL_CALL: &[u8] = &[0x5D, 0x51, 0x0A, 0xF9, 0xA8, 0xD8, 0xBC];
-
-const IDENTITY: &[u8] = &[0x2A, 0x00, 0x51, 0x6D, 0x49, 0x2B, 0x80];
-
-const LOW: &[u8] = &[0x20, 0x00, 0x01, 0x00, 0xDF, 0x61, 0x26];
-// 484FDE: all-call replies under an interrogator code and without
-const INTERROGATED: &[u8] = &[0x5D, 0x48, 0x4F, 0xDE, 0xA2, 0x48, 0xF5];
-
-const SQUITTER: &[u8] = &[0x5D, 0x48, 0x4F, 0xDE, 0xA2, 0x48, 0xE3];
-// 4840D6 under an overlaid address: altitude 32,300 in formats 0, 16 and 20, squawk 0356 in 21
-const SHORT_AIR: &[u8] = &[0x00, 0x00, 0x14, 0xB4, 0x96, 0xB1, 0x48];
-
-const LONG_AIR: &[u8] = &[
-    0x80, 0x00, 0x14, 0xB4, 0x00, 0x00, 0x00, 0x00, 0x00, 0x00, 0x00, 0x3E, 0xAE, 0x64,
-];
-
-const COMM_B_ALTITUDE: &[u8] = &[
-    0xA0, 0x00, 0x14, 0xB4, 0x00, 0x00, 0x00, 0x00, 0x00, 0x00, 0x00, 0xCF, 0x19, 0x1A,
-];
-
-const COMM_B_IDENTITY: &[u8] = &[
-    0xA8, 0x00, 0x11, 0x6D, 0x00, 0x00, 0x00, 0x00, 0x00, 0x00, 0x00, 0xF7, 0x2A, 0xAA,
-];
-// 4840D6, type codes 4 and 5 without a value
-const UNNAMED: &[u8] = &[
-    0x8D, 0x48, 0x40, 0xD6, 0x20, 0x00, 0x00, 0x00, 0x00, 0x00, 0x00, 0xDD, 0x09, 0xC1,
-];
-
-const SURFACE: &[u8] = &[
-    0x8D, 0x48, 0x40, 0xD6, 0x28, 0x00, 0x00, 0x00, 0x00, 0x00, 0x00, 0x3E, 0xFA, 0x54,
-];
-// Frames that speak for no aircraft.
-const SPOILED: &[u8] = &[
-    0x8D, 0x48, 0x40, 0xD6, 0x20, 0x2C, 0xC3, 0x71, 0xC3, 0x2C, 0xE0, 0x57, 0x60, 0x99,
-];
-
-const SPOILED_REPLY: &[u8] = &[0x5D, 0x48, 0x4F, 0xDE, 0xA2, 0x48, 0x63];
-
-const ZEROS: &[u8] = &[0x5D, 0x00, 0x00, 0x00, 0x64, 0xE7, 0x12];
-
-const ONES: &[u8] = &[0x5D, 0xFF, 0xFF, 0xFF, 0x28, 0xE0, 0x24];
-
-const NOBODY: &[u8] = &[0x00, 0x00, 0x00, 0x00, 0x00, 0x00, 0x00];
-
-const FORMAT_1: &[u8] = &[0x08, 0x00, 0x00, 0x00, 0x00, 0x00, 0x00];
 
 const MANY: Limits = Limits {
     entries: 16_777_216,
@@ -165,32 +101,6 @@ fn reserve(journal: &mut Journal) -> Result<(), NoMemory>
 
 fn row(journal: &Journal, address: u32) -> Result<Aircraft, Fail> {
     Ok(journal.aircraft(address).ok_or("no aircraft")?)
-}
-
-// In 1/100,000 degree.
-fn rounded(degrees: Degrees) -> i128 {
-    let den = degrees.den as i128;
-    if den == 0 {
-        return 0;
-    }
-    (degrees.num as i128 * 200_000 + den).div_euclid(2 * den)
-}
-
-// The position of 40621D, which has told no callsign and no squawk.
-fn position(journal: &Journal) -> Result<Option<Position>, Fail> {
-    let told = row(journal, 0x40621D)?;
-    match (told.callsign, told.squawk) {
-        (None, None) => Ok(told.position),
-        _ => Err(Fail::from("a callsign or a squawk")),
-    }
-}
-
-// Its latitude and longitude in 1/100,000 degree.
-fn shown_position(journal: &Journal) -> Result<Option<(i128, i128)>, Fail> {
-    match position(journal)? {
-        Some(position) => Ok(Some((rounded(position.lat), rounded(position.lon)))),
-        None => Ok(None),
-    }
 }
 
 const IN_ORDER: Script = &[
@@ -419,76 +329,5 @@ fn a_frame_heard_by_two_seats_stands_twice(rt: HostRuntime) -> Result<(), Fail> 
     };
     assert_eq!(rt; journal.get(1), Some(first));
     assert_eq!(rt; journal.get(2), Some(second));
-    Ok(())
-}
-
-const BY_ODD: Option<(i128, i128)> = Some((5_226_578, 393_891));
-
-const BY_EVEN: Option<(i128, i128)> = Some((5_225_720, 391_937));
-
-const PAIRS: &[(&[Call], Option<(i128, i128)>)] = &[
-    (&[Hear(EVEN), Hear(ODD)], BY_ODD),
-    (&[Hear(ODD), Hear(EVEN)], BY_EVEN),
-    (&[Hear(EVEN)], None),
-    (&[Tick(1), Hear(EVEN), Tick(10_001), Hear(ODD)], BY_ODD),
-    (&[Tick(1), Hear(EVEN), Tick(10_002), Hear(ODD)], None),
-    (&[Tick(1), Hear(EVEN), Tick(60_001), Hear(ODD)], None),
-    (&[Tick(1), Hear(EVEN), Tick(60_002), Hear(ODD)], None),
-    (
-        &[Tick(1), Hear(EVEN), Tick(5000), Hear(ODD), Tick(65_000)],
-        BY_ODD,
-    ),
-    (
-        &[
-            Tick(1),
-            Hear(EVEN),
-            Tick(5000),
-            Hear(ODD),
-            Tick(9000),
-            Hear(EVEN),
-        ],
-        BY_EVEN,
-    ),
-    (
-        &[
-            Tick(1000),
-            Hear(EVEN),
-            Hear(ODD),
-            Tick(2000),
-            Hear(FAR),
-            Tick(61_000),
-        ],
-        BY_ODD,
-    ),
-    (
-        &[
-            Tick(1000),
-            Hear(EVEN),
-            Hear(ODD),
-            Tick(2000),
-            Hear(FAR),
-            Tick(61_001),
-        ],
-        None,
-    ),
-];
-
-#[test]
-fn positions_of_pairs(rt: HostRuntime) -> Result<(), Fail> {
-    for (calls, shown) in PAIRS {
-        let journal = after(&rt, rt.alloc(), calls)?;
-        assert_eq!(rt; shown_position(&journal)?, *shown);
-    }
-    Ok(())
-}
-
-#[test]
-fn a_position_is_a_fraction_that_is_not_reduced(rt: HostRuntime) -> Result<(), Fail> {
-    let journal = after(&rt, rt.alloc(), &[Hear(EVEN), Hear(ODD)])?;
-    let position = position(&journal)?.ok_or("no position")?;
-    assert_eq!(rt; position.lat.num, 404_184_240);
-    assert_eq!(rt; position.lat.den, 7_733_248);
-    assert_eq!(rt; position.lon.num, 18_069_840);
-    assert_eq!(rt; position.lon.den, 4_587_520);
     Ok(())
 }
