@@ -10,4 +10,5 @@ pub mod EndingLemmas
 pub mod Fronts
 pub mod PumpLemmas
 pub mod RowLemmas
+pub mod Rules
 pub mod WalkLemmas

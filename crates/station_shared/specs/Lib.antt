@@ -9,4 +9,5 @@ pub mod History
 pub mod Pump
 pub mod Replay
 pub mod Seats
+pub mod Shown
 pub mod Source

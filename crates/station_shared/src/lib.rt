@@ -11,6 +11,8 @@ pub mod history;
 pub mod names;
 pub mod pumping;
 pub mod replaying;
+pub mod rule;
+pub mod shown;
 pub mod source;
 pub mod tally;
 

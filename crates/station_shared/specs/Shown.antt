@@ -1,0 +1,69 @@
+-- What readers look at, and the rule over it.
+use Rattle.std.specs.Prelude.{◌≡◌, ℕ, ◌⊎◌, List, [], ◌∷◌, Option, Some, None, IfSome}
+use mathlib.Core.Option.{some}
+use lib.ListN.{get_elem?}
+use Rattle.station_journal.specs.declared.Entry.{Entry}
+use Rattle.station_journal.specs.declared.Limits.{Limits}
+use Rattle.station_journal.specs.Log.{IsLegal}
+use Rattle.station_book.specs.State.{State as BookState}
+use Rattle.station_book.specs.Matching.{Matches}
+use Rattle.station_shared.specs.History.{Known, Name}
+use Rattle.station_shared.specs.Seats.{log_of}
+use Rattle.station_shared.specs.declared.shown.Mark.{Mark}
+
+-- what is published: a book, the beginning of the history that it stands for, and the limits of the station, once it has any
+pub record Sheet : Type 0 where
+  pub book : BookState
+  pub front : Known
+  pub limits : Option Limits
+
+abbrev pub sheet : BookState → Known → Option Limits → Sheet
+sheet book front limits = record { book = book; front = front; limits = limits }
+
+-- the entries are legal under the limits of the station, where it has any
+abbrev pub LegalUnder : Option Limits → List Entry → Type 0
+LegalUnder None entries = Unit {0}
+LegalUnder (Some limits) entries = IsLegal (log_of limits entries)
+
+-- the book, of at most n aircraft, matches the beginning that it stands for, which is legal
+pub record IsRight (n : ℕ) (s : Sheet) : Type 0 where
+  pub matched : Matches n 0 s.book s.front.entries
+  pub legal : LegalUnder s.limits s.front.entries
+
+-- what is known is of the history that is published, and of its limits
+pub record IsOfSheet (s : Sheet) (k : Mark) : Type 0 where
+  pub name : k.front.name ≡ s.front.name
+  pub limits : s.limits ≡ Some k.limits
+
+-- what is published is right, and who knows a station at all knows this one
+pub record IsPublished (n : ℕ) (s : Sheet) (all : List (Option Mark)) : Type 0 where
+  pub right : IsRight n s
+  pub views : (seat : ℕ) (k : Mark) → get_elem? all seat ≡ some (Some k) → IsOfSheet s k
+
+-- what is known after what is published was seen: nothing before the station has limits
+abbrev pub marked : Known → Option Limits → Option Mark
+marked front None = None
+marked front (Some limits) = Some (record { front = front; limits = limits })
+
+-- what a step tells that sees what is published afterwards
+pub record SawPublished (n : ℕ) (old : Option Mark) (s : Sheet) (new : Option Mark) : Type 0 where
+  pub knows : new ≡ marked s.front s.limits
+  pub right : IsRight n s
+  pub known : IfSome old (IsOfSheet s)
+
+-- one may be published after the other: it is right, and of the same station, where there was one
+pub record Follows (n : ℕ) (old new : Sheet) : Type 0 where
+  pub right : IsRight n old → IsRight n new
+  pub same : (old.limits ≡ None) ⊎ ((new.limits ≡ old.limits) × (new.front.name ≡ old.front.name))
+
+-- the view knows this history and these limits
+pub record IsOf (history : Name) (most : Limits) (view : Option Mark) : Type 0 where
+  pub mark : Mark
+  pub is : view ≡ Some mark
+  pub name : mark.front.name ≡ history
+  pub limits : mark.limits ≡ most
+
+-- the fact holds of each item
+abbrev pub AllOf : {A : Type 0} → (A → Type 0) → List A → Type 0
+AllOf P [] = Unit {0}
+AllOf P (x ∷ xs) = P x × AllOf P xs

@@ -1,0 +1,39 @@
+//! What is published to readers: two copies of it, of which the desk changes the one that nobody reads.
+use crate::history::Front;
+use left_right::Absorb;
+use station_book::Book;
+use station_journal::Limits;
+use std::alloc::AllocError;
+
+/// A book, the beginning of the history that it stands for, and the limits of the station, once it has any.
+#[derive(Drop)]
+pub struct Shown<const N: usize> {
+    pub book: Book<N>,
+    pub front: Front,
+    pub limits: Option<Limits>,
+}
+
+/// What a reader knows of a station. No value of it is made.
+#[derive(Drop)]
+pub struct Mark {
+    pub front: Front,
+    pub limits: Limits,
+}
+
+/// An operation of which none is logged: the desk brings the copies up itself.
+#[derive(Drop)]
+pub struct Unlogged;
+
+impl<const N: usize> Absorb<Unlogged> for Shown<N> {
+    type State = ();
+
+    ghost state = { λ s. tt };
+
+    ghost applied = { λ s op. s };
+
+    ghost never_fails = { Unit {0} };
+
+    fn absorb_first(&mut self, _operation: &Unlogged, _other: &Shown<N>) -> Result<(), AllocError> {
+        Ok(())
+    }
+}
