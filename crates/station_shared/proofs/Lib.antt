@@ -11,4 +11,6 @@ pub mod Fronts
 pub mod PumpLemmas
 pub mod RowLemmas
 pub mod Rules
+pub mod SeatRuns
+pub mod Sequences
 pub mod WalkLemmas

@@ -36,7 +36,7 @@ Feeds-then gives x y z [] gs (u ∷ us) vs p q = absurd p
 Feeds-then gives x y z (f ∷ fs) gs [] vs p q = absurd p
 Feeds-then gives x y z (f ∷ fs) gs (u ∷ us) vs p q = (p.0, p.1, Feeds-then gives p.0 y z fs gs us vs p.2 q)
 
-frames_of-append : (cs ds : List Cut) → frames_of (cs ++ ds) ≡ frames_of cs ++ frames_of ds
+pub frames_of-append : (cs ds : List Cut) → frames_of (cs ++ ds) ≡ frames_of cs ++ frames_of ds
 frames_of-append [] ds = refl
 frames_of-append (c ∷ cs) ds = ap (λ fs. frame_in (heard c) ++ fs) (frames_of-append cs ds) ∙ sym (append_assoc (frame_in (heard c)) (frames_of cs) (frames_of ds))
 
@@ -123,7 +123,7 @@ of_line_show (Ok ModeAc) = refl
 of_line_show (Ok Blank) = refl
 of_line_show (Err fault) = refl
 
-no_tick : (line : Cut) → is_tick (heard line) ≡ false
+pub no_tick : (line : Cut) → is_tick (heard line) ≡ false
 unfolding heard_line
 no_tick (Whole line) = of_line_tick (reading_of line)
 no_tick TooLong = refl

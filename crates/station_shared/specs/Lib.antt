@@ -3,6 +3,7 @@ pub mod Closing
 pub mod Command
 pub mod Counting
 pub mod Desk
+pub mod DeskPump
 pub mod Drawing
 pub mod Feeds
 pub mod History
@@ -11,3 +12,4 @@ pub mod Replay
 pub mod Seats
 pub mod Shown
 pub mod Source
+pub mod Workers

@@ -3,6 +3,7 @@
 
 pub mod command;
 pub mod desk;
+pub mod desk_pump;
 #[cfg(test)]
 mod fakes;
 pub mod feed;
@@ -18,6 +19,7 @@ pub mod tally;
 
 pub use command::{Command, CommandFault, read_command};
 pub use desk::Desk;
+pub use desk_pump::pump_desk;
 pub use feed::{DeskFeed, Feed};
 pub use from_read::FromRead;
 pub use pumping::{PumpFault, pump};

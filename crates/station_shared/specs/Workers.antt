@@ -1,0 +1,68 @@
+-- What frames leave that are fed through a seat, and what a worker's pump leaves.
+use Rattle.std.specs.Prelude.{◌≡◌, ℕ, ◌+◌, ◌⊎◌, List, [], ◌∷◌, ◌++◌, Option, Some, Result, Ok, Err, is_ok, count_by, length, map}
+use Rattle.modes_frame.specs.declared.cutter.Cut.{Cut}
+use Rattle.station_journal.specs.declared.Entry.{Entry}
+use Rattle.station_journal.specs.declared.Entry.TheVariants.{Heard}
+use Rattle.station_journal.specs.declared.Limits.{Limits}
+use Rattle.station_journal.specs.declared.Refusal.{Refusal}
+use Rattle.station_shared.specs.Calls.{heard, frames_of}
+use Rattle.station_shared.specs.Counting.{Counts}
+use Rattle.station_shared.specs.Drawing.{Drawn, Draws}
+use Rattle.station_shared.specs.Feeds.{Feeds}
+use Rattle.station_shared.specs.History.{Known}
+use Rattle.station_shared.specs.Pump.{Wants, tally_of, want_of, ending_of}
+use Rattle.station_shared.specs.Seats.{Seated, Accepted, Refused}
+use Rattle.station_shared.specs.declared.pumping.PumpFault.{PumpFault}
+use Rattle.station_shared.specs.declared.tally.Tally.{Tally}
+
+-- one step of a seat for a frame, whose answer tells no receipt
+abbrev pub SeatSteps : Limits → Seated → List ℕ → Result (Unit {0}) Refusal → Seated → Type 0
+SeatSteps limits old frame (Ok taken) new = (receipt : Known) × Accepted limits old new (Heard old.number frame) receipt
+SeatSteps limits old frame (Err refusal) new = Refused limits old new (Heard old.number frame) refusal
+
+-- the items of the first list stand in the second, in their order
+abbrev pub Within : List Entry → List Entry → Type 0
+Within [] ys = Unit {0}
+Within (x ∷ xs) [] = ⊥
+Within (x ∷ xs) (y ∷ ys) = ((x ≡ y) × Within xs ys) ⊎ Within (x ∷ xs) ys
+
+-- the frames that were accepted
+abbrev pub accepted_frames : List (List ℕ) → List (Result (Unit {0}) Refusal) → List (List ℕ)
+accepted_frames [] answers = []
+accepted_frames (frame ∷ frames) [] = []
+accepted_frames (frame ∷ frames) (Ok taken ∷ answers) = frame ∷ accepted_frames frames answers
+accepted_frames (frame ∷ frames) (Err refusal ∷ answers) = accepted_frames frames answers
+
+abbrev pub heard_by : ℕ → List (List ℕ) → List Entry
+heard_by seat frames = map (λ (frame : List ℕ). Heard seat frame) frames
+
+-- the same seat, after its calls for these frames were answered so: in what it has seen since, the accepted frames stand
+-- as its entries, in their order
+pub record Fed (old new : Seated) (frames : List (List ℕ)) (answers : List (Result (Unit {0}) Refusal)) : Type 0 where
+  pub more : List Entry
+  pub later : old.seen ++ more ≡ new.seen
+  pub stand : Within (heard_by old.number (accepted_frames frames answers)) more
+  pub many : length (accepted_frames frames answers) ≡ count_by is_ok answers
+  pub accepted : new.accepted ≡ old.accepted + count_by is_ok answers
+  pub number : new.number ≡ old.number
+
+-- some lines were taken of what the source gave, up to the end or the fault: the seat went through its steps for their
+-- frames, whether the answer is a tally or a fault, and the tally counts them
+pub record Works (limits : Limits) (old new : Seated) (source_old source_new : Drawn) (turns : ℕ) (result : Result Tally PumpFault) : Type 0 where
+  pub lines : List Cut
+  pub answers : List (Result (Unit {0}) Refusal)
+  pub draws : Draws source_old source_new turns (ending_of result) lines
+  pub steps : Feeds (SeatSteps limits) old (frames_of lines) answers new
+  pub fed : Fed old new (frames_of lines) answers
+  pub wants : Wants lines answers (want_of result)
+  pub counts : Counts heard (tally_of result) lines
+  pub no_ticks : (tally_of result).ticks ≡ 0
+  pub no_shows : (tally_of result).shows ≡ 0
+  pub told : (tally_of result).accepted ≡ count_by is_ok answers
+  pub accepted : new.accepted ≡ old.accepted + (tally_of result).accepted
+
+-- a worker has answered, as its pump did
+pub record Worked (limits : Limits) (old new : Seated) (source_old source_new : Drawn) (turns : ℕ) (answer : Option (Result Tally PumpFault)) : Type 0 where
+  pub result : Result Tally PumpFault
+  pub answered : answer ≡ Some result
+  pub works : Works limits old new source_old source_new turns result
