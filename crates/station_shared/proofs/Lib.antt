@@ -8,6 +8,7 @@ pub mod DrawingLemmas
 pub mod EndLemmas
 pub mod EndingLemmas
 pub mod Fronts
+pub mod Looking
 pub mod PumpLemmas
 pub mod RowLemmas
 pub mod Rules

@@ -1,0 +1,177 @@
+//! A seat at a station, and receipts of accepted calls.
+ghost use Rattle.std.specs.Prelude.{◌≡◌, ◌+◌, ◌<◌, ◌≤◌, length, MatchResult};
+ghost use Rattle.station_shared.specs.Seats.{Told, Looks, count_of};
+
+use crate::history::Front;
+use crate::look::Look;
+use crate::names::Total;
+use crate::rule::{Place, Published, Sees};
+use crate::shown::{Mark, Shown};
+use crossbeam_utils::rule::Protocol;
+use std::marker::Model;
+use std::sync::ledger::Share;
+
+/// A promise that an accepted entry stands in the journal of its station. Contracts see the journal up to it.
+#[derive(Drop)]
+pub struct Receipt {
+    pub(crate) front: Front,
+}
+
+impl Model for Receipt {
+    ghost use Rattle.std.specs.Prelude.{◌<◌, length};
+    ghost use Rattle.station_shared.specs.History.{Known};
+
+    ghost Value = { Known };
+
+    ghost view = { λ r. r.front };
+
+    ghost invariant = { λ r. 0 < length r.front.entries };
+}
+
+impl Receipt {
+    pub(crate) fn new(front: Front) -> Receipt
+        requires { 0 < length front.entries }
+        ensures { result ≡ front }
+    {
+        Receipt { front }
+    }
+
+    /// The place of the entry in the journal, counted from 0.
+    pub fn index(&self) -> u64
+        ensures { result + 1 ≡ length self.now.entries }
+    {
+        self.front.count() - 1
+    }
+}
+
+/// The right to call, as one of the seats of a station. Contracts see its number, how many of its calls were accepted,
+/// and what it has seen of the journal.
+pub struct Seat<const N: usize, L: Total>
+where
+    Published: Protocol<Shown<N>, Option<Mark>>,
+{
+    pub(crate) number: u8,
+    pub(crate) accepted: u64,
+    pub(crate) share: Share<L>,
+    pub(crate) place: Place<N>,
+    pub(crate) front: Front,
+    pub(crate) ghost small: { N ≤ 4096 },
+}
+
+impl<const N: usize, L: Total> Model for Seat<N, L>
+where
+    Published: Protocol<Shown<N>, Option<Mark>>,
+{
+    ghost use Rattle.std.specs.Prelude.{◌≡◌, ◌≤◌};
+    ghost use Rattle.left_right.specs.Sides.{view as view_of};
+    ghost use Rattle.station_shared.specs.Seats.{Seated, count_of};
+    ghost use Rattle.station_shared.specs.Shown.{IsOf};
+
+    ghost Value = { Seated };
+
+    ghost view = { λ s. record { number = s.number; accepted = s.accepted; seen = s.front.entries } };
+
+    ghost invariant = { λ s. (s.share.parts ≡ 1) × (s.share.amount ≡ s.accepted) × IsOf L.history L.limits (view_of s.place.place) × (s.front.name ≡ L.history)
+        × (s.accepted ≤ count_of s.number s.front.entries) };
+}
+
+impl<const N: usize, L: Total> Seat<N, L> {
+    /// The number of the seat: below the number of seats, and no other seat of the station has it.
+    pub fn number(&self) -> u8
+        ensures { result ≡ self.now.number }
+    {
+        self.number
+    }
+
+    /// How many of its calls were accepted.
+    pub fn accepted(&self) -> u64
+        ensures { result ≡ self.now.accepted }
+    {
+        self.accepted
+    }
+
+    /// Takes in what a receipt of the same station tells: from now on the seat has seen the receipt's entry.
+    pub fn learn(&mut self, receipt: &Receipt)
+        requires { receipt.now.name ≡ L.history }
+        ensures { Told self.old self.new receipt.now.entries }
+    {
+        let Seat { front, .. } = self;
+        *front = front.longer(&receipt.front);
+    }
+
+    /// Looks at the table as it is published, which holds all that the seat has seen. It neither waits nor takes memory.
+    ///
+    /// The seat comes back as it was where no reader is let in.
+    pub fn look(self) -> Result<Look<N, L>, Seat<N, L>>
+        ensures { MatchResult result (λ look. Looks L.limits self look) (λ seat. seat ≡ self) }
+    {
+        let Seat {
+            number,
+            accepted,
+            share,
+            place,
+            front,
+        } = self;
+        match place.enter_as::<Sees>() {
+            Ok(looking) => {
+                if looking.get().front.count() < front.count() {
+                    let place = looking.leave();
+                    return Err(Seat {
+                        number,
+                        accepted,
+                        share,
+                        place,
+                        front,
+                    });
+                }
+                front.begins(&looking.get().front);
+                let front = looking.get().front.again();
+                Ok(Look {
+                    number,
+                    accepted,
+                    share,
+                    looking,
+                    front,
+                })
+            }
+            Err(place) => Err(Seat {
+                number,
+                accepted,
+                share,
+                place,
+                front,
+            }),
+        }
+    }
+
+    // Ends the seat.
+    pub(crate) fn into_parts(self) -> (Share<L>, Front)
+        ensures share { (result.0.parts ≡ 1) × (result.0.amount ≡ self.accepted) }
+        ensures front { (result.1.name ≡ L.history) × (result.1.entries ≡ self.seen) }
+        ensures counted { self.accepted ≤ count_of self.number self.seen }
+    {
+        let Seat {
+            number: _,
+            accepted: _,
+            share,
+            place: _,
+            front,
+        } = self;
+        (share, front)
+    }
+}
+
+impl<const N: usize, L: Total> Drop for Seat<N, L>
+where
+    Published: Protocol<Shown<N>, Option<Mark>>,
+{
+    fn drop(self) {
+        let Seat {
+            number: _,
+            accepted: _,
+            share: _,
+            place: _,
+            front: _,
+        } = self;
+    }
+}
