@@ -6,3 +6,4 @@ pub mod MatchingLemmas
 pub mod TableLemmas
 pub mod VerdictLemmas
 pub mod LawLemmas
+pub mod OfferLemmas

@@ -1,4 +1,5 @@
-//! The running book equals the search: laws over the definitions that the book's calls are stated by.
+//! The running book equals the search: laws over the definitions that the book's calls are stated
+//! by.
 
 ghost use Rattle.std.specs.Prelude.{◌≡◌, ℕ, true, List, ◌∷◌, [], ◌++◌, ◌<◌, length, None};
 ghost use Rattle.station_journal.specs.declared.Entry.{Entry};
@@ -12,27 +13,39 @@ pub fn a_new_book_matches()
     ensures { (n : ℕ) (base : ℕ) → Matches n base (starting base) [] }
 {}
 
-/// A book that matches a list shows what the search finds in it, and refuses what a journal would, JournalFull apart.
+/// A book that matches a list shows what the search finds in it, and refuses what a journal would,
+/// JournalFull apart.
 pub fn a_match_shows_the_search()
-    ensures { (n : ℕ) (base : ℕ) (book : State) (entries : List Entry) → Matches n base book entries → Shows n base book entries }
+    ensures { (n : ℕ) (base : ℕ) (book : State) (entries : List Entry) →
+        Matches n base book entries → Shows n base book entries }
 {}
 
 /// What a journal accepts fits each book that matches it.
 pub fn an_accepted_entry_fits()
-    ensures { (log : Log) (book : State) (entry : Entry) → refusal_of log entry ≡ None → Matches log.limits.aircraft log.base book log.entries → fits log.limits.aircraft book (step_of entry) ≡ true }
+    ensures { (log : Log) (book : State) (entry : Entry) → refusal_of log entry ≡ None →
+        Matches log.limits.aircraft log.base book log.entries →
+        fits log.limits.aircraft book (step_of entry) ≡ true }
 {}
 
 /// An accepted entry leaves a match.
 pub fn a_match_stays()
-    ensures { (log : Log) (book : State) (entry : Entry) → refusal_of log entry ≡ None → Matches log.limits.aircraft log.base book log.entries → Matches log.limits.aircraft log.base (applied book entry) (log.entries ++ entry ∷ []) }
+    ensures { (log : Log) (book : State) (entry : Entry) → refusal_of log entry ≡ None →
+        Matches log.limits.aircraft log.base book log.entries →
+        Matches log.limits.aircraft log.base (applied book entry) (log.entries ++ entry ∷ []) }
 {}
 
 /// So does one that is offered, while the book counts fewer than the most entries.
 pub fn an_offer_keeps_a_match()
-    ensures { (log : Log) (book : State) (entry : Entry) → refusal_of log entry ≡ None → length log.entries < most_entries → Matches log.limits.aircraft log.base book log.entries → Matches log.limits.aircraft log.base (offered log.limits.aircraft book entry) (log.entries ++ entry ∷ []) }
+    ensures { (log : Log) (book : State) (entry : Entry) → refusal_of log entry ≡ None →
+        length log.entries < most_entries →
+        Matches log.limits.aircraft log.base book log.entries →
+        Matches log.limits.aircraft log.base (offered log.limits.aircraft book entry)
+        (log.entries ++ entry ∷ []) }
 {}
 
 /// After the entries of any legal journal the book shows the journal's table and clock.
 pub fn the_book_equals_the_search()
-    ensures { (log : Log) → IsLegal log → (rows (book_after log.base log.entries) ≡ table_of log) × ((book_after log.base log.entries).moment ≡ clock_of log) }
+    ensures { (log : Log) → IsLegal log →
+        (rows (book_after log.base log.entries) ≡ table_of log) ×
+        ((book_after log.base log.entries).moment ≡ clock_of log) }
 {}

@@ -54,81 +54,31 @@ fn short(mut bytes: [u8; 7], overlay: u32) -> Option<Frame> {
     Frame::from_bytes(&bytes)
 }
 
-// A frame of the aircraft 406200 and the number of `sender`: of places most often, and replies, callsigns and speeds.
+// A long frame of the aircraft 406200 and the number of `sender`, with this message.
+fn message(sender: u8, message: [u8; 7]) -> Option<Frame> {
+    let mut bytes = [0; 14];
+    bytes[..4].copy_from_slice(&[0x8D, 0x40, 0x62, sender]);
+    bytes[4..11].copy_from_slice(&message);
+    long(bytes)
+}
+
+// A frame of the aircraft 406200 and the number of `sender`: of places most often, and replies,
+// callsigns and speeds.
 fn made(numbers: &mut Numbers, sender: u8) -> Option<Frame> {
     let address = 0x406200 + u32::from(sender);
     match numbers.below(8) {
-        0 => long([
-            0x8D,
-            0x40,
-            0x62,
-            sender,
-            0x20,
-            0x2C,
-            0xC3,
-            0x71,
-            0xC3,
-            0x2C,
-            numbers.byte(),
-            0,
-            0,
-            0,
-        ]),
-        1 => long([
-            0x8D,
-            0x40,
-            0x62,
-            sender,
-            0x99,
-            0x44,
-            0x09,
-            numbers.byte(),
-            0x08,
-            0x38,
-            0x17,
-            0,
-            0,
-            0,
-        ]),
+        0 => message(sender, [0x20, 0x2C, 0xC3, 0x71, 0xC3, 0x2C, numbers.byte()]),
+        1 => message(sender, [0x99, 0x44, 0x09, numbers.byte(), 0x08, 0x38, 0x17]),
         2 => short([0x5D, 0x40, 0x62, sender, 0, 0, 0], 0),
         3 => short([0x20, 0x00, 0x14, numbers.byte(), 0, 0, 0], address),
         4 => short([0x28, 0x00, numbers.byte(), 0x6D, 0, 0, 0], address),
-        5 | 6 => long([
-            0x8D,
-            0x40,
-            0x62,
-            sender,
-            0x58,
-            0xC3,
-            0x82,
-            0xD6,
-            0x90,
-            0xC8,
-            numbers.byte(),
-            0,
-            0,
-            0,
-        ]),
-        _ => long([
-            0x8D,
-            0x40,
-            0x62,
-            sender,
-            0x58,
-            0xC3,
-            0x86,
-            0x43,
-            0x5C,
-            0xC4,
-            numbers.byte(),
-            0,
-            0,
-            0,
-        ]),
+        5 | 6 => message(sender, [0x58, 0xC3, 0x82, 0xD6, 0x90, 0xC8, numbers.byte()]),
+        _ => message(sender, [0x58, 0xC3, 0x86, 0x43, 0x5C, 0xC4, numbers.byte()]),
     }
 }
 
-// A tick at times, some of them long after the one before, and else a frame of one of seven aircraft.
+// A tick at times, some of them long after the one before, and else a frame of one of seven
+// aircraft.
 fn next(numbers: &mut Numbers, now: u64) -> Option<Entry> {
     match numbers.below(40) {
         0 => Some(Entry::Tick {

@@ -2,7 +2,8 @@
 
 ghost use Rattle.std.specs.Prelude.{◌≡◌, IsTrue, Ok, ◌<◌, ◌≤◌, ◌==◌, List, [], length, map, slice_get, None, Some};
 ghost use Rattle.station_journal.proofs.RisingLemmas.{IsRising};
-ghost use Rattle.station_book.specs.Tracks.{updated, find_track, put_track, swept, track_or_blank, address_of, IsRank, IsPlace, HeardFrom};
+ghost use Rattle.station_book.specs.Tracks.{updated, find_track, put_track, swept, track_or_blank};
+ghost use Rattle.station_book.specs.Tracks.{address_of, IsRank, IsPlace, HeardFrom};
 
 use crate::tracks::{Track, blank, update};
 use arrayvec::ArrayVec;
@@ -20,7 +21,8 @@ pub struct Table<const N: usize> {
     tracks: ArrayVec<Track, N>,
     // No track was heard before this moment, so most ticks have nothing to sweep.
     oldest: u64,
-    // Where an address with these low bits stood when it was last heard. A search is made only where it moved.
+    // Where an address with these low bits stood when it was last heard. A search is made only where
+    // it moved.
     hints: [u16; HINTS],
 }
 
@@ -33,7 +35,11 @@ impl<const N: usize> Model for Table<N> {
 
     ghost view = { λ t. t.tracks.items };
 
-    ghost invariant = { λ t. record { rising : Rising t.tracks.items; addresses : t.addresses.items ≡ map address_of t.tracks.items; oldest : HeardFrom t.oldest t.tracks.items } };
+    ghost invariant = { λ t. record {
+      rising : Rising t.tracks.items;
+      addresses : t.addresses.items ≡ map address_of t.tracks.items;
+      oldest : HeardFrom t.oldest t.tracks.items;
+    } };
 }
 
 impl<const N: usize> Table<N> {
@@ -84,6 +90,7 @@ impl<const N: usize> Table<N> {
         }
     }
 
+    // Whether the track of the address stands at the place.
     fn stands_at(&self, place: usize, address: u32) -> bool
         ensures { IsTrue result → IsPlace self.now address (Ok place) }
     {
@@ -96,6 +103,7 @@ impl<const N: usize> Table<N> {
         false
     }
 
+    // The place of the address, by halves.
     fn search(&self, address: u32) -> Result<usize, usize>
         ensures { IsPlace self.now address result }
     {
@@ -109,7 +117,8 @@ impl<const N: usize> Table<N> {
         Err(rank)
     }
 
-    /// Takes what a frame of the address carries, heard at the moment now. The place is that of the address.
+    /// Takes what a frame of the address carries, heard at the moment now. The place is that of the
+    /// address.
     pub fn hear(&mut self, place: Result<usize, usize>, now: u64, address: u32, fields: &Fields)
         requires place { IsPlace self.old address place }
         requires room { find_track address self.old ≡ None → length self.old < N }
@@ -142,7 +151,7 @@ impl<const N: usize> Table<N> {
     }
 }
 
-/// How many of the rising addresses are below this one.
+// How many of the rising addresses are below this one.
 fn rank_of(addresses: &[u32], address: u32) -> usize
     requires { IsRising addresses.now }
     ensures { IsRank addresses.now address result }
@@ -150,12 +159,14 @@ fn rank_of(addresses: &[u32], address: u32) -> usize
     addresses.partition_point(|other| *other < address)
 }
 
+// Drops the tracks that were heard more than 60,000 ms before now.
 fn retain_recent<const N: usize>(tracks: &mut ArrayVec<Track, N>, now: u64)
     ensures { tracks.new.items ≡ swept now tracks.old.items }
 {
     tracks.retain(|track| now.saturating_sub(track.heard) <= 60_000);
 }
 
+// Makes the addresses those of the tracks.
 fn set_addresses<const N: usize>(addresses: &mut ArrayVec<u32, N>, tracks: &[Track])
     requires { length tracks.now ≤ N }
     ensures { addresses.new.items ≡ map address_of tracks.now }
@@ -166,7 +177,7 @@ fn set_addresses<const N: usize>(addresses: &mut ArrayVec<u32, N>, tracks: &[Tra
     }
 }
 
-/// A moment before which none of the tracks was heard.
+// A moment before which none of the tracks was heard.
 fn oldest_of(tracks: &[Track]) -> u64
     ensures { HeardFrom result tracks.now }
 {
