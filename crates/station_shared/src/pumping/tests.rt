@@ -1,11 +1,13 @@
 //! Pumps over a desk.
 use crate::desk::Desk;
+use crate::desk_pump::pump_desk;
 use crate::fakes::{Pieces, Spaces, new_desk};
 use crate::feed::DeskFeed;
 use crate::pumping::{PumpFault, pump};
 use crate::source::Source;
 use crate::tally::Tally;
-use station_journal::Limits;
+use modes_frame::Frame;
+use station_journal::{Entry, Journal, Limits};
 use std::alloc::Global;
 use std::process::Abort;
 use std::sync::Wait;
@@ -122,4 +124,50 @@ fn endless_line_is_one_fault(rt: HostRuntime) {
     assert_eq!(rt; pumped(&rt, rt.alloc(), Spaces::new(2000), 2001), Ok(want));
     let none = Err(PumpFault::TooManyTurns(Tally::new()));
     assert_eq!(rt; pumped(&rt, rt.alloc(), Spaces::new(2000), 2000), none);
+}
+
+const IDENTIFICATION: [u8; 14] = [
+    0x8D, 0x48, 0x40, 0xD6, 0x20, 0x2C, 0xC3, 0x71, 0xC3, 0x2C, 0xE0, 0x57, 0x60, 0x98,
+];
+
+// Pumps the bytes through a desk without entries, by seat 3, and gives its journal.
+fn pumped_by_seat_3<R: Abort + Wait>(
+    rt: &R,
+    alloc: Global,
+    bytes: &[u8],
+) -> (Result<Tally, PumpFault>, Journal) {
+    let limits = Limits {
+        entries: 16_777_216,
+        aircraft: 512,
+    };
+    let mut desk: Desk<512> = new_desk(rt, alloc, limits);
+    let mut from = Pieces::new(bytes);
+    let answer = pump_desk(rt, &mut desk, 3, &mut from, 9);
+    (answer, desk.end(rt))
+}
+
+#[test]
+fn frames_of_a_lent_desk_are_heard_by_its_seat(rt: HostRuntime) {
+    let lines = b"*8D4840D6202CC371C32CE0576098;\n*2A00516D492B80;\n";
+    let (answer, journal) = match pumped_by_seat_3(&rt, rt.alloc(), lines) {
+        (Err(PumpFault::NoMemory(_)), _) => pumped_by_seat_3(&rt, rt.alloc(), lines),
+        pumped => pumped,
+    };
+    let want = Tally {
+        lines: 2,
+        frames: 2,
+        ticks: 0,
+        shows: 0,
+        blank: 0,
+        mode_ac: 0,
+        faults: 0,
+        accepted: 1,
+        refused: 1,
+    };
+    assert_eq!(rt; answer, Ok(want));
+    assert_eq!(rt; journal.len(), 1);
+    match Frame::from_bytes(&IDENTIFICATION) {
+        Some(frame) => assert_eq!(rt; journal.get(0), Some(Entry::Heard { seat: 3, frame })),
+        None => panic!(rt; "no frame"),
+    }
 }
