@@ -7,6 +7,7 @@ use Rattle.station_shared.specs.declared.command.Command.TheVariants.{Tick, Show
 use Rattle.station_shared.specs.declared.command.CommandFault.{CommandFault}
 use Rattle.station_shared.specs.declared.tally.Tally.{Tally}
 
+-- the line has a frame of 56 or 112 bits
 abbrev pub is_frame : Result Command CommandFault → Bool
 is_frame (Ok (Tick at)) = false
 is_frame (Ok Show) = false
@@ -15,6 +16,7 @@ is_frame (Ok (Received ModeAc)) = false
 is_frame (Ok (Received Blank)) = false
 is_frame (Err fault) = false
 
+-- the line tells a moment
 abbrev pub is_tick : Result Command CommandFault → Bool
 is_tick (Ok (Tick at)) = true
 is_tick (Ok Show) = false
@@ -23,6 +25,7 @@ is_tick (Ok (Received ModeAc)) = false
 is_tick (Ok (Received Blank)) = false
 is_tick (Err fault) = false
 
+-- the line asks for the table
 abbrev pub is_show : Result Command CommandFault → Bool
 is_show (Ok (Tick at)) = false
 is_show (Ok Show) = true
@@ -31,6 +34,7 @@ is_show (Ok (Received ModeAc)) = false
 is_show (Ok (Received Blank)) = false
 is_show (Err fault) = false
 
+-- the line is a mode A/C reply or the heartbeat
 abbrev pub is_mode_ac : Result Command CommandFault → Bool
 is_mode_ac (Ok (Tick at)) = false
 is_mode_ac (Ok Show) = false
@@ -39,6 +43,7 @@ is_mode_ac (Ok (Received ModeAc)) = true
 is_mode_ac (Ok (Received Blank)) = false
 is_mode_ac (Err fault) = false
 
+-- the line is of blanks alone
 abbrev pub is_blank : Result Command CommandFault → Bool
 is_blank (Ok (Tick at)) = false
 is_blank (Ok Show) = false

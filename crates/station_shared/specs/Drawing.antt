@@ -28,6 +28,7 @@ EndsAs given lines left_out turns old new TurnsOver =
     (lines ≡ ended_cuts given) × (new.ends ≡ old.ends) × (new.reads ≡ counted_up turns old.reads)
 EndsAs given lines left_out turns old new LineStopped = Unit {0}
 
+-- a failed read ended the call
 abbrev pub is_read_failed : Ending → Bool
 is_read_failed AtEnd = false
 is_read_failed ReadFailed = true

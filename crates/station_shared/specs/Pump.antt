@@ -63,22 +63,26 @@ pub record PumpsFrame {F : Type 0} (gives : F → List ℕ → Result (Unit {0})
 
 -- ---- the whole pump
 
+-- the answer of a pump whose lines are over, with what was counted
 abbrev pub answer_of : Result (Unit {0}) AllocError → Tally → Result Tally PumpFault
 answer_of (Ok done) tally = Ok tally
 answer_of (Err want) tally = Err (Faults.NoMemory tally)
 
+-- what was counted, whatever the answer
 abbrev pub tally_of : Result Tally PumpFault → Tally
 tally_of (Ok tally) = tally
 tally_of (Err (Faults.Read tally)) = tally
 tally_of (Err (Faults.TooManyTurns tally)) = tally
 tally_of (Err (Faults.NoMemory tally)) = tally
 
+-- whether memory was wanting, by the answer
 abbrev pub want_of : Result Tally PumpFault → Result (Unit {0}) AllocError
 want_of (Ok tally) = Ok tt
 want_of (Err (Faults.Read tally)) = Ok tt
 want_of (Err (Faults.TooManyTurns tally)) = Ok tt
 want_of (Err (Faults.NoMemory tally)) = Err alloc_error
 
+-- why no further line was taken, by the answer
 abbrev pub ending_of : Result Tally PumpFault → Ending
 ending_of (Ok tally) = AtEnd
 ending_of (Err (Faults.Read tally)) = ReadFailed
