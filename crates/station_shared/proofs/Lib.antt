@@ -9,9 +9,11 @@ pub mod EndLemmas
 pub mod EndingLemmas
 pub mod Fronts
 pub mod Looking
+pub mod PlaceLemmas
 pub mod PumpLemmas
 pub mod RowLemmas
 pub mod Rules
 pub mod SeatRuns
 pub mod Sequences
+pub mod Turning
 pub mod WalkLemmas

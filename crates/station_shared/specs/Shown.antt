@@ -5,7 +5,8 @@ use lib.ListN.{get_elem?}
 use Rattle.station_journal.specs.declared.Entry.{Entry}
 use Rattle.station_journal.specs.declared.Limits.{Limits}
 use Rattle.station_journal.specs.Log.{IsLegal}
-use Rattle.station_book.specs.State.{State as BookState}
+use Rattle.station_book.specs.State.{State as BookState, starting, offered_step}
+use Rattle.station_book.specs.declared.steps.Step.{Step}
 use Rattle.station_book.specs.Matching.{Matches}
 use Rattle.station_shared.specs.History.{Known, Name}
 use Rattle.station_shared.specs.Seats.{log_of}
@@ -19,6 +20,11 @@ pub record Sheet : Type 0 where
 
 abbrev pub sheet : BookState → Known → Option Limits → Sheet
 sheet book front limits = record { book = book; front = front; limits = limits }
+
+-- a book with the step that it lacks; where no step is told, it is begun anew
+abbrev pub caught_up : ℕ → BookState → Option Step → BookState
+caught_up n book None = starting 0
+caught_up n book (Some step) = offered_step n book step
 
 -- the entries are legal under the limits of the station, where it has any
 abbrev pub LegalUnder : Option Limits → List Entry → Type 0
@@ -67,3 +73,9 @@ pub record IsOf (history : Name) (most : Limits) (view : Option Mark) : Type 0 w
 abbrev pub AllOf : {A : Type 0} → (A → Type 0) → List A → Type 0
 AllOf P [] = Unit {0}
 AllOf P (x ∷ xs) = P x × AllOf P xs
+
+-- a publishing end with its reader places: which history it is, how many places, and the book that is published
+pub record Prepared : Type 0 where
+  pub history : Name
+  pub places : ℕ
+  pub shown : BookState
