@@ -1,4 +1,5 @@
 pub mod Adding
+pub mod Alls
 pub mod Beginnings
 pub mod Closing
 pub mod Counts
@@ -9,6 +10,7 @@ pub mod EndLemmas
 pub mod EndingLemmas
 pub mod Fronts
 pub mod Looking
+pub mod Newcomers
 pub mod PlaceLemmas
 pub mod PumpLemmas
 pub mod RowLemmas

@@ -1,6 +1,7 @@
 //! The station: a desk that keeps the journal, and what feeds it.
 #![tactic(auto)]
 
+pub mod close;
 pub mod command;
 pub mod desk;
 pub mod desk_pump;
@@ -8,6 +9,7 @@ pub mod desk_pump;
 mod fakes;
 pub mod feed;
 pub mod from_read;
+mod gate;
 pub mod history;
 pub mod look;
 pub mod names;
@@ -19,8 +21,10 @@ pub mod rule;
 pub mod seat;
 pub mod shown;
 pub mod source;
+pub mod station;
 pub mod tally;
 
+pub use close::{Closed, Missing};
 pub use command::{Command, CommandFault, read_command};
 pub use desk::Desk;
 pub use desk_pump::pump_desk;
@@ -33,4 +37,5 @@ pub use pumping::{PumpFault, pump};
 pub use replaying::{ReplayFault, replay};
 pub use seat::{Receipt, Seat};
 pub use source::Source;
+pub use station::Station;
 pub use tally::Tally;

@@ -1,0 +1,23 @@
+use Rattle.std.proofs.Common.{◌≡◌, ◌<◌, List, take, arith, refl, sym, ◌∙◌, subst}
+use borrow.Author.Count.{below_more}
+use Rattle.station_shared.specs.Closing.{EachSeat}
+use Rattle.station_shared.specs.Seats.{Seated}
+use Rattle.station_shared.proofs.Closing.{take_whole}
+use Rattle.station_shared.proofs.close.each_once.Goals as goal
+
+pub returns-then-times-ne1 : goal.returns-then-times-ne1
+returns-then-times-ne1 g c = ((λ t. absurd (cc)), (λ each. absurd (c.if-times-ne1.true (c.times.ensures ∙ each.once c.loop-number.number c.loop-number-test.true))))
+
+pub loop-number-preserved : goal.loop-number-preserved
+loop-number-preserved g c = below_more _ _ c.loop-number.invariant (sym c.times.ensures ∙ c.if-times-ne1.false)
+
+pub returns : goal.returns
+returns g c =
+    let whole : take c.loop-seat.seat-index c.args.seats.now ≡ c.args.seats.now = take_whole c.loop-seat.seat-index c.args.seats.now c.loop-seat-test.false in (
+      (λ t. record {
+        as_many = omega arith;
+        below = subst (λ (l : List Seated). EachSeat (λ s. s.number < c.args.count) l) whole c.loop-seat.invariant;
+        once = λ k below. c.loop-number.invariant k (omega (arith, below, c.loop-number-test.false));
+      }),
+      (λ each. refl),
+    )

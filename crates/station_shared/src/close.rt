@@ -1,0 +1,159 @@
+//! The end of a station.
+ghost use Rattle.std.specs.Prelude.{◌≡◌, ◌≤◌, ◌↔◌, IsTrue, eqb, count_by, IfOk, IfErr};
+ghost use Rattle.station_shared.specs.Closing.{EachOnce, Closes, accepted_at, accepted_by};
+ghost use Rattle.station_shared.specs.Seats.{log_of};
+
+use crate::gate::Gate;
+use crate::names::Total;
+use crate::rule::Published;
+use crate::seat::Seat;
+use crate::shown::{Mark, Shown, Unlogged};
+use crate::station::Station;
+use arrayvec::ArrayVec;
+use crossbeam_utils::rule::Protocol;
+use left_right::Absorb;
+use station_journal::Journal;
+use std::sync::Wait;
+
+/// What a closed station leaves.
+#[derive(Drop)]
+pub struct Closed {
+    pub journal: Journal,
+    /// How many calls of each seat were accepted, by the number of the seat.
+    pub accepted: ArrayVec<u64, 9>,
+}
+
+/// The station and the seats that were given, where they aren't all the seats of the station, each once.
+pub struct Missing<const N: usize, L: Total>
+where
+    Shown<N>: Absorb<Unlogged, State = ()>,
+    Published: Protocol<Shown<N>, Option<Mark>>,
+{
+    pub station: Station<N, L>,
+    pub seats: Vec<Seat<N, L>>,
+}
+
+impl<const N: usize, L: Total> Station<N, L> {
+    /// Gives up a station that isn't closed.
+    pub fn end<R: Wait>(self, rt: &R) {
+        let Station {
+            gate,
+            seats: _count,
+        } = self;
+        let Gate {
+            desk,
+            total: _,
+            rest: _,
+        } = gate.into_inner();
+        desk.end(rt);
+    }
+
+    /// Closes the station, once all its seats are given back, in any order: hands out the journal, and how many calls
+    /// of each seat were accepted.
+    ///
+    /// Where a seat is missing, or one of another number is among them, the station and the seats come back as they
+    /// were.
+    pub fn close<R: Wait>(self, rt: &R, seats: Vec<Seat<N, L>>) -> Result<Closed, Missing<N, L>>
+        ensures seats { IfOk result (λ c. EachOnce L.seats seats.items) }
+        ensures journal { IfOk result (λ c. (c.journal.log ≡ log_of L.limits c.journal.log.entries) × Closes L.limits L.seats c.journal.log.entries seats.items) }
+        ensures accepted { IfOk result (λ c. c.accepted.items ≡ accepted_by L.seats seats.items) }
+        ensures missing { IfErr result (λ missing. ¬ EachOnce L.seats seats.items × (missing.station ≡ self) × (missing.seats.items ≡ seats.items)) }
+    {
+        if !each_once(seats.as_slice(), self.seats) {
+            return Err(Missing {
+                station: self,
+                seats,
+            });
+        }
+        let accepted = by_number(seats.as_slice(), self.seats);
+        let Station {
+            gate,
+            seats: _count,
+        } = self;
+        Ok(Closed {
+            journal: gate.into_inner().close(rt, seats),
+            accepted,
+        })
+    }
+}
+
+impl<const N: usize, L: Total> Gate<N, L> {
+    // Takes the seats in, and hands out the journal.
+    fn close<R: Wait>(self, rt: &R, mut seats: Vec<Seat<N, L>>) -> Journal
+        requires { EachOnce L.seats seats.items }
+        ensures log { result.log ≡ log_of L.limits result.log.entries }
+        ensures closes { Closes L.limits L.seats result.log.entries seats.items }
+    {
+        let Gate {
+            mut desk,
+            mut total,
+            mut rest,
+        } = self;
+        let _known = desk.front();
+        while let Some(seat) = seats.pop() {
+            let (share, front) = seat.into_parts();
+            desk.covers(&front);
+            rest.merge(share);
+        }
+        total.audit(&mut rest);
+        desk.end(rt)
+    }
+}
+
+// The accepted calls of the seat with this number.
+fn accepted_of<const N: usize, L: Total>(seats: &[Seat<N, L>], number: u8) -> u64
+    ensures { result ≡ accepted_at number seats.now }
+{
+    let mut found = 0;
+    for seat in seats {
+        if number == seat.number() {
+            found = seat.accepted();
+        }
+    }
+    found
+}
+
+// The accepted calls of the seats with the numbers below `count`.
+fn by_number<const N: usize, L: Total>(seats: &[Seat<N, L>], count: u8) -> ArrayVec<u64, 9>
+    requires { count ≤ 9 }
+    ensures { result.items ≡ accepted_by count seats.now }
+{
+    let mut accepted = ArrayVec::new();
+    for number in 0..count {
+        accepted.push(accepted_of(seats, number));
+    }
+    accepted
+}
+
+// How many seats have this number.
+fn times<const N: usize, L: Total>(seats: &[Seat<N, L>], number: u8) -> usize
+    ensures { result ≡ count_by (λ s. eqb number s.number) seats.now }
+{
+    let mut found = 0;
+    for seat in seats {
+        if number == seat.number() {
+            found += 1;
+        }
+    }
+    found
+}
+
+// Whether the numbers of the seats are those below `count`, each once.
+fn each_once<const N: usize, L: Total>(seats: &[Seat<N, L>], count: u8) -> bool
+    ensures { IsTrue result ↔ EachOnce count seats.now }
+{
+    if seats.len() != usize::from(count) {
+        return false;
+    }
+    for seat in seats {
+        if seat.number() >= count {
+            return false;
+        }
+    }
+    for number in 0..count {
+        if times(seats, number) != 1 {
+            return false;
+        }
+    }
+    true
+}
