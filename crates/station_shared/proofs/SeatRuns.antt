@@ -1,5 +1,5 @@
 -- Frames fed through a seat one after another.
-use Rattle.std.proofs.Common.{◌≡◌, ℕ, ◌+◌, List, [], ◌∷◌, ◌++◌, Result, Ok, Err, refl, sym, ap, ◌∙◌, subst, append_assoc, append-nil, arith, inl, inr}
+use Rattle.std.proofs.Common.{◌≡◌, ℕ, ◌+◌, List, [], ◌∷◌, ◌++◌, Result, Ok, Err, length, get_or, slice_index_or, slice_set, refl, sym, ap, ◌∙◌, subst, append_assoc, append-nil, arith, inl, inr}
 use Rattle.station_journal.specs.declared.Entry.{Entry}
 use Rattle.station_journal.specs.declared.Entry.TheVariants.{Heard}
 use Rattle.station_journal.specs.declared.Limits.{Limits}
@@ -71,8 +71,8 @@ module _ {F : Type 0} (gives : F → List ℕ → Result (Unit {0}) Refusal → 
   seat_steps x y (f ∷ fs) [] s = absurd s
   seat_steps x y (f ∷ fs) (u ∷ us) s = (seat s.0, tells x s.0 f u s.1, seat_steps s.0 y fs us s.2)
 
-  pub Works-all : (x y : F) (old new : Drawn) (turns : ℕ) (result : Result Tally PumpFault) → PumpsAll gives x y old new turns result → Works limits (seat x) (seat y) old new turns result
-  Works-all x y old new turns result all =
+  works : (x y : F) (old new : Drawn) (turns : ℕ) (result : Result Tally PumpFault) → PumpsAll gives x y old new turns result → Works limits (seat x) (seat y) old new turns result
+  works x y old new turns result all =
       let steps = seat_steps x y (frames_of all.lines) all.answers all.feeds in
       let fed = Fed-steps limits (seat x) (seat y) (frames_of all.lines) all.answers steps in
       record {
@@ -88,3 +88,29 @@ module _ {F : Type 0} (gives : F → List ℕ → Result (Unit {0}) Refusal → 
         told = all.accepted;
         accepted = fed.accepted ∙ ap (λ n. (seat x).accepted + n) (sym all.accepted);
       }
+
+pub Works-all : {F : Type 0} {gives : F → List ℕ → Result (Unit {0}) Refusal → F → Type 0} {x y : F} {old new : Drawn} {turns : ℕ} {result : Result Tally PumpFault} → PumpsAll gives x y old new turns result
+    → (seat : F → Seated) (limits : Limits) → ((x y : F) (frame : List ℕ) (answer : Result (Unit {0}) Refusal) → gives x frame answer y → SeatSteps limits (seat x) frame answer (seat y)) → Works limits (seat x) (seat y) old new turns result
+Works-all {gives} {x} {y} {old} {new} {turns} {result} all seat limits tells = works gives seat limits tells x y old new turns result all
+
+module _ {F : Type 0} (gives : F → List ℕ → Result (Unit {0}) Refusal → F → Type 0) (name : F → ℕ) (keeps : (x y : F) (frame : List ℕ) (answer : Result (Unit {0}) Refusal) → gives x frame answer y → name y ≡ name x) where
+  name_kept : (x y : F) (fs : List (List ℕ)) (us : List (Result (Unit {0}) Refusal)) → Feeds gives x fs us y → name y ≡ name x
+  name_kept x y [] [] s = ap name s
+  name_kept x y [] (u ∷ us) s = absurd s
+  name_kept x y (f ∷ fs) [] s = absurd s
+  name_kept x y (f ∷ fs) (u ∷ us) s = name_kept s.0 y fs us s.2 ∙ keeps x s.0 f u s.1
+
+-- what each step of a feed keeps, a pump keeps
+pub pump_keeps : {F : Type 0} {gives : F → List ℕ → Result (Unit {0}) Refusal → F → Type 0} {x y : F} {old new : Drawn} {turns : ℕ} {result : Result Tally PumpFault} → PumpsAll gives x y old new turns result
+    → (name : F → ℕ) → ((x y : F) (frame : List ℕ) (answer : Result (Unit {0}) Refusal) → gives x frame answer y → name y ≡ name x) → name y ≡ name x
+pump_keeps {gives} {x} {y} all name keeps = name_kept gives name keeps x y (frames_of all.lines) all.answers all.feeds
+
+-- ---- a piece of one worker
+
+pub only_item : {A : Type 0} (xs : List A) (x d : A) → length xs ≡ 1 → slice_index_or xs 0 d ≡ get_or xs 0 x
+only_item [] x d one = cc
+only_item (y ∷ ys) x d one = refl
+
+pub only_item_set : {A : Type 0} (xs : List A) (x d : A) → length xs ≡ 1 → slice_index_or (slice_set xs 0 x) 0 d ≡ x
+only_item_set [] x d one = cc
+only_item_set (y ∷ ys) x d one = refl

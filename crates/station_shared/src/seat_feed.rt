@@ -1,0 +1,74 @@
+//! A station that takes frames through one seat.
+ghost use Rattle.std.specs.Prelude.{◌≡◌};
+ghost use Rattle.station_shared.specs.Workers.{Works};
+
+use crate::feed::Feed;
+use crate::names::Total;
+use crate::pumping::{PumpFault, pump};
+use crate::rule::Published;
+use crate::seat::Seat;
+use crate::shown::{Mark, Shown, Unlogged};
+use crate::source::Source;
+use crate::station::Station;
+use crate::tally::Tally;
+use crossbeam_utils::rule::Protocol;
+use left_right::Absorb;
+use modes_frame::Frame;
+use station_journal::Refusal;
+use std::sync::Wait;
+
+/// A station, and the lent seat that feeds it.
+#[derive(Drop)]
+pub struct SeatFeed<'a, const N: usize, L: Total>
+where
+    Shown<N>: Absorb<Unlogged, State = ()>,
+    Published: Protocol<Shown<N>, Option<Mark>>,
+{
+    pub station: &'a Station<N, L>,
+    pub seat: &'a mut Seat<N, L>,
+}
+
+impl<'a, const N: usize, L: Total> Feed for SeatFeed<'a, N, L> {
+    ghost use Rattle.std.specs.Prelude.{◌≡◌};
+    ghost use Rattle.station_shared.specs.Workers.{SeatSteps};
+
+    ghost gives = { λ x frame answer y. SeatSteps L.limits x.seat.now frame answer y.seat.now × (y.seat.ghost_name ≡ x.seat.ghost_name) };
+
+    fn feed<R: Wait>(&mut self, rt: &R, frame: Frame) -> Result<(), Refusal> {
+        match self.station.feed(rt, self.seat, frame) {
+            Ok(_) => Ok(()),
+            Err(refusal) => Err(refusal),
+        }
+    }
+}
+
+// The pump over the seat that this feed lends.
+fn pump_lent<const N: usize, L: Total, S: Source, R: Wait>(
+    rt: &R,
+    feed: &mut SeatFeed<'_, N, L>,
+    from: &mut S,
+    turns: u32,
+) -> Result<Tally, PumpFault>
+    ensures same_seat { feed.new.seat.ghost_name ≡ feed.old.seat.ghost_name }
+    ensures works { Works L.limits feed.old.seat.now feed.new.seat.now
+        (record { left = S.left from.old; reads = S.reads from.old; ends = S.ends from.old; failures = S.failures from.old })
+        (record { left = S.left from.new; reads = S.reads from.new; ends = S.ends from.new; failures = S.failures from.new }) turns result }
+{
+    pump(rt, feed, from, turns)
+}
+
+/// Feeds the frames of a source's lines to a station through a seat: [`pump`] over a [`SeatFeed`].
+pub fn pump_seat<const N: usize, L: Total, S: Source, R: Wait>(
+    rt: &R,
+    station: &Station<N, L>,
+    seat: &mut Seat<N, L>,
+    from: &mut S,
+    turns: u32,
+) -> Result<Tally, PumpFault>
+    ensures { Works L.limits seat.old seat.new
+        (record { left = S.left from.old; reads = S.reads from.old; ends = S.ends from.old; failures = S.failures from.old })
+        (record { left = S.left from.new; reads = S.reads from.new; ends = S.ends from.new; failures = S.failures from.new }) turns result }
+{
+    let mut feed = SeatFeed { station, seat };
+    pump_lent(rt, &mut feed, from, turns)
+}

@@ -1,0 +1,75 @@
+//! Receivers that hand in their lines at the same time.
+ghost use Rattle.std.specs.Prelude.{◌≡◌, ◌<◌, ℕ, length, slice_index_or};
+ghost use Rattle.station_shared.specs.Workers.{Worked};
+
+use crate::names::Total;
+use crate::pumping::PumpFault;
+use crate::rule::Published;
+use crate::seat::Seat;
+use crate::seat_feed::pump_seat;
+use crate::shown::{Mark, Shown};
+use crate::source::Source;
+use crate::station::Station;
+use crate::tally::Tally;
+use crossbeam_utils::rule::Protocol;
+use std::sync::Wait;
+use std::thread;
+use std::thread::Threads;
+
+/// A seat, the source of the lines that it hands in, and what its pump answered, once there was one.
+#[derive(Drop)]
+pub struct Worker<const N: usize, S: Source, L: Total>
+where
+    Published: Protocol<Shown<N>, Option<Mark>>,
+{
+    pub seat: Seat<N, L>,
+    pub source: S,
+    pub answer: Option<Result<Tally, PumpFault>>,
+}
+
+// Pumps the one worker of a piece.
+fn run_part<const N: usize, S: Source, L: Total, R: Wait>(
+    rt: &R,
+    station: &Station<N, L>,
+    part: &mut [Worker<N, S, L>],
+    turns: u32,
+)
+    requires { length part.old ≡ 1 }
+    ensures { (d : _) → let old = slice_index_or part.old 0 d in let new = slice_index_or part.new 0 d in
+        Worked L.limits old.seat new.seat
+        (record { left = S.left old.source; reads = S.reads old.source; ends = S.ends old.source; failures = S.failures old.source })
+        (record { left = S.left new.source; reads = S.reads new.source; ends = S.ends new.source; failures = S.failures new.source }) turns new.answer }
+{
+    let worker = &mut part[0];
+    let answer = pump_seat(rt, station, &mut worker.seat, &mut worker.source, turns);
+    worker.answer = Some(answer);
+}
+
+/// Pumps each worker's source through its seat, in a thread of its own, and leaves its answer with it.
+///
+/// Each pump makes at most `turns` reads. Where the system gives no thread, that work runs on the caller's. With no
+/// worker it does nothing.
+pub fn run_receivers<
+    const N: usize,
+    S: Source + Send,
+    L: Total + Send + Sync,
+    R: Threads + Wait + Sync,
+>(rt: &R, station: &Station<N, L>, workers: &mut [Worker<N, S, L>], turns: u32)
+    ensures { (i : ℕ) (d : _) → i < length workers.old → let old = slice_index_or workers.old i d in let new = slice_index_or workers.new i d in
+        Worked L.limits old.seat new.seat
+        (record { left = S.left old.source; reads = S.reads old.source; ends = S.ends old.source; failures = S.failures old.source })
+        (record { left = S.left new.source; reads = S.reads new.source; ends = S.ends new.source; failures = S.failures new.source }) turns new.answer }
+{
+    thread::for_each_chunk_mut(
+        rt,
+        workers,
+        1,
+        &|_, part: &mut [Worker<N, S, L>]|
+            requires { length part.old ≡ 1 }
+            ensures { (d : _) → let old = slice_index_or part.old 0 d in let new = slice_index_or part.new 0 d in
+                Worked L.limits old.seat new.seat
+                (record { left = S.left old.source; reads = S.reads old.source; ends = S.ends old.source; failures = S.failures old.source })
+                (record { left = S.left new.source; reads = S.reads new.source; ends = S.ends new.source; failures = S.failures new.source }) turns new.answer }
+        { run_part(rt, station, part, turns) },
+    );
+}
