@@ -81,11 +81,12 @@ impl<const N: usize, L: Total> Look<N, L> {
             looking,
             front,
         } = self;
+        let place = looking.leave();
         Seat {
             number,
             accepted,
             share,
-            place: looking.leave(),
+            place,
             front,
         }
     }
