@@ -5,6 +5,8 @@ mod faults;
 mod limits;
 mod program;
 mod replay_job;
+mod reporter;
+mod run_job;
 #[cfg(test)]
 mod tests;
 mod words;

@@ -1,31 +1,34 @@
 // The whole program, over any streams.
-ghost use Rattle.std.specs.Prelude.{◌≤◌};
+ghost use Rattle.clap.specs.Words.{takes};
+ghost use Rattle.station_main.specs.Command.{station};
+ghost use Rattle.std.specs.Prelude.{◌≡◌, ◌≤◌, map, true};
 
 use crate::faults::{Fault, tell};
 use crate::replay_job::replay_input;
+use crate::run_job::run_paths;
 use crate::words::{Job, WordsFault, read_words};
 use std::alloc::Global;
+use std::fs::File;
 use std::io::{Read, Write};
+use std::rt::Files;
 use std::sync::Wait;
+use std::thread::Threads;
+use std::time::Clock;
 
 /// Runs the words of a command line, of which the first is the program's name, and answers the exit status: 0, also
 /// where lines were refused, 1 after a fault, 2 for words that are refused.
-pub fn program<R: Wait, I: Read + Drop, O: Write + Drop, E: Write + Drop>(
-    rt: &R,
-    alloc: Global,
-    words: &[&str],
-    input: I,
-    out: O,
-    mut err: E,
-) -> u8
-    ensures { result ≤ 2 }
+pub fn program<
+    R: Threads + Wait + Clock + Files<File = File> + Sync,
+    I: Read + Drop,
+    O: Write + Send + Drop,
+    E: Write + Drop,
+>(rt: &R, alloc: Global, words: &[&str], input: I, out: O, mut err: E) -> u8
+    ensures status { result ≤ 2 }
+    ensures taken { takes station (map (λ w. w.now) words.now) ≡ true → result ≤ 1 }
 {
     match read_words(alloc, words) {
         Ok(Job::Replay) => replay_input(rt, alloc, input, out, err),
-        Ok(Job::Run { .. }) => {
-            let _ = writeln!(err, "groundstation: run is not there yet");
-            2
-        }
+        Ok(Job::Run { every, paths }) => run_paths(rt, alloc, every, &paths, out, &mut err),
         Err(WordsFault::NoMemory) => tell(&mut err, Fault::NoMemory),
         Err(WordsFault::Clap(error)) => write_answer(&error, out, err),
     }

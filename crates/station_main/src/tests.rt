@@ -1,6 +1,12 @@
+mod run;
+
 use crate::program::program;
+use std::fs::File;
 use std::io::{self, Read, Write};
+use std::rt::Files;
 use std::sync::Wait;
+use std::thread::Threads;
+use std::time::Clock;
 
 const IDENTIFICATION: &[u8] = b"*8D4840D6202CC371C32CE0576098;\n?\n";
 
@@ -11,7 +17,11 @@ struct Ran {
     err: Vec<u8>,
 }
 
-fn run_words<R: Wait + AllocGlobal, I: Read + Drop>(rt: &R, words: &[&str], input: I) -> Ran {
+fn run_words<R: Threads + Wait + Clock + Files<File = File> + Sync + AllocGlobal, I: Read + Drop>(
+    rt: &R,
+    words: &[&str],
+    input: I,
+) -> Ran {
     let mut out = Vec::new(rt.alloc());
     let mut err = Vec::new(rt.alloc());
     let status = program(rt, rt.alloc(), words, input, &mut out, &mut err);

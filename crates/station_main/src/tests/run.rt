@@ -1,0 +1,159 @@
+// The job `run`, over files.
+use super::{Closed, Ran, run_words, text};
+use crate::program::program;
+use std::alloc::AllocError;
+use std::fs::File;
+use std::io::ErrorKind;
+use std::path::PathBuf;
+use std::rt::Files;
+use std::sync::Wait;
+use std::thread::Threads;
+use std::time::Clock;
+use std::{env, fs, io};
+
+const IDENTIFICATION: &str = "*8D4840D6202CC371C32CE0576098;\n";
+
+const VELOCITY: &str = "*8D485020994409940838175B284F;\n";
+
+const TABLE_OF_BOTH: &str =
+    "now 0 aircraft 2\n  ADDR CALLSIGN    ALT SQWK     VELOCITY   VERT        LAT        LON AGE\n4840D6 KLM1023       -    -            -      -          -          -   0\n485020 -             -    -      -8/-159   -832          -          -   0\n";
+
+const ONE_FRAME_EACH: &str =
+    "lines 1 frames 1 ticks 0 shows 0 blank 0 modeac 0 faults 0 accepted 1 refused 0\nlines 1 frames 1 ticks 0 shows 0 blank 0 modeac 0 faults 0 accepted 1 refused 0\n";
+
+// Two files in a folder of their own.
+#[derive(Drop)]
+struct TwoFiles {
+    folder: PathBuf,
+    first: PathBuf,
+    second: PathBuf,
+}
+
+fn new_folder<R: Files + AllocGlobal + env::Env>(rt: &R) -> io::Result<PathBuf> {
+    let base = env::temp_dir(rt)?;
+    for i in 0..10_000u32 {
+        let name = format!(in rt.alloc(); "groundstation_{i}")?;
+        let folder = base.as_path().join(rt.alloc(), name.as_str())?;
+        if fs::create_dir(rt, &folder).is_ok() {
+            return Ok(folder);
+        }
+    }
+    Err(io::Error::from(ErrorKind::AlreadyExists))
+}
+
+fn two_files<R: Files + AllocGlobal + env::Env>(
+    rt: &R,
+    first_text: &str,
+    second_text: &str,
+) -> io::Result<TwoFiles> {
+    let folder = new_folder(rt)?;
+    let first = folder.as_path().join(rt.alloc(), "first")?;
+    let second = folder.as_path().join(rt.alloc(), "second")?;
+    fs::write(rt, &first, first_text)?;
+    fs::write(rt, &second, second_text)?;
+    Ok(TwoFiles {
+        folder,
+        first,
+        second,
+    })
+}
+
+fn path_text(path: &PathBuf) -> Result<&str, AllocError> {
+    match path.as_path().to_str() {
+        Some(path) => Ok(path),
+        None => Err(AllocError),
+    }
+}
+
+fn run_two<R: Threads + Wait + Clock + Files<File = File> + Sync + AllocGlobal>(
+    rt: &R,
+    first: &str,
+    second: &str,
+) -> Ran {
+    let nothing: &[u8] = b"";
+    run_words(
+        rt,
+        ["groundstation", "run", "--every", "3600000", first, second].as_slice(),
+        nothing,
+    )
+}
+
+#[test]
+fn two_files_are_shown_in_one_table(rt: HostRuntime) -> io::Result<()> {
+    let files = two_files(&rt, IDENTIFICATION, VELOCITY)?;
+    let ran = run_two(&rt, path_text(&files.first)?, path_text(&files.second)?);
+    assert_eq!(rt; text(&ran.out), TABLE_OF_BOTH);
+    assert_eq!(rt; text(&ran.err), ONE_FRAME_EACH);
+    assert_eq!(rt; ran.status, 0);
+    fs::remove_dir_all(&rt, &files.folder)
+}
+
+#[test]
+fn tallies_stand_in_the_order_of_the_paths(rt: HostRuntime) -> io::Result<()> {
+    let files = two_files(&rt, "\nx\n?\n*0000;\n+5", IDENTIFICATION)?;
+    let ran = run_two(&rt, path_text(&files.first)?, path_text(&files.second)?);
+    assert_eq!(rt;
+        text(&ran.err),
+        "lines 5 frames 0 ticks 0 shows 0 blank 1 modeac 1 faults 3 accepted 0 refused 0\nlines 1 frames 1 ticks 0 shows 0 blank 0 modeac 0 faults 0 accepted 1 refused 0\n"
+    );
+    assert_eq!(rt; ran.status, 0);
+    fs::remove_dir_all(&rt, &files.folder)
+}
+
+#[test]
+fn where_a_path_cannot_be_opened_nothing_is_read(rt: HostRuntime) -> io::Result<()> {
+    let nothing: &[u8] = b"";
+    let absent = run_words(
+        &rt,
+        ["groundstation", "run", "--every", "3600000", "nofile"].as_slice(),
+        nothing,
+    );
+    assert!(rt; absent.status == 1 && absent.out.is_empty());
+    assert_eq!(rt; text(&absent.err), "groundstation: cannot open nofile\n");
+    let files = two_files(&rt, IDENTIFICATION, VELOCITY)?;
+    let second_absent = run_two(&rt, path_text(&files.first)?, "nofile");
+    assert!(rt; second_absent.status == 1 && second_absent.out.is_empty());
+    assert_eq!(rt;
+        text(&second_absent.err),
+        "groundstation: cannot open nofile\n"
+    );
+    let both_absent = run_two(&rt, "no first file", "no second file");
+    assert_eq!(rt;
+        text(&both_absent.err),
+        "groundstation: cannot open no first file\n"
+    );
+    fs::remove_dir_all(&rt, &files.folder)
+}
+
+#[test]
+fn a_failed_read_is_told_after_the_tally_of_its_path(rt: HostRuntime) -> io::Result<()> {
+    let files = two_files(&rt, IDENTIFICATION, VELOCITY)?;
+    let ran = run_two(&rt, path_text(&files.folder)?, path_text(&files.second)?);
+    assert_eq!(rt;
+        text(&ran.err),
+        "lines 0 frames 0 ticks 0 shows 0 blank 0 modeac 0 faults 0 accepted 0 refused 0\ngroundstation: read failed\nlines 1 frames 1 ticks 0 shows 0 blank 0 modeac 0 faults 0 accepted 1 refused 0\n"
+    );
+    assert_eq!(rt; ran.status, 1);
+    fs::remove_dir_all(&rt, &files.folder)
+}
+
+#[test]
+fn a_failed_write_is_told_after_all_tallies(rt: HostRuntime) -> io::Result<()> {
+    let files = two_files(&rt, IDENTIFICATION, VELOCITY)?;
+    let mut err = Vec::new(rt.alloc());
+    let nothing: &[u8] = b"";
+    let first = path_text(&files.first)?;
+    let second = path_text(&files.second)?;
+    let status = program(
+        &rt,
+        rt.alloc(),
+        ["groundstation", "run", "--every", "3600000", first, second].as_slice(),
+        nothing,
+        Closed,
+        &mut err,
+    );
+    assert!(rt; text(&err).starts_with(ONE_FRAME_EACH));
+    assert!(rt; text(&err).ends_with("refused 0\ngroundstation: write failed\n"));
+    assert_eq!(rt; status, 1);
+    fs::remove_dir_all(&rt, &files.folder)
+}
