@@ -2,6 +2,9 @@
 ghost use Rattle.std.specs.Prelude.{◌≡◌, ◌<◌, ℕ, length, slice_index_or};
 ghost use Rattle.station_shared.specs.Workers.{Worked};
 
+#[cfg(test)]
+mod tests;
+
 use crate::names::Total;
 use crate::pumping::PumpFault;
 use crate::rule::Published;
