@@ -11,7 +11,6 @@ pub mod EndingLemmas
 pub mod Fronts
 pub mod Looking
 pub mod Newcomers
-pub mod PlaceLemmas
 pub mod PumpLemmas
 pub mod RowLemmas
 pub mod Rules

@@ -1,20 +1,16 @@
 -- What the seats given at a close say of the journal.
 use Rattle.std.specs.Prelude.{◌≡◌, ℕ, zero, suc, ◌<◌, ◌≤◌, eqb, cond, fold, List, [], ◌∷◌, ◌++◌, length, count_by, sum, sum_by}
+use Rattle.std.specs.List.{AllByRecursion}
 use mathlib.Core.List.{IsPrefix}
 use Rattle.station_journal.specs.declared.Entry.{Entry}
 use Rattle.station_journal.specs.declared.Limits.{Limits}
 use Rattle.station_journal.specs.Log.{IsLegal}
 use Rattle.station_shared.specs.Seats.{Seated, log_of, count_of}
 
--- the fact holds of each seat
-abbrev pub EachSeat : (Seated → Type 0) → List Seated → Type 0
-EachSeat P [] = Unit {0}
-EachSeat P (s ∷ seats) = P s × EachSeat P seats
-
 -- the numbers of the seats are those below n, each once
 pub record EachOnce (n : ℕ) (seats : List Seated) : Type 0 where
   pub as_many : length seats ≡ n
-  pub below : EachSeat (λ s. s.number < n) seats
+  pub below : AllByRecursion (λ (s : Seated). s.number < n) seats
   pub once : (k : ℕ) → k < n → count_by (λ s. eqb k s.number) seats ≡ 1
 
 -- what is kept of each seat
@@ -39,8 +35,8 @@ counts_below (suc n) es = counts_below n es ++ count_of n es ∷ []
 -- seats: as many of each number as that seat was accepted
 pub record Closes (limits : Limits) (n : ℕ) (es : List Entry) (seats : List Seated) : Type 0 where
   pub legal : IsLegal (log_of limits es)
-  pub seen : EachSeat (λ s. IsPrefix s.seen es) seats
+  pub seen : AllByRecursion (λ (s : Seated). IsPrefix s.seen es) seats
   pub total : sum_by (λ s. s.accepted) seats ≡ length es
-  pub each : EachSeat (λ s. count_of s.number es ≡ s.accepted) seats
+  pub each : AllByRecursion (λ (s : Seated). count_of s.number es ≡ s.accepted) seats
   pub by_number : accepted_by n seats ≡ counts_below n es
   pub all : sum (accepted_by n seats) ≡ length es

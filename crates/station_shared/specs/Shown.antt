@@ -69,11 +69,6 @@ pub record IsOf (history : Name) (most : Limits) (view : Option Mark) : Type 0 w
   pub name : mark.front.name ≡ history
   pub limits : mark.limits ≡ most
 
--- the fact holds of each item
-abbrev pub AllOf : {A : Type 0} → (A → Type 0) → List A → Type 0
-AllOf P [] = Unit {0}
-AllOf P (x ∷ xs) = P x × AllOf P xs
-
 -- a publishing end with its reader places: which history it is, how many places, and the book that is published
 pub record Prepared : Type 0 where
   pub history : Name

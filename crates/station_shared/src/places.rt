@@ -1,9 +1,10 @@
 //! A publishing end and its reader places, before the station is made that they are for.
 ghost use Rattle.std.specs.Prelude.{◌≡◌, ◌<◌, ◌≤◌, [], Some, IfOk, vec_len};
+ghost use Rattle.std.specs.List.{AllByRecursion};
 ghost use Rattle.left_right.specs.Sides.{view};
 ghost use Rattle.station_book.specs.State.{starting};
 ghost use Rattle.station_book.specs.Matching.{Matches};
-ghost use Rattle.station_shared.specs.Shown.{AllOf, IsOf};
+ghost use Rattle.station_shared.specs.Shown.{IsOf};
 
 use crate::history::{Front, History};
 use crate::press::{Next, blank, new_place, turn};
@@ -82,7 +83,7 @@ impl<const N: usize> Places<N> {
     ) -> Result<(History, Press<N>, Vec<Place<N>>), NoMemory>
         ensures history { IfOk result (λ t. (t.0.name ≡ self.entry.history) × (t.0.entries ≡ [])) }
         ensures press { IfOk result (λ t. (t.1.desk.shown.value.front ≡ t.0) × (t.1.desk.shown.value.limits ≡ Some limits) × (t.1.desk.shown.value.book ≡ starting 0)) }
-        ensures places { IfOk result (λ t. (vec_len t.2 ≡ self.entry.places) × AllOf (λ p. IsOf self.entry.history limits (view p.place)) t.2.items) }
+        ensures places { IfOk result (λ t. (vec_len t.2 ≡ self.entry.places) × AllByRecursion (λ p. IsOf self.entry.history limits (view p.place)) t.2.items) }
     {
         let Places {
             history,

@@ -1,8 +1,7 @@
-use Rattle.std.proofs.Common.{◌≡◌, ◌<◌, List, take, arith, refl, sym, ◌∙◌, subst}
+use Rattle.std.proofs.Common.{◌≡◌, ◌<◌, List, take, take_all, arith, refl, sym, ◌∙◌, subst}
+use Rattle.std.specs.List.{AllByRecursion}
 use borrow.Author.Count.{below_more}
-use Rattle.station_shared.specs.Closing.{EachSeat}
 use Rattle.station_shared.specs.Seats.{Seated}
-use Rattle.station_shared.proofs.Closing.{take_whole}
 use Rattle.station_shared.proofs.close.each_once.Goals as goal
 
 pub returns-then-times-ne1 : goal.returns-then-times-ne1
@@ -13,10 +12,10 @@ loop-number-preserved g c = below_more _ _ c.loop-number.invariant (sym c.times.
 
 pub returns : goal.returns
 returns g c =
-    let whole : take c.loop-seat.seat-index c.args.seats.now ≡ c.args.seats.now = take_whole c.loop-seat.seat-index c.args.seats.now c.loop-seat-test.false in (
+    let whole : take c.loop-seat.seat-index c.args.seats.now ≡ c.args.seats.now = take_all c.loop-seat.seat-index c.args.seats.now c.loop-seat-test.false in (
       (λ t. record {
         as_many = omega arith;
-        below = subst (λ (l : List Seated). EachSeat (λ s. s.number < c.args.count) l) whole c.loop-seat.invariant;
+        below = subst (λ (l : List Seated). AllByRecursion (λ (s : Seated). s.number < c.args.count) l) whole c.loop-seat.invariant;
         once = λ k below. c.loop-number.invariant k (omega (arith, below, c.loop-number-test.false));
       }),
       (λ each. refl),

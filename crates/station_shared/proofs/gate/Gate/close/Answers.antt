@@ -1,14 +1,16 @@
 use Rattle.std.proofs.Common.{◌≡◌, List, [], ◌∷◌, ◌++◌, length, arith, append_assoc, append-nil, refl, sym, ap, subst, ◌∙◌, vec_len}
 use Rattle.std.specs.Prelude.{sum_by}
+use Rattle.std.specs.List.{AllByRecursion}
+use Rattle.std.proofs.lemmas.List.{nil_from_length}
 use Rattle.std.proofs.lemmas.List.Sums.{sum_by-cons}
 use mathlib.Core.List.{IsPrefix}
 use Rattle.station_journal.specs.declared.Entry.{Entry}
 use Rattle.station_journal.specs.Log.{Log, IsLegal}
-use Rattle.station_shared.specs.Closing.{EachSeat, Backed, Closes}
+use Rattle.station_shared.specs.Closing.{Backed, Closes}
 use Rattle.station_shared.specs.Desk.{State}
 use Rattle.station_shared.specs.Seats.{Seated, log_of}
 use Rattle.station_shared.proofs.Counts.{count_prefix}
-use Rattle.station_shared.proofs.Closing.{closes, nil_of_length}
+use Rattle.station_shared.proofs.Closing.{closes}
 use Rattle.station_shared.proofs.gate.Gate.close.Goals as goal
 
 pub covers-requires : goal.covers-requires
@@ -28,7 +30,7 @@ loop-seat-preserved g c =
     let items : c.args.seats.items ≡ c.pop.new.self.items ++ (seat ∷ i.0) = i.1 ∙ (ap (λ (l : List Seated). l ++ i.0) c.in-Some.ensures.items ∙ append_assoc c.pop.new.self.items (seat ∷ []) i.0) in (
       seat ∷ i.0,
       items,
-      ((seen, omega (arith, parts.counted, count_prefix seat.number seat.seen es seen)), subst (λ (s : State). EachSeat (Backed s.log.entries) i.0) (sym same) i.2),
+      ((seen, omega (arith, parts.counted, count_prefix seat.number seat.seen es seen)), subst (λ (s : State). AllByRecursion (Backed s.log.entries) i.0) (sym same) i.2),
       omega (arith, c.merge.ensures.parts, parts.share.0, i.3),
       omega (arith, c.merge.ensures.amount, parts.share.1, i.4, sum_by-cons (λ (s : Seated). s.accepted) seat i.0),
       same ∙ i.5,
@@ -41,9 +43,9 @@ returns g c =
     let es = log.entries in
     let same : c.loop-seat.desk ≡ c.self.inside.desk = i.5 in
     let none : vec_len c.loop-seat.seats ≡ 0 = c.in_default.ensures.cases.0 in
-    let empty : c.loop-seat.seats.items ≡ [] = nil_of_length c.loop-seat.seats.items (omega (arith, none, c.loop-seat.seats.ok.0)) in
+    let empty : c.loop-seat.seats.items ≡ [] = nil_from_length c.loop-seat.seats.items (omega (arith, none, c.loop-seat.seats.ok.0)) in
     let all : c.args.seats.items ≡ i.0 = i.1 ∙ ap (λ (l : List Seated). l ++ i.0) empty in
-    let backed : EachSeat (Backed es) c.args.seats.items = subst (λ (s : State). EachSeat (Backed s.log.entries) c.args.seats.items) same (subst (λ (l : List Seated). EachSeat (Backed c.loop-seat.desk.log.entries) l) (sym all) i.2) in
+    let backed : AllByRecursion (Backed es) c.args.seats.items = subst (λ (s : State). AllByRecursion (Backed s.log.entries) c.args.seats.items) same (subst (λ (l : List Seated). AllByRecursion (Backed c.loop-seat.desk.log.entries) l) (sym all) i.2) in
     let parts : c.loop-seat.rest.parts ≡ g.L.Ledger.parts = i.3 ∙ (ap (λ (l : List Seated). length l) (sym all) ∙ (c.requires.as_many ∙ sym c.self.invariant.5)) in
     let total : sum_by (λ (s : Seated). s.accepted) c.args.seats.items ≡ length es = ap (λ (l : List Seated). sum_by (λ (s : Seated). s.accepted) l) all ∙ (sym i.4 ∙ (c.audit.ensures.whole parts ∙ c.self.invariant.0)) in
     let under : log ≡ log_of g.L.Total.limits es = c.self.invariant.1 in

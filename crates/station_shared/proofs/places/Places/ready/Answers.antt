@@ -1,8 +1,8 @@
 use Rattle.std.proofs.Common.{◌≡◌, vec_len, Option, arith, sym, ap, subst, ◌∙◌}
+use Rattle.core.proofs.slice.Lists.{all_by_recursion_push}
 use Rattle.left_right.specs.Sides.{view}
 use Rattle.station_shared.specs.Shown.{IsOf, Prepared}
 use Rattle.station_shared.specs.declared.shown.Mark.{Mark}
-use Rattle.station_shared.proofs.PlaceLemmas.{all_snoc}
 use Rattle.station_shared.proofs.places.Places.ready.Goals as goal
 
 pub loop-made-preserved : goal.loop-made-preserved
@@ -16,7 +16,7 @@ loop-made-preserved g c =
       knows = subst (λ (v : Option Mark). IsOf c.self.inside.history.name c.args.limits v) (sym s.1) i.knows;
       made = omega (arith, c.push_reserved.ensures.len, i.made);
       room = omega (arith, c.push_reserved.ensures.capacity, i.room);
-      all = rw c.push_reserved.ensures.items (all_snoc (λ p. IsOf c.self.inside.history.name c.args.limits (view p.place)) c.loop-made.places.items c.in-Ok.place i.all (subst (λ (v : Option Mark). IsOf c.self.inside.history.name c.args.limits v) (sym c.in-Ok.ensures.known) i.knows));
+      all = rw c.push_reserved.ensures.items (all_by_recursion_push (λ p. IsOf c.self.inside.history.name c.args.limits (view p.place)) c.loop-made.places.items c.in-Ok.place i.all (subst (λ (v : Option Mark). IsOf c.self.inside.history.name c.args.limits v) (sym c.in-Ok.ensures.known) i.knows));
     }
 
 pub returns-clause-places : goal.returns-clause-places

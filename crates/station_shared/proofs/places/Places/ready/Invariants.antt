@@ -1,7 +1,8 @@
 use Rattle.std.specs.Prelude.{◌≡◌, ◌≤◌, Some, vec_len, vec_capacity}
+use Rattle.std.specs.List.{AllByRecursion}
 use Rattle.left_right.specs.Sides.{view}
 use Rattle.station_book.specs.State.{starting}
-use Rattle.station_shared.specs.Shown.{AllOf, IsOf}
+use Rattle.station_shared.specs.Shown.{IsOf}
 use Rattle.station_shared.proofs.places.Places.ready.Given as goal
 
 abbrev pub invariant-loop-made : goal.invariant-loop-made
@@ -12,5 +13,5 @@ invariant-loop-made g l = record {
   knows : IsOf l.history.name l.fn.limits (view l.press.desk.place);
   made : vec_len l.places ≡ l._made;
   room : l.count ≤ vec_capacity l.places;
-  all : AllOf (λ p. IsOf l.history.name l.fn.limits (view p.place)) l.places.items;
+  all : AllByRecursion (λ p. IsOf l.history.name l.fn.limits (view p.place)) l.places.items;
 }
