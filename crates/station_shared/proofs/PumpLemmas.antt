@@ -1,9 +1,11 @@
 -- Lines of a pump taken one after another.
-use Rattle.std.proofs.Common.{◌≡◌, ℕ, ◌+◌, ◌≤◌, ◌&&◌, Bool, true, false, List, [], ◌∷◌, ◌++◌, Result, Ok, Err, is_ok, refl, sym, ap, ◌∙◌, subst, append_assoc, arith, count_by}
+use Rattle.std.proofs.Common.{◌≡◌, ℕ, ◌+◌, ◌≤◌, Bool, true, false, List, [], ◌∷◌, ◌++◌, Result, Ok, Err, is_ok, refl, sym, ap, ◌∙◌, subst, append_assoc, arith, count_by}
 use Rattle.std.specs.Prelude.{alloc_error, if◌then◌else◌}
 use Rattle.std.specs.declared.alloc.AllocError.{AllocError}
 use Rattle.std.specs.List.{list_all}
 use Rattle.std.specs.Io.KnownBytes.{Consumes, IsAtEnd}
+use Rattle.std.proofs.lemmas.Bool.{and_from}
+use Rattle.std.proofs.lemmas.List.Folds.{list_all-append}
 use Rattle.modes_frame.specs.declared.cutter.Cut.{Cut}
 use Rattle.modes_frame.specs.declared.cutter.Cut.TheVariants.{Whole, TooLong}
 use Rattle.modes_frame.specs.declared.line.Line.{Line}
@@ -25,9 +27,6 @@ use Rattle.station_shared.specs.declared.tally.Tally.{Tally}
 use Rattle.station_shared.proofs.WalkLemmas.{count_by-append, CountsLines-then, CountsLines-none, Counts-from}
 use Rattle.station_shared.proofs.DrawingLemmas.{Taken, GivenSoFar, Taken-end, Taken-last}
 
-Answer : Type 0
-Answer = Result (Unit {0}) Refusal
-
 -- ---- steps of a feed
 
 pub Feeds-then : {F : Type 0} (gives : F → List ℕ → Result (Unit {0}) Refusal → F → Type 0) (x y z : F) (fs gs : List (List ℕ)) (us vs : List (Result (Unit {0}) Refusal)) → Feeds gives x fs us y → Feeds gives y gs vs z → Feeds gives x (fs ++ gs) (us ++ vs) z
@@ -40,18 +39,10 @@ pub frames_of-append : (cs ds : List Cut) → frames_of (cs ++ ds) ≡ frames_of
 frames_of-append [] ds = refl
 frames_of-append (c ∷ cs) ds = ap (λ fs. frame_in (heard c) ++ fs) (frames_of-append cs ds) ∙ sym (append_assoc (frame_in (heard c)) (frames_of cs) (frames_of ds))
 
-list_all-append : {X : Type 0} (p : X → Bool) (xs ys : List X) → list_all p xs ≡ true → list_all p ys ≡ true → list_all p (xs ++ ys) ≡ true
-list_all-append p [] ys e f = f
-list_all-append p (x ∷ xs) ys e f = both (p x) (list_all p xs) (list_all p (xs ++ ys)) e (λ r. list_all-append p xs ys r f)
-  where
-    both : (a b c : Bool) → a && b ≡ true → (b ≡ true → c ≡ true) → a && c ≡ true
-    both true b c e g = g e
-    both false b c e g = e
-
 -- ---- lines taken
 
 Wants-then : (cs ds : List Cut) (us vs : List (Result (Unit {0}) Refusal)) (r : Result (Unit {0}) AllocError) → list_all is_reply us ≡ true → Wants ds vs r → Wants (cs ++ ds) (us ++ vs) r
-Wants-then cs ds us vs (Ok done) e w = list_all-append is_reply us vs e w
+Wants-then cs ds us vs (Ok done) e w = list_all-append is_reply us vs ∙ and_from _ _ e w
 Wants-then cs ds us vs (Err want) e w = record {
   front = cs ++ w.front;
   last = w.last;
@@ -60,7 +51,7 @@ Wants-then cs ds us vs (Err want) e w = record {
   parts = ap (λ es. cs ++ es) w.parts ∙ sym (append_assoc cs w.front _);
   asks = w.asks;
   told = ap (λ es. us ++ es) w.told ∙ sym (append_assoc us w.replies _);
-  others = list_all-append is_reply us w.replies e w.others;
+  others = list_all-append is_reply us w.replies ∙ and_from _ _ e w.others;
 }
 
 module _ {F : Type 0} (gives : F → List ℕ → Result (Unit {0}) Refusal → F → Type 0) where
