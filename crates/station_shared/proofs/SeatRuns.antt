@@ -93,18 +93,6 @@ pub Works-all : {F : Type 0} {gives : F → List ℕ → Result (Unit {0}) Refus
     → (seat : F → Seated) (limits : Limits) → ((x y : F) (frame : List ℕ) (answer : Result (Unit {0}) Refusal) → gives x frame answer y → SeatSteps limits (seat x) frame answer (seat y)) → Works limits (seat x) (seat y) old new turns result
 Works-all {gives} {x} {y} {old} {new} {turns} {result} all seat limits tells = works gives seat limits tells x y old new turns result all
 
-module _ {F : Type 0} (gives : F → List ℕ → Result (Unit {0}) Refusal → F → Type 0) (name : F → ℕ) (keeps : (x y : F) (frame : List ℕ) (answer : Result (Unit {0}) Refusal) → gives x frame answer y → name y ≡ name x) where
-  name_kept : (x y : F) (fs : List (List ℕ)) (us : List (Result (Unit {0}) Refusal)) → Feeds gives x fs us y → name y ≡ name x
-  name_kept x y [] [] s = ap name s
-  name_kept x y [] (u ∷ us) s = absurd s
-  name_kept x y (f ∷ fs) [] s = absurd s
-  name_kept x y (f ∷ fs) (u ∷ us) s = name_kept s.0 y fs us s.2 ∙ keeps x s.0 f u s.1
-
--- what each step of a feed keeps, a pump keeps
-pub pump_keeps : {F : Type 0} {gives : F → List ℕ → Result (Unit {0}) Refusal → F → Type 0} {x y : F} {old new : Drawn} {turns : ℕ} {result : Result Tally PumpFault} → PumpsAll gives x y old new turns result
-    → (name : F → ℕ) → ((x y : F) (frame : List ℕ) (answer : Result (Unit {0}) Refusal) → gives x frame answer y → name y ≡ name x) → name y ≡ name x
-pump_keeps {gives} {x} {y} all name keeps = name_kept gives name keeps x y (frames_of all.lines) all.answers all.feeds
-
 -- ---- a piece of one worker
 
 pub only_item : {A : Type 0} (xs : List A) (x d : A) → length xs ≡ 1 → slice_index_or xs 0 d ≡ get_or xs 0 x
