@@ -5,7 +5,6 @@ pub mod close;
 pub mod command;
 pub mod desk;
 pub mod desk_pump;
-pub mod example;
 #[cfg(test)]
 mod fakes;
 pub mod feed;
