@@ -18,7 +18,7 @@ impl<const N: usize> Protocol<Shown<N>, Option<Mark>> for Published {
 }
 
 /// Entering and publishing tell what is published afterwards.
-pub struct Sees;
+pub(crate) struct Sees;
 
 impl<const N: usize> Outcome<Shown<N>, Option<Mark>> for Sees {
     ghost use Rattle.station_shared.specs.Shown.{SawPublished, sheet};
@@ -27,7 +27,7 @@ impl<const N: usize> Outcome<Shown<N>, Option<Mark>> for Sees {
 }
 
 /// A note gives a reader the writer's view.
-pub struct Notes;
+pub(crate) struct Notes;
 
 impl Split<Option<Mark>> for Notes {
     ghost left = { λ v. v };
@@ -44,10 +44,10 @@ impl Join<Option<Mark>> for Notes {
 }
 
 /// A reader's place, outside.
-pub type Place<const N: usize> = Reader<Shown<N>, Option<Mark>, Published>;
+pub(crate) type Place<const N: usize> = Reader<Shown<N>, Option<Mark>, Published>;
 
 /// A reader's place, from which it looks at what is published.
-pub type Looking<const N: usize> = Reading<Shown<N>, Option<Mark>, Published>;
+pub(crate) type Looking<const N: usize> = Reading<Shown<N>, Option<Mark>, Published>;
 
 /// The publishing end.
-pub type Press<const N: usize> = Writer<Shown<N>, Unlogged, Option<Mark>, Published>;
+pub(crate) type Press<const N: usize> = Writer<Shown<N>, Unlogged, Option<Mark>, Published>;
