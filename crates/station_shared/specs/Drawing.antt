@@ -13,6 +13,10 @@ pub record Drawn : Type 0 where
   pub ends : ℕ
   pub failures : ℕ
 
+-- what a source is seen as, by what its trait tells of it
+abbrev pub drawn_of : {S : Type 0} → (S → Option (List ℕ)) → (S → ℕ) → (S → ℕ) → (S → ℕ) → S → Drawn
+drawn_of left reads ends failures source = record { left = left source; reads = reads source; ends = ends source; failures = failures source }
+
 -- why no further line is taken: the source gave the end, a read failed, all turns are over, or a line stopped the call
 pub data Ending : Type 0 where
   AtEnd : Ending

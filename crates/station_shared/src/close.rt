@@ -55,9 +55,12 @@ impl<const N: usize, L: Total> Station<N, L> {
     /// were.
     pub fn close<R: Wait>(self, rt: &R, seats: Vec<Seat<N, L>>) -> Result<Closed, Missing<N, L>>
         ensures seats { IfOk result (λ c. EachOnce L.seats seats.items) }
-        ensures journal { IfOk result (λ c. (c.journal.log ≡ log_of L.limits c.journal.log.entries) × Closes L.limits L.seats c.journal.log.entries seats.items) }
+        ensures journal { IfOk result (λ c. (c.journal.log ≡ log_of L.limits c.journal.log.entries)
+            × Closes L.limits L.seats c.journal.log.entries seats.items) }
         ensures accepted { IfOk result (λ c. c.accepted.items ≡ accepted_by L.seats seats.items) }
-        ensures missing { IfErr result (λ missing. ¬ EachOnce L.seats seats.items × (missing.station ≡ self) × (missing.seats.items ≡ seats.items)) }
+        ensures missing { IfErr result (λ missing. ¬ EachOnce L.seats seats.items
+            × (missing.station ≡ self)
+            × (missing.seats.items ≡ seats.items)) }
     {
         if !each_once(seats.as_slice(), self.seats) {
             return Err(Missing {

@@ -1,6 +1,7 @@
 //! The pump over a desk that is lent.
 ghost use Rattle.std.specs.Prelude.{◌≡◌, ◌≤◌};
 ghost use Rattle.station_shared.specs.DeskPump.{PumpsDesk};
+ghost use Rattle.station_shared.specs.Drawing.{drawn_of};
 
 use crate::desk::Desk;
 use crate::feed::DeskFeed;
@@ -18,8 +19,8 @@ fn pump_lent<const N: usize, S: Source, R: Wait>(
 ) -> Result<Tally, PumpFault>
     ensures same_desk { feed.new.desk.ghost_name ≡ feed.old.desk.ghost_name }
     ensures pumps { PumpsDesk feed.old.seat feed.old.desk.now.log feed.new.desk.now.log
-        (record { left = S.left from.old; reads = S.reads from.old; ends = S.ends from.old; failures = S.failures from.old })
-        (record { left = S.left from.new; reads = S.reads from.new; ends = S.ends from.new; failures = S.failures from.new }) turns result }
+        (drawn_of S.left S.reads S.ends S.failures from.old)
+        (drawn_of S.left S.reads S.ends S.failures from.new) turns result }
 {
     pump(rt, feed, from, turns)
 }
@@ -34,8 +35,8 @@ pub fn pump_desk<const N: usize, S: Source, R: Wait>(
 ) -> Result<Tally, PumpFault>
     requires small { N ≤ 4096 }
     ensures { PumpsDesk seat desk.old.log desk.new.log
-        (record { left = S.left from.old; reads = S.reads from.old; ends = S.ends from.old; failures = S.failures from.old })
-        (record { left = S.left from.new; reads = S.reads from.new; ends = S.ends from.new; failures = S.failures from.new }) turns result }
+        (drawn_of S.left S.reads S.ends S.failures from.old)
+        (drawn_of S.left S.reads S.ends S.failures from.new) turns result }
 {
     let mut feed = DeskFeed { desk, seat };
     pump_lent(rt, &mut feed, from, turns)

@@ -31,7 +31,9 @@ impl<'a, const N: usize> Feed for DeskFeed<'a, N> {
     ghost use Rattle.std.specs.Prelude.{◌≡◌};
     ghost use Rattle.station_shared.specs.Feeds.{FeedSteps};
 
-    ghost gives = { λ x frame answer y. FeedSteps x.desk.now.log x.seat frame answer y.desk.now.log × (y.seat ≡ x.seat) × (y.desk.ghost_name ≡ x.desk.ghost_name) };
+    ghost gives = { λ x frame answer y. FeedSteps x.desk.now.log x.seat frame answer y.desk.now.log
+        × (y.seat ≡ x.seat)
+        × (y.desk.ghost_name ≡ x.desk.ghost_name) };
 
     fn feed<R: Wait>(&mut self, rt: &R, frame: Frame) -> Result<(), Refusal> {
         match self.desk.feed(rt, self.seat, frame) {

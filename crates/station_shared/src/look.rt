@@ -41,10 +41,19 @@ where
 
     ghost Value = { Seated };
 
-    ghost view = { λ s. record { number = s.number; accepted = s.accepted; seen = s.front.entries } };
+    ghost view = { λ s. record {
+      number = s.number;
+      accepted = s.accepted;
+      seen = s.front.entries;
+    } };
 
-    ghost invariant = { λ s. (s.share.parts ≡ 1) × (s.share.amount ≡ s.accepted) × IsOf L.history L.limits (view_of s.looking.place) × (s.front.name ≡ L.history)
-        × (s.accepted ≤ count_of s.number s.front.entries) × Matches N 0 s.looking.part.value.book s.front.entries × IsLegal (log_of L.limits s.front.entries) };
+    ghost invariant = { λ s. (s.share.parts ≡ 1)
+        × (s.share.amount ≡ s.accepted)
+        × IsOf L.history L.limits (view_of s.looking.place)
+        × (s.front.name ≡ L.history)
+        × (s.accepted ≤ count_of s.number s.front.entries)
+        × Matches N 0 s.looking.part.value.book s.front.entries
+        × IsLegal (log_of L.limits s.front.entries) };
 }
 
 impl<const N: usize, L: Total> Look<N, L> {

@@ -20,7 +20,10 @@ impl Total for Brand {
 
     ghost seats = { 0 };
 
-    ghost history = { record { book = record { number = 0; log_name = 0; cells_name = 0 }; root = [] } };
+    ghost history = { record {
+      book = record { number = 0; log_name = 0; cells_name = 0 };
+      root = [];
+    } };
 
     ghost limits = { record { entries = 0; aircraft = 0 } };
 }

@@ -42,10 +42,16 @@ where
 
     ghost Value = { Prepared };
 
-    ghost view = { λ p. record { history = p.history.name; places = vec_len p.places; shown = p.press.desk.shown.value.book } };
+    ghost view = { λ p. record {
+      history = p.history.name;
+      places = vec_len p.places;
+      shown = p.press.desk.shown.value.book;
+    } };
 
-    ghost invariant = { λ p. (p.history.entries ≡ []) × (p.press.desk.shown.value.front ≡ p.history)
-        × (p.press.desk.shown.value.book ≡ starting 0) × (p.press.desk.shown.value.limits ≡ None) };
+    ghost invariant = { λ p. (p.history.entries ≡ [])
+        × (p.press.desk.shown.value.front ≡ p.history)
+        × (p.press.desk.shown.value.book ≡ starting 0)
+        × (p.press.desk.shown.value.limits ≡ None) };
 }
 
 impl<const N: usize> Places<N> {
@@ -82,8 +88,11 @@ impl<const N: usize> Places<N> {
         limits: Limits,
     ) -> Result<(History, Press<N>, Vec<Place<N>>), NoMemory>
         ensures history { IfOk result (λ t. (t.0.name ≡ self.entry.history) × (t.0.entries ≡ [])) }
-        ensures press { IfOk result (λ t. (t.1.desk.shown.value.front ≡ t.0) × (t.1.desk.shown.value.limits ≡ Some limits) × (t.1.desk.shown.value.book ≡ starting 0)) }
-        ensures places { IfOk result (λ t. (vec_len t.2 ≡ self.entry.places) × AllByRecursion (λ p. IsOf self.entry.history limits (view p.place)) t.2.items) }
+        ensures press { IfOk result (λ t. (t.1.desk.shown.value.front ≡ t.0)
+            × (t.1.desk.shown.value.limits ≡ Some limits)
+            × (t.1.desk.shown.value.book ≡ starting 0)) }
+        ensures places { IfOk result (λ t. (vec_len t.2 ≡ self.entry.places)
+            × AllByRecursion (λ p. IsOf self.entry.history limits (view p.place)) t.2.items) }
     {
         let Places {
             history,

@@ -69,9 +69,16 @@ where
 
     ghost Value = { Seated };
 
-    ghost view = { λ s. record { number = s.number; accepted = s.accepted; seen = s.front.entries } };
+    ghost view = { λ s. record {
+      number = s.number;
+      accepted = s.accepted;
+      seen = s.front.entries;
+    } };
 
-    ghost invariant = { λ s. (s.share.parts ≡ 1) × (s.share.amount ≡ s.accepted) × IsOf L.history L.limits (view_of s.place.place) × (s.front.name ≡ L.history)
+    ghost invariant = { λ s. (s.share.parts ≡ 1)
+        × (s.share.amount ≡ s.accepted)
+        × IsOf L.history L.limits (view_of s.place.place)
+        × (s.front.name ≡ L.history)
         × (s.accepted ≤ count_of s.number s.front.entries) };
 }
 

@@ -1,5 +1,6 @@
 //! A station that takes frames through one seat.
 ghost use Rattle.std.specs.Prelude.{◌≡◌};
+ghost use Rattle.station_shared.specs.Drawing.{drawn_of};
 ghost use Rattle.station_shared.specs.Workers.{Works};
 
 use crate::feed::Feed;
@@ -32,7 +33,8 @@ impl<'a, const N: usize, L: Total> Feed for SeatFeed<'a, N, L> {
     ghost use Rattle.std.specs.Prelude.{◌≡◌};
     ghost use Rattle.station_shared.specs.Workers.{SeatSteps};
 
-    ghost gives = { λ x frame answer y. SeatSteps L.limits x.seat.now frame answer y.seat.now × (y.seat.ghost_name ≡ x.seat.ghost_name) };
+    ghost gives = { λ x frame answer y. SeatSteps L.limits x.seat.now frame answer y.seat.now
+        × (y.seat.ghost_name ≡ x.seat.ghost_name) };
 
     fn feed<R: Wait>(&mut self, rt: &R, frame: Frame) -> Result<(), Refusal> {
         match self.station.feed(rt, self.seat, frame) {
@@ -51,8 +53,8 @@ fn pump_lent<const N: usize, L: Total, S: Source, R: Wait>(
 ) -> Result<Tally, PumpFault>
     ensures same_seat { feed.new.seat.ghost_name ≡ feed.old.seat.ghost_name }
     ensures works { Works L.limits feed.old.seat.now feed.new.seat.now
-        (record { left = S.left from.old; reads = S.reads from.old; ends = S.ends from.old; failures = S.failures from.old })
-        (record { left = S.left from.new; reads = S.reads from.new; ends = S.ends from.new; failures = S.failures from.new }) turns result }
+        (drawn_of S.left S.reads S.ends S.failures from.old)
+        (drawn_of S.left S.reads S.ends S.failures from.new) turns result }
 {
     pump(rt, feed, from, turns)
 }
@@ -66,8 +68,8 @@ pub fn pump_seat<const N: usize, L: Total, S: Source, R: Wait>(
     turns: u32,
 ) -> Result<Tally, PumpFault>
     ensures { Works L.limits seat.old seat.new
-        (record { left = S.left from.old; reads = S.reads from.old; ends = S.ends from.old; failures = S.failures from.old })
-        (record { left = S.left from.new; reads = S.reads from.new; ends = S.ends from.new; failures = S.failures from.new }) turns result }
+        (drawn_of S.left S.reads S.ends S.failures from.old)
+        (drawn_of S.left S.reads S.ends S.failures from.new) turns result }
 {
     let mut feed = SeatFeed { station, seat };
     pump_lent(rt, &mut feed, from, turns)

@@ -1,5 +1,6 @@
 //! Receivers that hand in their lines at the same time.
 ghost use Rattle.std.specs.Prelude.{◌≡◌, ◌<◌, ℕ, length, slice_index_or};
+ghost use Rattle.station_shared.specs.Drawing.{drawn_of};
 ghost use Rattle.station_shared.specs.Workers.{Worked};
 
 #[cfg(test)]
@@ -38,10 +39,12 @@ fn run_part<const N: usize, S: Source, L: Total, R: Wait>(
     turns: u32,
 )
     requires { length part.old ≡ 1 }
-    ensures { (d : _) → let old = slice_index_or part.old 0 d in let new = slice_index_or part.new 0 d in
+    ensures { (d : _) →
+        let old = slice_index_or part.old 0 d in
+        let new = slice_index_or part.new 0 d in
         Worked L.limits old.seat new.seat
-        (record { left = S.left old.source; reads = S.reads old.source; ends = S.ends old.source; failures = S.failures old.source })
-        (record { left = S.left new.source; reads = S.reads new.source; ends = S.ends new.source; failures = S.failures new.source }) turns new.answer }
+        (drawn_of S.left S.reads S.ends S.failures old.source)
+        (drawn_of S.left S.reads S.ends S.failures new.source) turns new.answer }
 {
     let worker = &mut part[0];
     let answer = pump_seat(rt, station, &mut worker.seat, &mut worker.source, turns);
@@ -58,10 +61,12 @@ pub fn run_receivers<
     L: Total + Send + Sync,
     R: Threads + Wait + Sync,
 >(rt: &R, station: &Station<N, L>, workers: &mut [Worker<N, S, L>], turns: u32)
-    ensures { (i : ℕ) (d : _) → i < length workers.old → let old = slice_index_or workers.old i d in let new = slice_index_or workers.new i d in
+    ensures { (i : ℕ) (d : _) → i < length workers.old →
+        let old = slice_index_or workers.old i d in
+        let new = slice_index_or workers.new i d in
         Worked L.limits old.seat new.seat
-        (record { left = S.left old.source; reads = S.reads old.source; ends = S.ends old.source; failures = S.failures old.source })
-        (record { left = S.left new.source; reads = S.reads new.source; ends = S.ends new.source; failures = S.failures new.source }) turns new.answer }
+        (drawn_of S.left S.reads S.ends S.failures old.source)
+        (drawn_of S.left S.reads S.ends S.failures new.source) turns new.answer }
 {
     thread::for_each_chunk_mut(
         rt,
@@ -69,10 +74,12 @@ pub fn run_receivers<
         1,
         &|_, part: &mut [Worker<N, S, L>]|
             requires { length part.old ≡ 1 }
-            ensures { (d : _) → let old = slice_index_or part.old 0 d in let new = slice_index_or part.new 0 d in
+            ensures { (d : _) →
+                let old = slice_index_or part.old 0 d in
+                let new = slice_index_or part.new 0 d in
                 Worked L.limits old.seat new.seat
-                (record { left = S.left old.source; reads = S.reads old.source; ends = S.ends old.source; failures = S.failures old.source })
-                (record { left = S.left new.source; reads = S.reads new.source; ends = S.ends new.source; failures = S.failures new.source }) turns new.answer }
+                (drawn_of S.left S.reads S.ends S.failures old.source)
+                (drawn_of S.left S.reads S.ends S.failures new.source) turns new.answer }
         { run_part(rt, station, part, turns) },
     );
 }

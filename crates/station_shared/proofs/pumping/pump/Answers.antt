@@ -1,7 +1,7 @@
 use Rattle.std.proofs.Common.{refl, length, length-take-le, not, ap, ◌∙◌, arith}
 use Rattle.station_report.specs.Sink.{counted}
 use Rattle.station_report.specs.declared.sinks.Failed.{Failed}
-use Rattle.station_shared.specs.Drawing.{Drawn}
+use Rattle.station_shared.specs.Drawing.{drawn_of}
 use Rattle.station_shared.specs.Pump.{Pumps}
 use Rattle.station_shared.proofs.EndLemmas.{at_end, not_at_end, Consumes_none}
 use Rattle.station_shared.proofs.PumpLemmas.{Pumps-then, Pumps-none, PumpsAll-read, PumpsAll-turns, PumpsAll-stop, PumpsAll-end}
@@ -20,9 +20,9 @@ loop-turn-init g c = record {
 pub returns-in-Err : goal.returns-in-Err
 returns-in-Err g c =
     let S = g.S.Source in
-    let old : Drawn = record { left = S.left c.args.from.now; reads = S.reads c.args.from.now; ends = S.ends c.args.from.now; failures = S.failures c.args.from.now } in
-    let mid : Drawn = record { left = S.left c.loop-turn.from; reads = S.reads c.loop-turn.from; ends = S.ends c.loop-turn.from; failures = S.failures c.loop-turn.from } in
-    let new : Drawn = record { left = S.left c.read.new.self; reads = S.reads c.read.new.self; ends = S.ends c.read.new.self; failures = S.failures c.read.new.self } in
+    let old = drawn_of S.left S.reads S.ends S.failures c.args.from.now in
+    let mid = drawn_of S.left S.reads S.ends S.failures c.loop-turn.from in
+    let new = drawn_of S.left S.reads S.ends S.failures c.read.new.self in
     let inv = c.loop-turn.invariant in
     let told = c.in-Err.ensures in
     PumpsAll-read g.F.Feed.gives c.new-tally.ensures (Taken-read (Pumps g.F.Feed.gives) (Pumps-then g.F.Feed.gives) old mid new _ _ _ inv.so_far c.loop-turn._turn c.args.turns told.bytes (omega arith)
@@ -31,9 +31,9 @@ returns-in-Err g c =
 pub returns-in-Ok-eq0 : goal.returns-in-Ok-eq0
 returns-in-Ok-eq0 g c =
     let S = g.S.Source in
-    let old : Drawn = record { left = S.left c.args.from.now; reads = S.reads c.args.from.now; ends = S.ends c.args.from.now; failures = S.failures c.args.from.now } in
-    let mid : Drawn = record { left = S.left c.loop-turn.from; reads = S.reads c.loop-turn.from; ends = S.ends c.loop-turn.from; failures = S.failures c.loop-turn.from } in
-    let new : Drawn = record { left = S.left c.read.new.self; reads = S.reads c.read.new.self; ends = S.ends c.read.new.self; failures = S.failures c.read.new.self } in
+    let old = drawn_of S.left S.reads S.ends S.failures c.args.from.now in
+    let mid = drawn_of S.left S.reads S.ends S.failures c.loop-turn.from in
+    let new = drawn_of S.left S.reads S.ends S.failures c.read.new.self in
     let inv = c.loop-turn.invariant in
     let told = c.in-Ok-eq0.ensures in
     let at = at_end Failed c.in-Ok-eq0.field-0 (length c.read.new.buffer) (omega arith) (omega (arith, c.read.auto.buffer)) in
@@ -46,9 +46,9 @@ returns-in-Ok-eq0 g c =
 pub returns-in-Err-take_bytes : goal.returns-in-Err-take_bytes
 returns-in-Err-take_bytes g c =
     let S = g.S.Source in
-    let old : Drawn = record { left = S.left c.args.from.now; reads = S.reads c.args.from.now; ends = S.ends c.args.from.now; failures = S.failures c.args.from.now } in
-    let mid : Drawn = record { left = S.left c.loop-turn.from; reads = S.reads c.loop-turn.from; ends = S.ends c.loop-turn.from; failures = S.failures c.loop-turn.from } in
-    let new : Drawn = record { left = S.left c.read.new.self; reads = S.reads c.read.new.self; ends = S.ends c.read.new.self; failures = S.failures c.read.new.self } in
+    let old = drawn_of S.left S.reads S.ends S.failures c.args.from.now in
+    let mid = drawn_of S.left S.reads S.ends S.failures c.loop-turn.from in
+    let new = drawn_of S.left S.reads S.ends S.failures c.read.new.self in
     let inv = c.loop-turn.invariant in
     let told = c.in-Ok.ensures in
     rw c.answer-in-Err-take_bytes.ensures (PumpsAll-stop g.F.Feed.gives c.new-tally.ensures _ (Taken-stop (Pumps g.F.Feed.gives) (Pumps-then g.F.Feed.gives) old mid new _ _ _ inv.so_far _ _ _ told.bytes.0 c.loop-turn._turn c.args.turns _ (omega arith)
@@ -58,9 +58,9 @@ returns-in-Err-take_bytes g c =
 pub loop-turn-preserved : goal.loop-turn-preserved
 loop-turn-preserved g c =
     let S = g.S.Source in
-    let old : Drawn = record { left = S.left c.args.from.now; reads = S.reads c.args.from.now; ends = S.ends c.args.from.now; failures = S.failures c.args.from.now } in
-    let mid : Drawn = record { left = S.left c.loop-turn.from; reads = S.reads c.loop-turn.from; ends = S.ends c.loop-turn.from; failures = S.failures c.loop-turn.from } in
-    let new : Drawn = record { left = S.left c.read.new.self; reads = S.reads c.read.new.self; ends = S.ends c.read.new.self; failures = S.failures c.read.new.self } in
+    let old = drawn_of S.left S.reads S.ends S.failures c.args.from.now in
+    let mid = drawn_of S.left S.reads S.ends S.failures c.loop-turn.from in
+    let new = drawn_of S.left S.reads S.ends S.failures c.read.new.self in
     let inv = c.loop-turn.invariant in
     let told = c.in-Ok.ensures in
     record {
@@ -74,7 +74,7 @@ loop-turn-preserved g c =
 pub returns : goal.returns
 returns g c =
     let S = g.S.Source in
-    let old : Drawn = record { left = S.left c.args.from.now; reads = S.reads c.args.from.now; ends = S.ends c.args.from.now; failures = S.failures c.args.from.now } in
-    let mid : Drawn = record { left = S.left c.loop-turn.from; reads = S.reads c.loop-turn.from; ends = S.ends c.loop-turn.from; failures = S.failures c.loop-turn.from } in
+    let old = drawn_of S.left S.reads S.ends S.failures c.args.from.now in
+    let mid = drawn_of S.left S.reads S.ends S.failures c.loop-turn.from in
     let inv = c.loop-turn.invariant in
     PumpsAll-turns g.F.Feed.gives c.new-tally.ensures (Taken-turns (Pumps g.F.Feed.gives) old mid _ _ _ inv.so_far c.loop-turn._turn c.args.turns (omega arith) inv.reads inv.ends inv.failures)
