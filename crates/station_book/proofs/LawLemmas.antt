@@ -1,5 +1,5 @@
 -- The laws of the book over whole journals.
-use Rattle.std.proofs.Common.{◌≡◌, ℕ, ◌<◌, true, List, [], ◌∷◌, ◌++◌, length, None, ◌∙◌, arith}
+use Rattle.std.proofs.Common.{◌≡◌, ℕ, ◌<◌, true, List, [], ◌∷◌, ◌++◌, length, None, refl, ◌∙◌, arith}
 use Rattle.std.specs.Prelude.{nat_lt}
 use Rattle.std.proofs.lemmas.Bool.Decides.{nat_tests}
 use mathlib.Core.List.{reverse}
@@ -36,12 +36,15 @@ pub accepted_fits_book : (log : Log) (book : State) (entry : Entry) → refusal_
 accepted_fits_book log book entry accepted m =
     fits_from log.limits.aircraft log.base (past_of log) book m entry (fits_from_accepts log.limits log.base (past_of log) entry accepted)
 
-pub match_after_offer : (log : Log) (book : State) (entry : Entry) → refusal_of log entry ≡ None → length log.entries < most_entries → Matches log.limits.aircraft log.base book log.entries → Matches log.limits.aircraft log.base (offered log.limits.aircraft book entry) (log.entries ++ entry ∷ [])
-match_after_offer log book entry accepted few m =
+pub offer_is_taken : (log : Log) (book : State) (entry : Entry) → refusal_of log entry ≡ None → length log.entries < most_entries → Matches log.limits.aircraft log.base book log.entries → offered log.limits.aircraft book entry ≡ applied book entry
+offer_is_taken log book entry accepted few m =
     let free : book_refusal log.limits.aircraft book entry ≡ None = same_refusal log.limits.aircraft log.base (past_of log) book m entry ∙ accepted_with_room (is_full log.limits (past_of log)) log.limits.aircraft log.base (past_of log) entry accepted in
     let count : book.entries ≡ length log.entries = m.entries ∙ length-reverse log.entries in
     let test : nat_lt book.entries most_entries ≡ true = rw count (grind (arith, nat_tests)) in
-    rw (free, test) (match_after_accepted log book entry accepted m)
+    rw (free, test) refl
+
+pub match_after_offer : (log : Log) (book : State) (entry : Entry) → refusal_of log entry ≡ None → length log.entries < most_entries → Matches log.limits.aircraft log.base book log.entries → Matches log.limits.aircraft log.base (offered log.limits.aircraft book entry) (log.entries ++ entry ∷ [])
+match_after_offer log book entry accepted few m = rw (offer_is_taken log book entry accepted few m) (match_after_accepted log book entry accepted m)
 
 matches_legal : (limits : Limits) (base : ℕ) (past : List Entry) → Legal limits base past → MatchesPast limits.aircraft base (book_of_past base past) past
 matches_legal limits base [] legal = matches_starting limits.aircraft base

@@ -7,3 +7,4 @@ pub mod TableLemmas
 pub mod VerdictLemmas
 pub mod LawLemmas
 pub mod OfferLemmas
+pub mod CatchingLemmas

@@ -1,5 +1,5 @@
 -- What stands at the rank of an address among rising tracks, and what an edit there does.
-use Rattle.std.proofs.Common.{◌≡◌, ℕ, zero, suc, ◌<◌, ◌≤◌, ◌≢◌, List, [], ◌∷◌, length, map, get_or, ltb, true, false, set, drop, None, Ok, Err, refl, ap, sym, subst, ◌∙◌, arith}
+use Rattle.std.proofs.Common.{◌≡◌, ℕ, zero, suc, ◌<◌, ◌≤◌, ◌≢◌, List, [], ◌∷◌, length, map, get_or, ltb, true, false, set, drop, None, Some, is_some, Ok, Err, refl, ap, sym, subst, ◌∙◌, arith}
 use Rattle.std.specs.List.{insert, refill}
 use Rattle.std.specs.Prelude.{slice_get, unwrap_or}
 use Rattle.std.proofs.lemmas.Option.{slice_get-get_or}
@@ -10,7 +10,7 @@ use Rattle.std.proofs.lemmas.Bool.Decides.{nat_tests}
 use Rattle.std.proofs.lemmas.List.{length-map}
 use Rattle.station_journal.proofs.RisingLemmas.{AllOver, IsRising}
 use Rattle.station_book.specs.declared.tracks.Track.{Track}
-use Rattle.station_book.specs.Tracks.{blank, updated, find_track, put_track, track_or_blank, address_of, Rising, IsRank, IsPlace}
+use Rattle.station_book.specs.Tracks.{blank, updated, find_track, put_track, track_or_blank, address_of, Rising, IsRank, IsPlace, with_track}
 use Rattle.station_book.proofs.TracksLemmas.{find_below, found_address}
 
 -- a slice written back whole
@@ -120,3 +120,13 @@ update_there a i now fields xs d place =
     let stood : get_or xs i d ≡ track_or_blank a xs = ap (λ o. unwrap_or o (blank a)) (sym (slice_get-get_or xs i d place.0) ∙ place.1) in
     let address : (updated now fields (get_or xs i d)).address ≡ a = ap address_of stood ∙ found_address a xs in
     place.2 (updated now fields (get_or xs i d)) address ∙ ap (λ t. put_track (updated now fields t) xs) stood
+
+-- the track at the place of an address is of that address
+pub stands_there : (a i : ℕ) (xs : List Track) (d : Track) → IsPlace xs a (Ok i) → (get_or xs i d).address ≡ a
+stands_there a i xs d place = ap (λ o. (unwrap_or o (blank a)).address) (sym (slice_get-get_or xs i d place.0) ∙ place.1) ∙ found_address a xs
+
+-- a track is copied over the one of its address
+pub copy_there : (n i : ℕ) (t : Track) (xs : List Track) → IsPlace xs t.address (Ok i) → set xs i t ≡ with_track n (Some t) xs
+copy_there n i t xs place =
+    let known : is_some (find_track t.address xs) ≡ true = ap is_some (sym place.1 ∙ slice_get-get_or xs i t place.0) in
+    rw known (place.2 t refl)

@@ -1,5 +1,5 @@
 -- The value of a book, and what an entry makes of it.
-use Rattle.std.specs.Prelude.{ℕ, ◌+◌, Bool, true, false, not, ◌&&◌, nat_lt, nat_le, is_some, if◌then◌else◌, List, [], Option, Some, Result, Ok, Err, length, map}
+use Rattle.std.specs.Prelude.{ℕ, ◌+◌, Bool, false, not, ◌&&◌, nat_lt, nat_le, is_some, if◌then◌else◌, List, [], Option, Some, Result, Ok, Err, length, map}
 use Rattle.modes_frame.specs.declared.claims.Claim.{Claim}
 use Rattle.modes_frame.specs.declared.claims.CheckFault.{CheckFault}
 use Rattle.station_journal.specs.declared.Aircraft.{Aircraft}
@@ -12,8 +12,10 @@ use Rattle.station_journal.specs.Verdict.{refuse_if, fault_refusal}
 use Rattle.station_book.specs.declared.steps.Step.{Step}
 use Rattle.station_book.specs.declared.steps.Step.TheVariants.{Tick, Heard}
 use Rattle.station_book.specs.declared.tracks.Track.{Track}
+use Rattle.station_book.specs.declared.steps.Change.{Change}
+use Rattle.station_book.specs.declared.steps.Change.TheVariants as change
 use Rattle.station_book.specs.Steps.{step_of, claim_in}
-use Rattle.station_book.specs.Tracks.{find_track, swept, with_sighting, track_row}
+use Rattle.station_book.specs.Tracks.{find_track, swept, with_sighting, has_place, with_track, track_row}
 
 -- the clock, how many entries were taken, and what is kept of each live aircraft
 pub record State : Type 0 where
@@ -61,7 +63,7 @@ applied book entry = applied_step book (step_of entry)
 
 -- the claim is of an aircraft that is kept or finds a place
 abbrev pub claim_fits : ℕ → State → Result Claim CheckFault → Bool
-claim_fits n book (Ok claim) = if is_some (find_track claim.address book.tracks) then true else nat_lt (length book.tracks) n
+claim_fits n book (Ok claim) = has_place n claim.address book.tracks
 claim_fits n book (Err fault) = false
 
 -- the decoded entry fits the book: what may be applied
@@ -77,3 +79,9 @@ offered_step n book step =
 -- the same, of an entry
 abbrev pub offered : ℕ → State → Entry → State
 offered n book entry = offered_step n book (step_of entry)
+
+-- the book brought up to one that is an entry ahead: its clock and count, and of its tracks what the entry changed
+abbrev pub caught_up : ℕ → State → Change → State → State
+caught_up n ahead change.Clock book = record { moment = ahead.moment; entries = ahead.entries; tracks = swept ahead.moment book.tracks }
+caught_up n ahead (change.Track a) book =
+    record { moment = ahead.moment; entries = ahead.entries; tracks = with_track n (find_track a ahead.tracks) book.tracks }

@@ -1,5 +1,5 @@
 -- Entries as a book takes them: decoded.
-use Rattle.std.specs.Prelude.{Result, Ok, Err}
+use Rattle.std.specs.Prelude.{Result, Ok, Err, Option, Some, None}
 use Rattle.modes_fields.specs.declared.types.Fields.{Fields}
 use Rattle.modes_fields.specs.Carried.{fields_of}
 use Rattle.modes_frame.specs.declared.claims.Claim.{Claim}
@@ -11,6 +11,8 @@ use Rattle.station_journal.specs.Past.{Frame}
 use Rattle.station_book.specs.declared.steps.Sighting.{Sighting}
 use Rattle.station_book.specs.declared.steps.Step.{Step}
 use Rattle.station_book.specs.declared.steps.Step.TheVariants.{Tick, Heard}
+use Rattle.station_book.specs.declared.steps.Change.{Change}
+use Rattle.station_book.specs.declared.steps.Change.TheVariants.{Clock, Track}
 
 -- a good claim with the fields of its frame
 abbrev pub with_fields : Fields → Result Claim CheckFault → Result Sighting CheckFault
@@ -30,3 +32,9 @@ claim_in (Err fault) = Err fault
 abbrev pub step_of : Entry → Step
 step_of (entry.Tick seat at) = Tick at
 step_of (entry.Heard seat frame) = Heard (sighting_of frame)
+
+-- what an entry changes in a book that takes it
+abbrev pub change_of : Step → Option Change
+change_of (Tick at) = Some Clock
+change_of (Heard (Ok sighting)) = Some (Track sighting.claim.address)
+change_of (Heard (Err fault)) = None

@@ -1,5 +1,5 @@
 -- What is kept of an aircraft, and of the live aircraft by rising address.
-use Rattle.std.specs.Prelude.{◌≡◌, ℕ, ◌-◌, ◌<◌, Bool, true, false, ◌==◌, nat_le, nat_lt, if◌then◌else◌, List, [], ◌∷◌, Option, Some, None, Result, Ok, Err, unwrap_or, filter, length, slice_index_or, ◌≤◌, slice_get, insert, slice_set}
+use Rattle.std.specs.Prelude.{◌≡◌, ℕ, ◌-◌, ◌<◌, Bool, true, false, ◌==◌, nat_le, nat_lt, if◌then◌else◌, List, [], ◌∷◌, Option, Some, None, Result, Ok, Err, unwrap_or, is_some, filter, length, slice_index_or, ◌≤◌, slice_get, insert, slice_set}
 use Rattle.modes_fields.specs.declared.types.Place.{Place}
 use Rattle.modes_cpr.specs.declared.points.Position.{Position}
 use Rattle.modes_fields.specs.declared.types.Fields.{Fields}
@@ -85,6 +85,15 @@ track_or_blank a tracks = unwrap_or (find_track a tracks) (blank a)
 abbrev pub with_sighting : ℕ → Result Sighting CheckFault → List Track → List Track
 with_sighting now (Err fault) tracks = tracks
 with_sighting now (Ok sighting) tracks = put_track (updated now sighting.fields (track_or_blank sighting.claim.address tracks)) tracks
+
+-- the address is of a track, or one of at most n is free
+abbrev pub has_place : ℕ → ℕ → List Track → Bool
+has_place n a tracks = if is_some (find_track a tracks) then true else nat_lt (length tracks) n
+
+-- at most n tracks with this one put in its place, if it has one
+abbrev pub with_track : ℕ → Option Track → List Track → List Track
+with_track n None tracks = tracks
+with_track n (Some track) tracks = if has_place n track.address tracks then put_track track tracks else tracks
 
 -- all addresses are above a
 abbrev pub AllAbove : ℕ → List Track → Type 0

@@ -1,11 +1,13 @@
 //! The running book equals the search: laws over the definitions that the book's calls are stated
 //! by.
 
-ghost use Rattle.std.specs.Prelude.{◌≡◌, ℕ, true, List, ◌∷◌, [], ◌++◌, ◌<◌, length, None};
+ghost use Rattle.std.specs.Prelude.{◌≡◌, ℕ, true, List, ◌∷◌, [], ◌++◌, ◌<◌, length, None, Some};
 ghost use Rattle.station_journal.specs.declared.Entry.{Entry};
 ghost use Rattle.station_journal.specs.Log.{Log, IsLegal, table_of, clock_of, refusal_of, most_entries};
-ghost use Rattle.station_book.specs.Steps.{step_of};
-ghost use Rattle.station_book.specs.State.{State, starting, applied, offered, fits, rows};
+ghost use Rattle.station_book.specs.declared.steps.Step.{Step};
+ghost use Rattle.station_book.specs.declared.steps.Change.{Change};
+ghost use Rattle.station_book.specs.Steps.{step_of, change_of};
+ghost use Rattle.station_book.specs.State.{State, starting, applied, applied_step, offered, fits, rows, caught_up};
 ghost use Rattle.station_book.specs.Matching.{Matches, Shows, book_after};
 
 /// A book without entries matches the list without entries, whatever the base of its clock.
@@ -48,4 +50,11 @@ pub fn the_book_equals_the_search()
     ensures { (log : Log) → IsLegal log →
         (rows (book_after log.base log.entries) ≡ table_of log) ×
         ((book_after log.base log.entries).moment ≡ clock_of log) }
+{}
+
+/// A book that takes over what an entry changed is the one that took the entry.
+pub fn a_change_brings_up()
+    ensures { (n : ℕ) (book : State) (step : Step) (change : Change) → fits n book step ≡ true →
+        change_of step ≡ Some change →
+        caught_up n (applied_step book step) change book ≡ applied_step book step }
 {}

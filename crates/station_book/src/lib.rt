@@ -13,4 +13,4 @@ mod tests;
 mod tracks;
 
 pub use running::Book;
-pub use steps::{Sighting, Step};
+pub use steps::{Change, Sighting, Step};

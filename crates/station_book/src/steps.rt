@@ -3,7 +3,7 @@
 ghost use Rattle.std.specs.Prelude.{◌≡◌};
 ghost use Rattle.station_journal.specs.declared.Entry.{Entry};
 ghost use Rattle.station_book.specs.declared.steps.Step.TheVariants as step;
-ghost use Rattle.station_book.specs.Steps.{step_of, sighting_of};
+ghost use Rattle.station_book.specs.Steps.{step_of, sighting_of, change_of};
 
 use modes_fields::Fields;
 use modes_fields::readers::fields;
@@ -27,6 +27,15 @@ pub enum Step {
     Heard(Result<Sighting, CheckFault>),
 }
 
+/// What an accepted entry changed in a book, its count apart.
+#[derive(Clone, Copy, Debug, PartialEq, Eq)]
+pub enum Change {
+    /// The clock, and who is live.
+    Clock,
+    /// The track of this address.
+    Track(u32),
+}
+
 impl Step {
     /// Decodes the entry.
     pub fn of(entry: &Entry) -> Step
@@ -48,6 +57,17 @@ impl Step {
                 fields: fields(frame),
             })),
             Err(fault) => Step::Heard(Err(fault)),
+        }
+    }
+
+    /// What the entry changes in a book that takes it: nothing, where it is a frame that speaks for nobody.
+    pub fn change(&self) -> Option<Change>
+        ensures { result ≡ change_of self.now }
+    {
+        match self {
+            Step::Tick(_) => Some(Change::Clock),
+            Step::Heard(Ok(sighting)) => Some(Change::Track(sighting.claim.address)),
+            Step::Heard(Err(_)) => None,
         }
     }
 }

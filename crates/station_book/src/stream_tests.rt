@@ -1,7 +1,7 @@
 //! A long stream of made frames, given to a journal and to a book.
 ghost use Rattle.std.specs.Prelude.{◌<◌};
 
-use crate::Book;
+use crate::{Book, Step};
 use modes_frame::{Frame, remainder};
 use station_journal::{Entry, Journal, Limits, Refusal};
 use std::process::Abort;
@@ -140,5 +140,34 @@ fn a_long_stream_shows_the_same_in_both(rt: HostRuntime) -> Result<(), Fail> {
     }
     assert!(rt; journal.len() > 110, "most entries are accepted");
     assert!(rt; journal.len() < 220, "some are refused");
+    Ok(())
+}
+
+// Gives the entry to the first, and what it changed to the second.
+fn give_change(rt: &impl Abort, shown: &mut Book<6>, spare: &mut Book<6>, entry: &Entry) {
+    let before = shown.entries();
+    shown.offer(entry);
+    if let Some(change) = Step::of(entry).change() {
+        if shown.entries() > before {
+            spare.catch_up(shown, change);
+        }
+    }
+    assert_eq!(rt; spare.entries(), shown.entries());
+    assert_eq!(rt; spare.now(), shown.now());
+    for address in 0x406200..0x406207 {
+        assert_eq!(rt; spare.get(address), shown.get(address));
+    }
+}
+
+#[test]
+fn a_second_copy_takes_over_what_changed(rt: HostRuntime) -> Result<(), Fail> {
+    let mut shown = Book::<6>::new();
+    let mut spare = Book::<6>::new();
+    let mut numbers = Numbers { state: 4 };
+    for _ in 0..220 {
+        let entry = next(&mut numbers, shown.now()).ok_or("no frame")?;
+        give_change(&rt, &mut shown, &mut spare, &entry);
+    }
+    assert!(rt; spare.entries() > 110, "most entries are accepted");
     Ok(())
 }

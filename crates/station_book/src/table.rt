@@ -2,7 +2,7 @@
 
 ghost use Rattle.std.specs.Prelude.{◌≡◌, IsTrue, Ok, ◌<◌, ◌≤◌, ◌==◌, List, [], length, map, slice_get, None, Some};
 ghost use Rattle.station_journal.proofs.RisingLemmas.{IsRising};
-ghost use Rattle.station_book.specs.Tracks.{updated, find_track, put_track, swept, track_or_blank};
+ghost use Rattle.station_book.specs.Tracks.{updated, find_track, put_track, with_track, swept, track_or_blank};
 ghost use Rattle.station_book.specs.Tracks.{address_of, IsRank, IsPlace, HeardFrom};
 
 use crate::tracks::{Track, blank, update};
@@ -135,6 +135,36 @@ impl<const N: usize> Table<N> {
                 update(&mut track, now, fields);
                 self.addresses.insert(rank, address);
                 self.tracks.insert(rank, track);
+            }
+        }
+    }
+
+    /// Takes over the track of the address, where the others have one and there is a place for it.
+    pub fn copy_track(&mut self, others: &Table<N>, address: u32)
+        ensures { self.new ≡ with_track N (find_track address others.now) self.old }
+    {
+        if let Ok(rank) = others.locate(address) {
+            self.put(others.track(rank));
+        }
+    }
+
+    // Puts the track in its place, if it has one.
+    fn put(&mut self, track: &Track)
+        ensures { self.new ≡ with_track N (Some track.now) self.old }
+    {
+        let place = self.locate(track.address);
+        if place.is_err() && self.is_full() {
+            return;
+        }
+        self.oldest = self.oldest.min(track.heard);
+        match place {
+            Ok(rank) => {
+                self.hints[track.address as usize % HINTS] = u16::try_from(rank).unwrap_or(0);
+                self.tracks[rank] = *track;
+            }
+            Err(rank) => {
+                self.addresses.insert(rank, track.address);
+                self.tracks.insert(rank, *track);
             }
         }
     }

@@ -1,0 +1,33 @@
+-- A book that takes over what an entry changed is the one that took the entry.
+use Rattle.std.proofs.Common.{◌≡◌, ℕ, true, List, Option, Some, IfSome, Ok, Err, refl, ◌∙◌, subst, ap, arith}
+use Rattle.std.proofs.lemmas.Bool.Decides.{nat_tests}
+use Rattle.station_book.specs.declared.steps.Step.{Step}
+use Rattle.station_book.specs.declared.steps.Step.TheVariants.{Tick, Heard}
+use Rattle.station_book.specs.declared.steps.Change.{Change}
+use Rattle.station_book.specs.declared.tracks.Track.{Track}
+use Rattle.station_book.specs.Steps.{change_of}
+use Rattle.station_book.specs.State.{State, applied_step, caught_up, fits}
+use Rattle.station_book.specs.Tracks.{find_track, put_track, updated, track_or_blank, with_track, has_place}
+use Rattle.station_book.proofs.TracksLemmas.{find_put_as, found_address}
+
+-- a track that was put is copied
+copied : (n a : ℕ) (track : Track) (tracks : List Track) → track.address ≡ a → has_place n a tracks ≡ true →
+    with_track n (find_track a (put_track track tracks)) tracks ≡ put_track track tracks
+copied n a track tracks named place =
+    let found : find_track a (put_track track tracks) ≡ Some track = find_put_as a a track tracks named ∙ grind (arith, nat_tests) in
+    rw (found, named, place) refl
+
+by_step : (n : ℕ) (book : State) (step : Step) → fits n book step ≡ true →
+    IfSome (change_of step) (λ change. caught_up n (applied_step book step) change book ≡ applied_step book step)
+by_step n book (Tick at) fit = refl
+by_step n book (Heard (Ok sighting)) fit =
+    ap (λ (tracks : List Track). record { moment = book.moment; entries = (applied_step book (Heard (Ok sighting))).entries; tracks = tracks })
+    (copied n sighting.claim.address (updated book.moment sighting.fields (track_or_blank sighting.claim.address book.tracks)) book.tracks
+    (found_address sighting.claim.address book.tracks) fit)
+by_step n book (Heard (Err fault)) fit = tt
+
+-- the book that takes over a change is the one that took the step
+pub catches_up : (n : ℕ) (book : State) (step : Step) (change : Change) → fits n book step ≡ true → change_of step ≡ Some change →
+    caught_up n (applied_step book step) change book ≡ applied_step book step
+catches_up n book step change fit is =
+    subst (λ (c : Option Change). IfSome c (λ change. caught_up n (applied_step book step) change book ≡ applied_step book step)) is (by_step n book step fit)
