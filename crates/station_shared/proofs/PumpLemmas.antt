@@ -17,11 +17,12 @@ use Rattle.station_journal.specs.declared.Refusal.TheVariants.{Unsupported, BadP
 use Rattle.station_shared.specs.Source.{one_more, counted_up}
 use Rattle.station_shared.specs.Calls.{heard, heard_line, frame_in, frames_of}
 use Rattle.station_shared.specs.Command.{of_line}
-use Rattle.station_shared.specs.Counting.{is_tick, is_show}
+use Rattle.station_shared.specs.Counting.{Counts, is_tick, is_show}
 use Rattle.station_shared.specs.Drawing.{Drawn, AtEnd, ReadFailed, TurnsOver, LineStopped, TakesLast}
 use Rattle.station_shared.specs.Feeds.{Feeds, is_reply}
-use Rattle.station_shared.specs.Pump.{Wants, Pumping, Pumps, PumpsFrame, PumpsAll, answer_of}
+use Rattle.station_shared.specs.Pump.{Wants, Pumping, Pumps, PumpsFrame, PumpsAll, answer_of, tally_of, want_of, ending_of}
 use Rattle.station_shared.specs.declared.command.Command.TheVariants.{Line as Received}
+use Rattle.station_shared.specs.declared.pumping.PumpFault.{PumpFault}
 use Rattle.station_shared.specs.declared.pumping.PumpFault.TheVariants as Faults
 use Rattle.station_shared.specs.declared.tally.Tally.{Tally}
 use Rattle.station_shared.proofs.WalkLemmas.{count_by-append, CountsLines-then, CountsLines-none, Counts-from}
@@ -131,61 +132,34 @@ none_by p none (c ∷ cs) = let here = none c in rw here (none_by p none cs)
 -- ---- the ends of a pump
 
 module _ {F : Type 0} (gives : F → List ℕ → Result (Unit {0}) Refusal → F → Type 0) {x z : Pumping F} {old new : Drawn} {turns : ℕ} (empty : x.tally.lines ≡ 0) where
+  -- what all lines taken leave, by the answer
+  PumpsAll-taken : (result : Result Tally PumpFault) → tally_of result ≡ z.tally → Taken (Pumps gives) old new turns (ending_of result) x z (want_of result) → PumpsAll gives x.feed z.feed old new turns result
+  PumpsAll-taken result told all =
+      let counts : Counts heard (tally_of result) all.lines = rw told (Counts-from heard x.tally z.tally all.lines empty all.took.counts) in
+      record {
+        lines = all.lines;
+        answers = all.took.answers;
+        draws = all.draws;
+        feeds = all.took.feeds;
+        wants = all.took.wants;
+        counts = counts;
+        no_ticks = counts.ticks_are ∙ none_by (λ l. is_tick (heard l)) no_tick all.lines;
+        no_shows = counts.shows_are ∙ none_by (λ l. is_show (heard l)) no_show all.lines;
+        accepted = rw told (omega (arith, all.took.accepted, x.tally.by_kind, x.tally.by_answer));
+      }
+
   pub PumpsAll-read : Taken (Pumps gives) old new turns ReadFailed x z (Ok tt) → PumpsAll gives x.feed z.feed old new turns (Err (Faults.Read z.tally))
-  PumpsAll-read all = record {
-    lines = all.lines;
-    answers = all.took.answers;
-    draws = all.draws;
-    feeds = all.took.feeds;
-    wants = all.took.wants;
-    counts = Counts-from heard x.tally z.tally all.lines empty all.took.counts;
-    no_ticks = omega (arith, (Counts-from heard x.tally z.tally all.lines empty all.took.counts).ticks_are, none_by (λ l. is_tick (heard l)) no_tick all.lines);
-    no_shows = omega (arith, (Counts-from heard x.tally z.tally all.lines empty all.took.counts).shows_are, none_by (λ l. is_show (heard l)) no_show all.lines);
-    accepted = omega (arith, all.took.accepted, x.tally.by_kind, x.tally.by_answer);
-  }
+  PumpsAll-read = PumpsAll-taken (Err (Faults.Read z.tally)) refl
 
   pub PumpsAll-turns : Taken (Pumps gives) old new turns TurnsOver x z (Ok tt) → PumpsAll gives x.feed z.feed old new turns (Err (Faults.TooManyTurns z.tally))
-  PumpsAll-turns all = record {
-    lines = all.lines;
-    answers = all.took.answers;
-    draws = all.draws;
-    feeds = all.took.feeds;
-    wants = all.took.wants;
-    counts = Counts-from heard x.tally z.tally all.lines empty all.took.counts;
-    no_ticks = omega (arith, (Counts-from heard x.tally z.tally all.lines empty all.took.counts).ticks_are, none_by (λ l. is_tick (heard l)) no_tick all.lines);
-    no_shows = omega (arith, (Counts-from heard x.tally z.tally all.lines empty all.took.counts).shows_are, none_by (λ l. is_show (heard l)) no_show all.lines);
-    accepted = omega (arith, all.took.accepted, x.tally.by_kind, x.tally.by_answer);
-  }
+  PumpsAll-turns = PumpsAll-taken (Err (Faults.TooManyTurns z.tally)) refl
 
-  pub PumpsAll-ok : Taken (Pumps gives) old new turns AtEnd x z (Ok tt) → PumpsAll gives x.feed z.feed old new turns (Ok z.tally)
-  PumpsAll-ok all = record {
-    lines = all.lines;
-    answers = all.took.answers;
-    draws = all.draws;
-    feeds = all.took.feeds;
-    wants = all.took.wants;
-    counts = Counts-from heard x.tally z.tally all.lines empty all.took.counts;
-    no_ticks = omega (arith, (Counts-from heard x.tally z.tally all.lines empty all.took.counts).ticks_are, none_by (λ l. is_tick (heard l)) no_tick all.lines);
-    no_shows = omega (arith, (Counts-from heard x.tally z.tally all.lines empty all.took.counts).shows_are, none_by (λ l. is_show (heard l)) no_show all.lines);
-    accepted = omega (arith, all.took.accepted, x.tally.by_kind, x.tally.by_answer);
-  }
-
-  pub PumpsAll-memory : Taken (Pumps gives) old new turns LineStopped x z (Err alloc_error) → PumpsAll gives x.feed z.feed old new turns (Err (Faults.NoMemory z.tally))
-  PumpsAll-memory all = record {
-    lines = all.lines;
-    answers = all.took.answers;
-    draws = all.draws;
-    feeds = all.took.feeds;
-    wants = all.took.wants;
-    counts = Counts-from heard x.tally z.tally all.lines empty all.took.counts;
-    no_ticks = omega (arith, (Counts-from heard x.tally z.tally all.lines empty all.took.counts).ticks_are, none_by (λ l. is_tick (heard l)) no_tick all.lines);
-    no_shows = omega (arith, (Counts-from heard x.tally z.tally all.lines empty all.took.counts).shows_are, none_by (λ l. is_show (heard l)) no_show all.lines);
-    accepted = omega (arith, all.took.accepted, x.tally.by_kind, x.tally.by_answer);
-  }
+  PumpsAll-ok : Taken (Pumps gives) old new turns AtEnd x z (Ok tt) → PumpsAll gives x.feed z.feed old new turns (Ok z.tally)
+  PumpsAll-ok = PumpsAll-taken (Ok z.tally) refl
 
   -- a line stopped it
   pub PumpsAll-stop : (want : AllocError) → Taken (Pumps gives) old new turns LineStopped x z (Err want) → PumpsAll gives x.feed z.feed old new turns (answer_of (Err want) z.tally)
-  PumpsAll-stop want all = PumpsAll-memory all
+  PumpsAll-stop want = PumpsAll-taken (Err (Faults.NoMemory z.tally)) refl
 
 -- the end, and a last line, which may stop it
 pub PumpsAll-end : {F : Type 0} (gives : F → List ℕ → Result (Unit {0}) Refusal → F → Type 0) (old mid new : Drawn) {x y z : Pumping F} {held : Cut} (stopped : Result (Unit {0}) AllocError) → x.tally.lines ≡ 0 → (so_far : GivenSoFar (Pumps gives) old.left mid.left held x y) → (turn turns : ℕ) → turn + 1 ≤ turns → new.reads ≡ counted_up (turn + 1) old.reads
