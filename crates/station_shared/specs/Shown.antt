@@ -5,8 +5,8 @@ use lib.ListN.{get_elem?}
 use Rattle.station_journal.specs.declared.Entry.{Entry}
 use Rattle.station_journal.specs.declared.Limits.{Limits}
 use Rattle.station_journal.specs.Log.{IsLegal}
-use Rattle.station_book.specs.State.{State as BookState, starting, offered_step}
-use Rattle.station_book.specs.declared.steps.Step.{Step}
+use Rattle.station_book.specs.State.{State as BookState, starting, caught_up}
+use Rattle.station_book.specs.declared.steps.Change.{Change}
 use Rattle.station_book.specs.Matching.{Matches}
 use Rattle.station_shared.specs.History.{Known, Name}
 use Rattle.station_shared.specs.Seats.{log_of}
@@ -21,10 +21,10 @@ pub record Sheet : Type 0 where
 abbrev pub sheet : BookState → Known → Option Limits → Sheet
 sheet book front limits = record { book = book; front = front; limits = limits }
 
--- a book with the step that it lacks; where no step is told, it is begun anew
-abbrev pub caught_up : ℕ → BookState → Option Step → BookState
-caught_up n book None = starting 0
-caught_up n book (Some step) = offered_step n book step
+-- a copy brought up to the one that is shown, of which it lacks this change; where that isn't known, it is begun anew
+abbrev pub brought_up : ℕ → BookState → Option Change → BookState → BookState
+brought_up n shown None book = starting 0
+brought_up n shown (Some change) book = caught_up n shown change book
 
 -- the entries are legal under the limits of the station, where it has any
 abbrev pub LegalUnder : Option Limits → List Entry → Type 0

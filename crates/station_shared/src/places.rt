@@ -7,7 +7,7 @@ ghost use Rattle.station_book.specs.Matching.{Matches};
 ghost use Rattle.station_shared.specs.Shown.{IsOf};
 
 use crate::history::{Front, History};
-use crate::press::{Next, blank, new_place, turn};
+use crate::press::{begin, blank, new_place};
 use crate::rule::{Place, Press, Published};
 use crate::shown::{Mark, Shown, Unlogged};
 use crossbeam_utils::rule::Protocol;
@@ -102,16 +102,7 @@ impl<const N: usize> Places<N> {
         let count = places.len();
         places.clear();
         let front = history.front();
-        let mut press = turn(
-            rt,
-            press,
-            Next {
-                lacks: None,
-                step: None,
-                front,
-                limits,
-            },
-        );
+        let mut press = begin(rt, press, front, limits);
         for _made in 0..count {
             let Ok(place) = new_place(&mut press) else {
                 press.take(rt);
