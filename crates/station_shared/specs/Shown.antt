@@ -1,5 +1,5 @@
 -- What readers look at, and the rule over it.
-use Rattle.std.specs.Prelude.{◌≡◌, ℕ, ◌⊎◌, List, Option, Some, None, IfSome}
+use Rattle.std.specs.Prelude.{◌≡◌, ℕ, ◌⊎◌, List, Option, Some, None, IfSome, option_map}
 use mathlib.Core.Option.{some}
 use lib.ListN.{get_elem?}
 use Rattle.station_journal.specs.declared.Entry.{Entry}
@@ -28,8 +28,7 @@ brought_up n shown (Some change) book = caught_up n shown change book
 
 -- the entries are legal under the limits of the station, where it has any
 abbrev pub LegalUnder : Option Limits → List Entry → Type 0
-LegalUnder None entries = Unit {0}
-LegalUnder (Some limits) entries = IsLegal (log_of limits entries)
+LegalUnder limits entries = IfSome limits (λ most. IsLegal (log_of most entries))
 
 -- the book, of at most n aircraft, matches the beginning that it stands for, which is legal
 pub record IsRight (n : ℕ) (s : Sheet) : Type 0 where
@@ -48,8 +47,7 @@ pub record IsPublished (n : ℕ) (s : Sheet) (all : List (Option Mark)) : Type 0
 
 -- what is known after what is published was seen: nothing before the station has limits
 abbrev pub marked : Known → Option Limits → Option Mark
-marked front None = None
-marked front (Some limits) = Some (record { front = front; limits = limits })
+marked front limits = option_map (λ most. record { front = front; limits = most }) limits
 
 -- what a step tells that sees what is published afterwards
 pub record SawPublished (n : ℕ) (old : Option Mark) (s : Sheet) (new : Option Mark) : Type 0 where
