@@ -1,5 +1,5 @@
 -- What seats, receipts and looks are seen as, and what a call tells of them.
-use Rattle.std.specs.Prelude.{◌≡◌, ℕ, zero, suc, ◌+◌, ◌⊎◌, eqb, cond, List, [], ◌∷◌, ◌++◌, None}
+use Rattle.std.specs.Prelude.{◌≡◌, ℕ, zero, suc, ◌+◌, ◌⊎◌, eqb, List, [], ◌∷◌, ◌++◌, None, count_by}
 use mathlib.Core.List.{IsPrefix}
 use Rattle.station_journal.specs.declared.Entry.{Entry}
 use Rattle.station_journal.specs.declared.Entry.TheVariants.{Tick, Heard}
@@ -19,8 +19,7 @@ seat_of (Heard seat frame) = seat
 
 -- how many entries a seat has
 abbrev pub count_of : ℕ → List Entry → ℕ
-count_of seat [] = 0
-count_of seat (e ∷ es) = cond (eqb (seat_of e) seat) 1 0 + count_of seat es
+count_of seat entries = count_by (λ e. eqb (seat_of e) seat) entries
 
 -- a seat: its number, how many of its calls were accepted, and what it has seen of the journal
 pub record Seated : Type 0 where
