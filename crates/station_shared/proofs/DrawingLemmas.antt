@@ -1,5 +1,5 @@
 -- Bytes of a source, one read after another.
-use Rattle.std.proofs.Common.{◌≡◌, ℕ, ◌+◌, ◌-◌, ◌≤◌, List, [], ◌∷◌, ◌++◌, length, take, drop, length-drop, Option, Result, Ok, Err, refl, sym, ap, ◌∙◌, subst, append_assoc, append-nil, map, arith, add-one}
+use Rattle.std.proofs.Common.{◌≡◌, ℕ, ◌+◌, ◌-◌, ◌≤◌, false, List, [], ◌∷◌, ◌++◌, length, take, drop, length-drop, Option, Result, Ok, Err, refl, sym, ap, ◌∙◌, subst, append_assoc, append-nil, map, arith, add-one}
 use Rattle.std.specs.Option.{option_to_list}
 use Rattle.std.specs.Io.KnownBytes.{Consumes, Keeps, IsAtEnd}
 use Rattle.std.proofs.KnownBytes.{Consumes-nil, Consumes-trans, Consumes-kept}
@@ -9,7 +9,7 @@ use Rattle.modes_frame.specs.declared.cutter.Cut.{Cut}
 use Rattle.modes_frame.specs.Lines.{pieces, cut, cuts, last_line, pending, ended_cuts, told}
 use Rattle.modes_frame.proofs.LinesLemmas.{ended-push}
 use Rattle.station_shared.specs.Source.{one_more, counted_up}
-use Rattle.station_shared.specs.Drawing.{Drawn, Ending, AtEnd, ReadFailed, TurnsOver, LineStopped, Draws, TakesBytes, TakesLast}
+use Rattle.station_shared.specs.Drawing.{Drawn, Ending, AtEnd, ReadFailed, TurnsOver, LineStopped, EndsAs, is_read_failed, Draws, TakesBytes, TakesLast}
 
 -- ---- lines of some bytes
 
@@ -173,37 +173,30 @@ module _ {X E : Type 0} (Took : X → List Cut → Result (Unit {0}) E → X →
   }
 
   -- the end, and a last line, which may stop the call
-  pub Taken-end : (turn turns : ℕ) (z : X) → turn + 1 ≤ turns → new.reads ≡ counted_up (turn + 1) old.reads → new.ends ≡ one_more mid.ends → mid.ends ≡ old.ends → new.failures ≡ mid.failures → mid.failures ≡ old.failures
-      → Consumes mid.left new.left [] → IsAtEnd new.left → TakesLast Took so_far.given y z (Ok tt) → Taken Took old new turns AtEnd x z (Ok tt)
-  Taken-end turn turns z within reads ends same_ends lost same_lost read over last = record {
+  Taken-over : (ending : Ending) (r : Result (Unit {0}) E) (turn turns : ℕ) (z : X) → is_read_failed ending ≡ false → turn + 1 ≤ turns → new.reads ≡ counted_up (turn + 1) old.reads → new.failures ≡ mid.failures → mid.failures ≡ old.failures
+      → Consumes mid.left new.left [] → (last : TakesLast Took so_far.given y z r) → EndsAs so_far.given (so_far.taken.lines ++ last.lines) [] turns old new ending → Taken Took old new turns ending x z r
+  Taken-over ending r turn turns z read_well within reads lost same_lost read last ends = record {
     lines = so_far.taken.lines ++ last.lines;
     draws = record {
       given = so_far.given;
       left_out = [];
       bytes = subst (Consumes old.left new.left) (append-nil so_far.given) (Consumes-trans old.left mid.left new.left so_far.given [] so_far.bytes read);
       front = last.all_told ∙ ap (λ ls. ls ++ last.lines) taken_so_far ∙ sym (append-nil _);
-      ends = (refl, ends ∙ ap (λ n. one_more n) same_ends, over);
-      failures = lost ∙ same_lost;
+      ends = ends;
+      failures = rw read_well (lost ∙ same_lost);
       reads = (turn + 1, within, reads);
     };
-    took = joined x y z so_far.taken.lines last.lines (Ok tt) so_far.taken.took last.took;
+    took = joined x y z so_far.taken.lines last.lines r so_far.taken.took last.took;
   }
+
+  pub Taken-end : (turn turns : ℕ) (z : X) → turn + 1 ≤ turns → new.reads ≡ counted_up (turn + 1) old.reads → new.ends ≡ one_more mid.ends → mid.ends ≡ old.ends → new.failures ≡ mid.failures → mid.failures ≡ old.failures
+      → Consumes mid.left new.left [] → IsAtEnd new.left → TakesLast Took so_far.given y z (Ok tt) → Taken Took old new turns AtEnd x z (Ok tt)
+  Taken-end turn turns z within reads ends same_ends lost same_lost read over last =
+      Taken-over AtEnd (Ok tt) turn turns z refl within reads lost same_lost read last (refl, ends ∙ ap (λ n. one_more n) same_ends, over)
 
   pub Taken-last : (turn turns : ℕ) (z : X) (stop : E) → turn + 1 ≤ turns → new.reads ≡ counted_up (turn + 1) old.reads → new.failures ≡ mid.failures → mid.failures ≡ old.failures
       → Consumes mid.left new.left [] → TakesLast Took so_far.given y z (Err stop) → Taken Took old new turns LineStopped x z (Err stop)
-  Taken-last turn turns z stop within reads lost same_lost read last = record {
-    lines = so_far.taken.lines ++ last.lines;
-    draws = record {
-      given = so_far.given;
-      left_out = [];
-      bytes = subst (Consumes old.left new.left) (append-nil so_far.given) (Consumes-trans old.left mid.left new.left so_far.given [] so_far.bytes read);
-      front = last.all_told ∙ ap (λ ls. ls ++ last.lines) taken_so_far ∙ sym (append-nil _);
-      ends = tt;
-      failures = lost ∙ same_lost;
-      reads = (turn + 1, within, reads);
-    };
-    took = joined x y z so_far.taken.lines last.lines (Err stop) so_far.taken.took last.took;
-  }
+  Taken-last turn turns z stop within reads lost same_lost read last = Taken-over LineStopped (Err stop) turn turns z refl within reads lost same_lost read last tt
 
 -- all turns are over
 pub Taken-turns : {X E : Type 0} (Took : X → List Cut → Result (Unit {0}) E → X → Type 0) (old now : Drawn) (held : Cut) (x y : X) → GivenSoFar Took old.left now.left held x y
