@@ -76,16 +76,18 @@ module _ {F : Type 0} (gives : F → List ℕ → Result (Unit {0}) Refusal → 
       let steps = seat_steps x y (frames_of all.lines) all.answers all.feeds in
       let fed = Fed-steps limits (seat x) (seat y) (frames_of all.lines) all.answers steps in
       record {
-        lines = all.lines;
-        answers = all.answers;
-        draws = all.draws;
-        steps = steps;
+        pumps = record {
+          lines = all.lines;
+          answers = all.answers;
+          draws = all.draws;
+          feeds = steps;
+          wants = all.wants;
+          counts = all.counts;
+          no_ticks = all.no_ticks;
+          no_shows = all.no_shows;
+          accepted = all.accepted;
+        };
         fed = fed;
-        wants = all.wants;
-        counts = all.counts;
-        no_ticks = all.no_ticks;
-        no_shows = all.no_shows;
-        told = all.accepted;
         accepted = fed.accepted ∙ ap (λ n. (seat x).accepted + n) (sym all.accepted);
       }
 

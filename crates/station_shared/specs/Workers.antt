@@ -1,16 +1,13 @@
 -- What frames leave that are fed through a seat, and what a worker's pump leaves.
 use Rattle.std.specs.Prelude.{◌≡◌, ℕ, ◌+◌, ◌⊎◌, List, [], ◌∷◌, ◌++◌, Option, Some, Result, Ok, Err, is_ok, count_by, length, map}
-use Rattle.modes_frame.specs.declared.cutter.Cut.{Cut}
 use Rattle.station_journal.specs.declared.Entry.{Entry}
 use Rattle.station_journal.specs.declared.Entry.TheVariants.{Heard}
 use Rattle.station_journal.specs.declared.Limits.{Limits}
 use Rattle.station_journal.specs.declared.Refusal.{Refusal}
-use Rattle.station_shared.specs.Calls.{heard, frames_of}
-use Rattle.station_shared.specs.Counting.{Counts}
-use Rattle.station_shared.specs.Drawing.{Drawn, Draws}
-use Rattle.station_shared.specs.Feeds.{Feeds}
+use Rattle.station_shared.specs.Calls.{frames_of}
+use Rattle.station_shared.specs.Drawing.{Drawn}
 use Rattle.station_shared.specs.History.{Known}
-use Rattle.station_shared.specs.Pump.{Wants, tally_of, want_of, ending_of}
+use Rattle.station_shared.specs.Pump.{PumpsAll, tally_of}
 use Rattle.station_shared.specs.Seats.{Seated, Accepted, Refused}
 use Rattle.station_shared.specs.declared.pumping.PumpFault.{PumpFault}
 use Rattle.station_shared.specs.declared.tally.Tally.{Tally}
@@ -46,19 +43,11 @@ pub record Fed (old new : Seated) (frames : List (List ℕ)) (answers : List (Re
   pub accepted : new.accepted ≡ old.accepted + count_by is_ok answers
   pub number : new.number ≡ old.number
 
--- some lines were taken of what the source gave, up to the end or the fault: the seat went through its steps for their
--- frames, whether the answer is a tally or a fault, and the tally counts them
+-- a pump fed the seat by its steps, whether the answer is a tally or a fault: the accepted frames stand, in their order, in
+-- what the seat has seen since, and it was accepted as often as the tally counts
 pub record Works (limits : Limits) (old new : Seated) (source_old source_new : Drawn) (turns : ℕ) (result : Result Tally PumpFault) : Type 0 where
-  pub lines : List Cut
-  pub answers : List (Result (Unit {0}) Refusal)
-  pub draws : Draws source_old source_new turns (ending_of result) lines
-  pub steps : Feeds (SeatSteps limits) old (frames_of lines) answers new
-  pub fed : Fed old new (frames_of lines) answers
-  pub wants : Wants lines answers (want_of result)
-  pub counts : Counts heard (tally_of result) lines
-  pub no_ticks : (tally_of result).ticks ≡ 0
-  pub no_shows : (tally_of result).shows ≡ 0
-  pub told : (tally_of result).accepted ≡ count_by is_ok answers
+  pub pumps : PumpsAll (SeatSteps limits) old new source_old source_new turns result
+  pub fed : Fed old new (frames_of pumps.lines) pumps.answers
   pub accepted : new.accepted ≡ old.accepted + (tally_of result).accepted
 
 -- a worker has answered, as its pump did
