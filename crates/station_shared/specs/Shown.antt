@@ -5,12 +5,15 @@ use lib.ListN.{get_elem?}
 use Rattle.station_journal.specs.declared.Entry.{Entry}
 use Rattle.station_journal.specs.declared.Limits.{Limits}
 use Rattle.station_journal.specs.Log.{IsLegal}
-use Rattle.station_book.specs.State.{State as BookState, starting, caught_up}
+use Rattle.station_book.specs.State.{State as BookState, starting, caught_up, offered_step}
 use Rattle.station_book.specs.declared.steps.Change.{Change}
+use Rattle.station_book.specs.declared.steps.Step.{Step}
 use Rattle.station_book.specs.Matching.{Matches}
 use Rattle.station_shared.specs.History.{Known, Name}
 use Rattle.station_shared.specs.Seats.{log_of}
+use Rattle.station_shared.specs.declared.press.Next.{Next}
 use Rattle.station_shared.specs.declared.shown.Mark.{Mark}
+use Rattle.station_shared.specs.declared.shown.Shown.{Shown}
 
 -- what is published: a book, the beginning of the history that it stands for, and the limits of the station, once it has any
 pub record Sheet : Type 0 where
@@ -25,6 +28,14 @@ sheet book front limits = record { book = book; front = front; limits = limits }
 abbrev pub brought_up : ℕ → BookState → Option Change → BookState → BookState
 brought_up n shown None book = starting 0
 brought_up n shown (Some change) book = caught_up n shown change book
+
+-- a copy as what is published
+abbrev pub sheet_of : {n : ℕ} → Shown n → Sheet
+sheet_of copy = sheet copy.book copy.front copy.limits
+
+-- what is published next: the spare copy, brought up to the one that is shown, with one step more
+abbrev pub next_sheet : {n : ℕ} → Shown n → Shown n → Step → Next → Sheet
+next_sheet {n} shown spare step next = sheet (offered_step n (brought_up n shown.book next.lacks spare.book) step) next.front (Some next.limits)
 
 -- the entries are legal under the limits of the station, where it has any
 abbrev pub LegalUnder : Option Limits → List Entry → Type 0

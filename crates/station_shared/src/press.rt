@@ -1,8 +1,8 @@
 //! The publishing end: of two copies readers have one, and the other is brought up and shown in its place.
 ghost use Rattle.std.specs.Prelude.{◌≡◌, Some, IfOk};
 ghost use Rattle.left_right.specs.Sides.{view};
-ghost use Rattle.station_book.specs.State.{starting, offered_step};
-ghost use Rattle.station_shared.specs.Shown.{Follows, sheet, brought_up};
+ghost use Rattle.station_book.specs.State.{starting};
+ghost use Rattle.station_shared.specs.Shown.{Follows, sheet, sheet_of, next_sheet, brought_up};
 
 use crate::history::{Front, History};
 use crate::rule::{Notes, Place, Press, Sees};
@@ -34,8 +34,7 @@ fn bring_up<const N: usize>(book: &mut Book<N>, shown: &Book<N>, lacks: Option<C
 
 // Makes the next copy of one that nobody reads.
 fn renew<const N: usize>(copy: &mut Shown<N>, shown: &Shown<N>, step: &Step, next: Next)
-    ensures { sheet copy.new.book copy.new.front copy.new.limits
-        ≡ sheet (offered_step N (brought_up N shown.now.book next.lacks copy.old.book) step.now) next.front (Some next.limits) }
+    ensures { sheet_of copy.new ≡ next_sheet shown.now copy.old step.now next }
 {
     bring_up(&mut copy.book, &shown.book, next.lacks);
     copy.book.offer_step(step);
@@ -46,12 +45,13 @@ fn renew<const N: usize>(copy: &mut Shown<N>, shown: &Shown<N>, step: &Step, nex
 /// Brings the copy up that nobody is to read, takes the step in it, and shows it. It waits for those that still read it,
 /// and wants no memory.
 fn turn<const N: usize, R: Wait>(rt: &R, press: Press<N>, step: &Step, next: Next) -> Press<N>
-    requires { Follows N (sheet press.desk.shown.value.book press.desk.shown.value.front press.desk.shown.value.limits)
-        (sheet (offered_step N (brought_up N press.desk.shown.value.book next.lacks press.desk.spare.value.book) step.now) next.front (Some next.limits)) }
-    ensures shown { sheet result.desk.shown.value.book result.desk.shown.value.front result.desk.shown.value.limits
-        ≡ sheet (offered_step N (brought_up N press.entry.desk.shown.value.book next.lacks press.entry.desk.spare.value.book) step.now) next.front (Some next.limits) }
+    requires { Follows N (sheet_of press.desk.shown.value)
+        (next_sheet press.desk.shown.value press.desk.spare.value step.now next) }
+    ensures shown { sheet_of result.desk.shown.value
+        ≡ next_sheet press.entry.desk.shown.value press.entry.desk.spare.value step.now next }
     ensures spare { result.desk.spare.value ≡ press.entry.desk.shown.value }
-    ensures view { view result.desk.place ≡ Some (record { front = next.front; limits = next.limits }) }
+    ensures view { view result.desk.place
+        ≡ Some (record { front = next.front; limits = next.limits }) }
 {
     let mut press = press;
     let (open, mut spare) = press.desk.open(rt);
@@ -67,30 +67,33 @@ pub(crate) fn turn_in_place<const N: usize, R: Wait>(
     step: &Step,
     next: Next,
 )
-    requires { Follows N (sheet press.old.desk.shown.value.book press.old.desk.shown.value.front press.old.desk.shown.value.limits)
-        (sheet (offered_step N (brought_up N press.old.desk.shown.value.book next.lacks press.old.desk.spare.value.book) step.now) next.front (Some next.limits)) }
-    ensures shown { sheet press.new.desk.shown.value.book press.new.desk.shown.value.front press.new.desk.shown.value.limits
-        ≡ sheet (offered_step N (brought_up N press.old.desk.shown.value.book next.lacks press.old.desk.spare.value.book) step.now) next.front (Some next.limits) }
+    requires { Follows N (sheet_of press.old.desk.shown.value)
+        (next_sheet press.old.desk.shown.value press.old.desk.spare.value step.now next) }
+    ensures shown { sheet_of press.new.desk.shown.value
+        ≡ next_sheet press.old.desk.shown.value press.old.desk.spare.value step.now next }
     ensures spare { press.new.desk.spare.value ≡ press.old.desk.shown.value }
-    ensures view { view press.new.desk.place ≡ Some (record { front = next.front; limits = next.limits }) }
+    ensures view { view press.new.desk.place
+        ≡ Some (record { front = next.front; limits = next.limits }) }
 {
     replace_with(
         press,
         (rt, step, next),
         |press: Press<N>, parts: (&R, &Step, Next)| -> (Press<N>, ())
-            requires { Follows N (sheet press.desk.shown.value.book press.desk.shown.value.front press.desk.shown.value.limits)
-                (sheet (offered_step N (brought_up N press.desk.shown.value.book parts.2.lacks press.desk.spare.value.book) parts.1.now) parts.2.front (Some parts.2.limits)) }
-            ensures shown { sheet result.0.desk.shown.value.book result.0.desk.shown.value.front result.0.desk.shown.value.limits
-                ≡ sheet (offered_step N (brought_up N press.entry.desk.shown.value.book parts.entry.2.lacks press.entry.desk.spare.value.book) parts.entry.1.now) parts.entry.2.front (Some parts.entry.2.limits) }
+            requires { Follows N (sheet_of press.desk.shown.value)
+                (next_sheet press.desk.shown.value press.desk.spare.value parts.1.now parts.2) }
+            ensures shown { sheet_of result.0.desk.shown.value
+                ≡ next_sheet press.entry.desk.shown.value press.entry.desk.spare.value
+                parts.entry.1.now parts.entry.2 }
             ensures spare { result.0.desk.spare.value ≡ press.entry.desk.shown.value }
-            ensures view { view result.0.desk.place ≡ Some (record { front = parts.entry.2.front; limits = parts.entry.2.limits }) }
+            ensures view { view result.0.desk.place
+                ≡ Some (record { front = parts.entry.2.front; limits = parts.entry.2.limits }) }
         { (turn(parts.0, press, parts.1, parts.2), ()) },
     );
 }
 
 // Makes the copy one of an empty book.
 fn clear<const N: usize>(copy: &mut Shown<N>, front: Front, limits: Limits)
-    ensures { sheet copy.new.book copy.new.front copy.new.limits ≡ sheet (starting 0) front (Some limits) }
+    ensures { sheet_of copy.new ≡ sheet (starting 0) front (Some limits) }
 {
     copy.book = Book::new();
     copy.front = front;
@@ -104,9 +107,9 @@ pub(crate) fn begin<const N: usize, R: Wait>(
     front: Front,
     limits: Limits,
 ) -> Press<N>
-    requires { Follows N (sheet press.desk.shown.value.book press.desk.shown.value.front press.desk.shown.value.limits)
+    requires { Follows N (sheet_of press.desk.shown.value)
         (sheet (starting 0) front (Some limits)) }
-    ensures shown { sheet result.desk.shown.value.book result.desk.shown.value.front result.desk.shown.value.limits
+    ensures shown { sheet_of result.desk.shown.value
         ≡ sheet (starting 0) front (Some limits) }
     ensures view { view result.desk.place ≡ Some (record { front = front; limits = limits }) }
 {
@@ -132,7 +135,8 @@ pub(crate) fn blank<const N: usize>(history: &History, limits: Option<Limits>) -
 
 /// One more reader place, which knows what the publishing end knows.
 pub(crate) fn new_place<const N: usize>(press: &mut Press<N>) -> Result<Place<N>, AllocError>
-    ensures same { (press.new.desk.shown ≡ press.old.desk.shown) × (view press.new.desk.place ≡ view press.old.desk.place) }
+    ensures same { (press.new.desk.shown ≡ press.old.desk.shown)
+        × (view press.new.desk.place ≡ view press.old.desk.place) }
     ensures known { IfOk result (λ place. view place.place ≡ view press.old.desk.place) }
 {
     let mut place = press.factory().reader()?;

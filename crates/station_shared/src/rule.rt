@@ -10,9 +10,9 @@ pub struct Published;
 
 impl<const N: usize> Protocol<Shown<N>, Option<Mark>> for Published {
     ghost use Rattle.std.specs.Prelude.{None};
-    ghost use Rattle.station_shared.specs.Shown.{IsPublished, sheet};
+    ghost use Rattle.station_shared.specs.Shown.{IsPublished, sheet_of};
 
-    ghost holds = { λ x views. IsPublished N (sheet x.book x.front x.limits) views };
+    ghost holds = { λ x views. IsPublished N (sheet_of x) views };
 
     ghost first = { None };
 }
@@ -21,9 +21,9 @@ impl<const N: usize> Protocol<Shown<N>, Option<Mark>> for Published {
 pub(crate) struct Sees;
 
 impl<const N: usize> Outcome<Shown<N>, Option<Mark>> for Sees {
-    ghost use Rattle.station_shared.specs.Shown.{SawPublished, sheet};
+    ghost use Rattle.station_shared.specs.Shown.{SawPublished, sheet_of};
 
-    ghost then = { λ v x y w. SawPublished N v (sheet y.book y.front y.limits) w };
+    ghost then = { λ v x y w. SawPublished N v (sheet_of y) w };
 }
 
 /// A note gives a reader the writer's view.

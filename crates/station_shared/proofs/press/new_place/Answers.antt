@@ -1,13 +1,13 @@
 use Rattle.std.proofs.Common.{rules}
-use Rattle.station_shared.specs.Shown.{sheet}
+use Rattle.station_shared.specs.Shown.{sheet_of}
 use Rattle.station_shared.proofs.Rules.{admits, forks, merges}
 use Rattle.station_shared.proofs.press.new_place.Goals as goal
 
 pub reader-requires : goal.reader-requires
-reader-requires g c = admits _ (λ x. sheet x.book x.front x.limits)
+reader-requires g c = admits _ (λ x. sheet_of x)
 
 pub tell-requires : goal.tell-requires
-tell-requires g c = forks _ (λ x. sheet x.book x.front x.limits) _ _
+tell-requires g c = forks _ (λ x. sheet_of x) _ _
 
 pub learn-requires : goal.learn-requires
-learn-requires g c = record { own = search rules; rule = merges _ (λ x. sheet x.book x.front x.limits) _ _ _ _ }
+learn-requires g c = record { own = search rules; rule = merges _ (λ x. sheet_of x) _ _ _ _ }

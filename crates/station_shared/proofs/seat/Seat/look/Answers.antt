@@ -5,14 +5,14 @@ use Rattle.station_journal.specs.Log.{IsLegal}
 use Rattle.station_book.specs.Matching.{Matches}
 use Rattle.station_shared.specs.History.{Known}
 use Rattle.station_shared.specs.Seats.{log_of}
-use Rattle.station_shared.specs.Shown.{sheet}
+use Rattle.station_shared.specs.Shown.{sheet_of}
 use Rattle.station_shared.proofs.Counts.{count_prefix}
 use Rattle.station_shared.proofs.Looking.{name_seen, legal_seen, view_seen}
 use Rattle.station_shared.proofs.Rules.{enters}
 use Rattle.station_shared.proofs.seat.Seat.look.Goals as goal
 
 pub enter_as-requires : goal.enter_as-requires
-enter_as-requires g c = enters g.row.N (λ x. sheet x.book x.front x.limits) _ _
+enter_as-requires g c = enters g.row.N (λ x. sheet_of x) _ _
 
 pub invariant_of-result-in-Ok-2 : goal.invariant_of-result-in-Ok-2
 invariant_of-result-in-Ok-2 g c =
