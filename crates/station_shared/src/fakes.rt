@@ -1,6 +1,5 @@
 //! Sources and sinks for tests.
 ghost use Rattle.std.specs.Prelude.{◌≡◌, ◌≤◌, None};
-ghost use Rattle.station_journal.specs.Log.{empty_log};
 
 use crate::desk::Desk;
 use crate::source::Source;

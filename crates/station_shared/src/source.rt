@@ -27,6 +27,7 @@ pub trait Source {
         ensures within { IfOk result (λ n. n ≤ length buffer.new) }
         ensures bytes { ReadConsumes (left self.old) (left self.new) result buffer.new }
         ensures reads { reads self.new ≡ one_more (reads self.old) }
-        ensures ends { ends self.new ≡ counted (not (is_end result (length buffer.new))) (ends self.old) }
+        ensures ends { ends self.new
+            ≡ counted (not (is_end result (length buffer.new))) (ends self.old) }
         ensures failures { failures self.new ≡ counted (is_ok result) (failures self.old) };
 }
