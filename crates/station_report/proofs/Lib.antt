@@ -1,4 +1,3 @@
-pub mod DecimalLemmas
 pub mod DegreesLemmas
 pub mod LineLemmas
 pub mod Padding

@@ -1,27 +1,23 @@
 //! Numbers as text, in a field of fixed size.
 
-ghost use Rattle.std.specs.Prelude.{◌≡◌, ◌+◌, ◌/◌, ◌%◌, ◌≤◌, [], ◌∷◌, ◌++◌, length};
+ghost use Rattle.std.specs.Prelude.{◌≡◌, ◌+◌, ◌≤◌, ◌++◌, length};
 ghost use Rattle.std.specs.Fmt.{decimal, signed_decimal};
 ghost use Rattle.arrayvec.specs.ArrayVec.{array_vec_len};
 ghost use Rattle.station_report.specs.Text.{five_digits};
 
 use arrayvec::ArrayVec;
+use itoa::Buffer;
 
 /// The text of one field, of which the widest has 27 bytes.
 pub(crate) type Field = ArrayVec<u8, 32>;
 
-/// Appends a number in decimal.
-#[tactic(auto, using(crate::proofs::DecimalLemmas::decimal_digit, crate::proofs::DecimalLemmas::decimal_step, crate::proofs::DecimalLemmas::length_decimal_step))]
-fn push_decimal(field: &mut Field, n: u64)
-    requires { array_vec_len field.old + length (decimal n) ≤ 32 }
-    ensures { field.new.items ≡ field.old.items ++ decimal n }
+// Appends a text that the field has room for.
+fn push_text(field: &mut Field, text: &str)
+    requires { array_vec_len field.old + length text.now ≤ 32 }
+    ensures items { field.new.items ≡ field.old.items ++ text.now }
+    ensures len { array_vec_len field.new ≡ array_vec_len field.old + length text.now }
 {
-    if n < 10 {
-        field.push(b'0' + n as u8);
-    } else {
-        push_decimal(field, n / 10);
-        field.push(b'0' + (n % 10) as u8);
-    }
+    let _room = field.try_extend_from_slice(text.as_bytes());
 }
 
 /// Appends a number in decimal, to a field with room for any.
@@ -30,7 +26,8 @@ pub(crate) fn push_number(field: &mut Field, n: u64)
     ensures items { field.new.items ≡ field.old.items ++ decimal n }
     ensures len { array_vec_len field.new ≤ array_vec_len field.old + 20 }
 {
-    push_decimal(field, n);
+    let mut buffer = Buffer::new();
+    push_text(field, buffer.format(n));
 }
 
 /// Appends a number in decimal, with `-` before a negative one.
@@ -39,10 +36,8 @@ pub(crate) fn push_signed(field: &mut Field, n: i32)
     ensures items { field.new.items ≡ field.old.items ++ signed_decimal n }
     ensures len { array_vec_len field.new ≤ array_vec_len field.old + 11 }
 {
-    if n < 0 {
-        field.push(b'-');
-    }
-    push_decimal(field, u64::from(n.unsigned_abs()));
+    let mut buffer = Buffer::new();
+    push_text(field, buffer.format(n));
 }
 
 /// Appends a short number in decimal.
@@ -51,7 +46,8 @@ pub(crate) fn push_short(field: &mut Field, n: u16)
     ensures items { field.new.items ≡ field.old.items ++ decimal n }
     ensures len { array_vec_len field.new ≤ array_vec_len field.old + 5 }
 {
-    push_decimal(field, u64::from(n));
+    let mut buffer = Buffer::new();
+    push_text(field, buffer.format(n));
 }
 
 /// Appends the last five digits of a number, zeros too.
