@@ -1,5 +1,6 @@
 // The job `replay`.
-ghost use Rattle.std.specs.Prelude.{◌≤◌};
+ghost use Rattle.std.specs.Prelude.{◌≡◌, ◌≤◌};
+ghost use Rattle.station_main.specs.Status.{status_of};
 
 use crate::faults::{Fault, tell, write_tally};
 use crate::limits::{AIRCRAFT, LIMITS, TURNS};
@@ -34,7 +35,8 @@ pub fn replay_input<R: Wait, I: Read + Drop, O: Write + Drop, E: Write + Drop>(
 }
 
 fn write_answer<E: Write>(err: &mut E, answer: &Result<Tally, ReplayFault>) -> u8
-    ensures { result ≤ 1 }
+    ensures value { result ≡ status_of answer.now }
+    ensures most { result ≤ 1 }
 {
     let (tally, fault) = match answer {
         Ok(tally) => {

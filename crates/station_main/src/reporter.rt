@@ -1,5 +1,6 @@
 // The reporter: the table of its own seat's looks, now and then.
 ghost use Rattle.std.specs.Prelude.{◌≡◌, ◌<◌, ◌≤◌};
+ghost use mathlib.Core.List.{IsPrefix};
 ghost use Rattle.station_journal.specs.Log.{clock_of, table_of};
 ghost use Rattle.station_main.specs.Report.{PrintsAtMost};
 ghost use Rattle.station_report.specs.Sink.{TakesAll};
@@ -26,7 +27,8 @@ pub struct Reported<S, O> {
 }
 
 /// Ticks and prints the table each time that `every` milliseconds more have passed, until all receivers have ended or
-/// a write failed. Moments are milliseconds since the start of this call.
+/// a write failed. Moments are milliseconds since the start of this call. The seat comes back, and all that it had seen
+/// begins what it has then seen.
 pub fn report<const N: usize, L: Total, R: Wait + Clock, S: Sink>(
     rt: &R,
     station: &Station<N, L>,
@@ -34,7 +36,10 @@ pub fn report<const N: usize, L: Total, R: Wait + Clock, S: Sink>(
     every: u32,
     mut seat: Seat<N, L>,
     mut out: S,
-) -> Reported<Seat<N, L>, S> {
+) -> Reported<Seat<N, L>, S>
+    ensures number { result.seat.number ≡ seat.number }
+    ensures later { IsPrefix seat.seen result.seat.seen }
+{
     let mut has_failed = false;
     if let Ok(start) = Instant::now(rt) {
         let every = u64::from(every);

@@ -1,5 +1,6 @@
 // The job `run`.
-ghost use Rattle.std.specs.Prelude.{◌≡◌, ◌≤◌, All, IfSome, is_some, length, true};
+ghost use Rattle.std.specs.Prelude.{◌≡◌, ◌≤◌, All, IfSome, fold, is_some, length, max, true};
+ghost use Rattle.station_main.specs.Status.{status_of, answer_status};
 
 use crate::faults::{Fault, tell, write_tally};
 use crate::limits::{AIRCRAFT, LIMITS, TURNS};
@@ -204,7 +205,9 @@ fn tell_end<L: Total, O: Write + Drop, E: Write>(
     reported: Ended<L, O>,
 ) -> u8
     requires answered { All (λ r. is_some r.answer ≡ true) receivers.now.items }
-    ensures { result ≤ 1 }
+    ensures most { result ≤ 1 }
+    ensures receivers { fold (λ status r. max status (answer_status r.answer)) 0 receivers.now.items ≤ result }
+    ensures reporter { reported.has_failed ≡ true → result ≡ 1 }
 {
     let Reported {
         seat,
@@ -226,7 +229,8 @@ fn tell_end<L: Total, O: Write + Drop, E: Write>(
 // Tells what each receiver counted, and a fault directly after it. Answers the status.
 fn tell_answers<L: Total, E: Write>(err: &mut E, receivers: &Vec<Receiver<L>>) -> u8
     requires answered { All (λ r. is_some r.answer ≡ true) receivers.now.items }
-    ensures { result ≤ 1 }
+    ensures value { result ≡ fold (λ status r. max status (answer_status r.answer)) 0 receivers.now.items }
+    ensures most { result ≤ 1 }
 {
     let mut status = 0;
     for receiver in receivers {
@@ -239,7 +243,8 @@ fn tell_answers<L: Total, E: Write>(err: &mut E, receivers: &Vec<Receiver<L>>) -
 }
 
 fn tell_answer<E: Write>(err: &mut E, answer: &Result<Tally, PumpFault>) -> u8
-    ensures { result ≤ 1 }
+    ensures value { result ≡ status_of answer.now }
+    ensures most { result ≤ 1 }
 {
     let (tally, fault) = match answer {
         Ok(tally) => {

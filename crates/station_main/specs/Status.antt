@@ -1,0 +1,12 @@
+-- The statuses that answers give.
+use Rattle.std.specs.Prelude.{ℕ, Option, Some, None, Result, Ok, Err}
+
+-- 0 for an answer, and 1 after a fault
+abbrev pub status_of : {T E : Type 0} → Result T E → ℕ
+status_of (Ok x) = 0
+status_of (Err fault) = 1
+
+-- the same of a receiver, and 1 where it has no answer
+abbrev pub answer_status : {T E : Type 0} → Option (Result T E) → ℕ
+answer_status None = 1
+answer_status (Some answer) = status_of answer
