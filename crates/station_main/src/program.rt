@@ -1,7 +1,8 @@
 // The whole program, over any streams.
-ghost use Rattle.clap.specs.Words.{takes};
+ghost use Rattle.clap.specs.Words.{kind_of, takes};
+ghost use Rattle.clap.specs.declared.error.kind.ErrorKind.TheVariants.{DisplayHelp, DisplayVersion};
 ghost use Rattle.station_main.specs.Command.{station};
-ghost use Rattle.std.specs.Prelude.{◌≡◌, ◌≤◌, map, true};
+ghost use Rattle.std.specs.Prelude.{◌≡◌, ◌≢◌, ◌≤◌, map, true};
 
 use crate::faults::{Fault, tell};
 use crate::replay_job::replay_input;
@@ -36,7 +37,9 @@ pub fn program<
 
 // Help goes to standard output with status 0, any other answer of `clap` to standard error with status 2.
 fn write_answer<O: Write + Drop, E: Write + Drop>(error: &clap::Error, mut out: O, mut err: E) -> u8
-    ensures { result ≤ 2 }
+    ensures most { result ≤ 2 }
+    ensures help { kind_of error.now ≡ DisplayHelp → result ≡ 0 }
+    ensures fault { kind_of error.now ≢ DisplayHelp → kind_of error.now ≢ DisplayVersion → result ≡ 2 }
 {
     if error.use_stderr() {
         let _ = write!(err, "{error}");
