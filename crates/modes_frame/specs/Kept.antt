@@ -1,21 +1,22 @@
 -- How a frame is kept.
-use Rattle.std.specs.Prelude.{◌≡◌, ℕ, ◌<◌, ◌≤◌, ◌==◌, List, length, if◌then◌else◌}
-use Rattle.std.proofs.Common.{ap}
+use Rattle.std.specs.Prelude.{◌≡◌, ℕ, ◌-◌, List, ◌++◌, length, take, replicate, nat_lt, if◌then◌else◌}
 use Rattle.modes_frame.specs.Frames.{df_of}
-use Rattle.modes_frame.specs.declared.frame.Bytes.{Bytes}
-use Rattle.modes_frame.specs.declared.frame.Bytes.TheVariants.{Short, Long}
 
-abbrev pub bytes_in : Bytes → List ℕ
-bytes_in (Short bytes) = bytes
-bytes_in (Long bytes) = bytes
+-- how many bytes a frame has that begins like this
+abbrev pub count_of : List ℕ → ℕ
+count_of bytes = if nat_lt (df_of bytes) 16 then 7 else 14
 
-abbrev pub IsKept : Bytes → Type 0
-IsKept (Short bytes) = (length bytes ≡ 7) × (df_of bytes < 16)
-IsKept (Long bytes) = (length bytes ≡ 14) × (16 ≤ df_of bytes)
+-- the bytes of a frame that is kept so
+abbrev pub bytes_in : List ℕ → List ℕ
+bytes_in padded = take (count_of padded) padded
 
-abbrev pub kept : List ℕ → Bytes
-kept bytes = if length bytes == 7 then Short bytes else Long bytes
+-- 16 bytes, the last of them zeros
+abbrev pub with_zeros : List ℕ → List ℕ
+with_zeros bytes = bytes ++ replicate (16 - length bytes) 0
 
-pub kept-bytes_in : (b : Bytes) → IsKept b → kept (bytes_in b) ≡ b
-kept-bytes_in (Short bytes) h = ap (λ n. if n == 7 then Short bytes else Long bytes) h.0
-kept-bytes_in (Long bytes) h = ap (λ n. if n == 7 then Short bytes else Long bytes) h.0
+-- a frame is kept in 16 bytes, of which those that it doesn't have are zeros, with the number of its bytes
+pub record IsKept (number : ℕ) (padded : List ℕ) : Type 0 where
+  pub size : length padded ≡ 16
+  pub count : number ≡ count_of padded
+  pub same : count_of (bytes_in padded) ≡ number
+  pub rest : with_zeros (bytes_in padded) ≡ padded

@@ -3,33 +3,30 @@ ghost use Rattle.std.specs.Prelude.{◌≡◌, ◌≤◌, ◌<◌, ◌↔◌, �
 
 use std::marker::Model;
 
-#[derive(Clone, Copy, Debug, PartialEq, Eq)]
-enum Bytes {
-    Short([u8; 7]),
-    Long([u8; 14]),
-}
-
 /// A frame as it was sent: 56 bits with a downlink format below 16, or 112 bits with 16 or more. Contracts see it as
 /// its bytes.
 #[derive(Clone, Copy, Debug, PartialEq, Eq)]
 pub struct Frame {
-    store: Bytes,
+    count: u8,
+    // The bytes, and zeros after them: 16 bytes are copied in one move.
+    padded: [u8; 16],
 }
 
 impl Model for Frame {
     ghost use Rattle.std.specs.Prelude.{ℕ, List};
-    ghost use Rattle.std.proofs.Common.{ap};
-    ghost use Rattle.modes_frame.specs.Kept.{bytes_in, IsKept, kept, kept-bytes_in};
+    ghost use Rattle.std.proofs.Common.{ap, ◌∙◌};
+    ghost use Rattle.modes_frame.specs.Kept.{bytes_in, count_of, with_zeros, IsKept};
 
     ghost Value = { List ℕ };
 
-    ghost view = { λ f. bytes_in f.store };
+    ghost view = { λ f. bytes_in f.padded };
 
-    ghost invariant = { λ f. IsKept f.store };
+    ghost invariant = { λ f. IsKept f.count f.padded };
 
-    ghost inverse = { λ xs. record { store = kept xs } };
+    ghost inverse = { λ xs. record { count = count_of xs; padded = with_zeros xs } };
 
-    ghost inverse_ok = { λ a h. ap (λ d. record { store = d }) (kept-bytes_in a.store h) };
+    ghost inverse_ok = { λ a h. ap (λ c. record { count = c; padded = with_zeros (bytes_in a.padded) }) h.same
+        ∙ ap (λ d. record { count = a.count; padded = d }) h.rest };
 }
 
 impl Frame {
@@ -40,26 +37,21 @@ impl Frame {
         ensures some { IsSome result ↔ IsFrame bytes.now }
         ensures value { IfSome result (λ f. f ≡ bytes.now) }
     {
-        let df = bytes.first()? / 8;
-        if df < 16 {
-            let mut short = [0; 7];
-            if bytes.len() != short.len() {
+        let mut padded = [0; 16];
+        let count = if bytes.first()? / 8 < 16 {
+            if bytes.len() != 7 {
                 return None;
             }
-            short.copy_from_slice(bytes);
-            Some(Frame {
-                store: Bytes::Short(short),
-            })
+            padded[..7].copy_from_slice(bytes);
+            7
         } else {
-            let mut long = [0; 14];
-            if bytes.len() != long.len() {
+            if bytes.len() != 14 {
                 return None;
             }
-            long.copy_from_slice(bytes);
-            Some(Frame {
-                store: Bytes::Long(long),
-            })
-        }
+            padded[..14].copy_from_slice(bytes);
+            14
+        };
+        Some(Frame { count, padded })
     }
 
     /// The 7 or 14 bytes of the frame.
@@ -67,10 +59,7 @@ impl Frame {
         ensures bytes { result.now ≡ self.now }
         ensures frame { IsFrame self.now }
     {
-        match &self.store {
-            Bytes::Short(bytes) => bytes,
-            Bytes::Long(bytes) => bytes,
-        }
+        &self.padded[..usize::from(self.count)]
     }
 
     /// The downlink format, 0 to 31: bits 1 to 5 (3.1.2.3.2.1.2).
