@@ -7,7 +7,7 @@ use crate::limits::{AIRCRAFT, LIMITS, TURNS};
 use station_report::ToWrite;
 use station_shared::{Desk, FromRead, ReplayFault, Tally, replay};
 use std::alloc::Global;
-use std::io::{BufWriter, Read, Write};
+use std::io::{BufReader, BufWriter, Read, Write};
 use std::sync::Wait;
 
 /// Reads the lines of the input, and writes the tables that they ask for, then what was counted, and a fault if there
@@ -21,14 +21,14 @@ pub fn replay_input<R: Wait, I: Read + Drop, O: Write + Drop, E: Write + Drop>(
 ) -> u8
     ensures { result ≤ 1 }
 {
-    let Ok(buffered) = BufWriter::new(alloc, out) else {
+    let (Ok(input), Ok(output)) = (BufReader::new(alloc, input), BufWriter::new(alloc, out)) else {
         return tell(&mut err, Fault::NoMemory);
     };
     let Ok(mut desk) = Desk::<AIRCRAFT>::new(alloc, LIMITS) else {
         return tell(&mut err, Fault::NoMemory);
     };
     let mut from = FromRead::new(input);
-    let mut to = ToWrite::new(buffered);
+    let mut to = ToWrite::new(output);
     let answer = replay(rt, &mut desk, &mut from, &mut to, TURNS);
     desk.end(rt);
     write_answer(&mut err, &answer)

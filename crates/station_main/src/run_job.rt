@@ -12,7 +12,7 @@ use station_shared::{
 };
 use std::alloc::Global;
 use std::fs::File;
-use std::io::{BufWriter, ErrorKind, Write};
+use std::io::{BufReader, BufWriter, ErrorKind, Write};
 use std::marker::Brand;
 use std::rt::Files;
 use std::sync::Wait;
@@ -22,7 +22,7 @@ use std::thread;
 use std::thread::Threads;
 use std::time::Clock;
 
-type Input = FromRead<File>;
+type Input = FromRead<BufReader<File>>;
 
 type Output<O> = ToWrite<BufWriter<O>>;
 
@@ -81,17 +81,25 @@ fn open_all<'a, R: Files<File = File>>(
 ) -> Result<Vec<Input>, Fault<'a>> {
     let mut inputs = Vec::new(alloc);
     for path in paths {
-        match File::open(rt, path.as_str()) {
-            Ok(file) => {
-                if inputs.push(FromRead::new(file)).is_err() {
-                    return Err(Fault::NoMemory);
-                }
-            }
-            Err(error) if error.kind() == ErrorKind::OutOfMemory => return Err(Fault::NoMemory),
-            Err(_) => return Err(Fault::CannotOpen(path.as_str())),
+        let input = open(rt, alloc, path.as_str())?;
+        if inputs.push(input).is_err() {
+            return Err(Fault::NoMemory);
         }
     }
     Ok(inputs)
+}
+
+// Opens a path, with a buffer before it.
+fn open<'a, R: Files<File = File>>(
+    rt: &R,
+    alloc: Global,
+    path: &'a str,
+) -> Result<Input, Fault<'a>> {
+    match File::open(rt, path).and_then(|file| BufReader::new(alloc, file)) {
+        Ok(buffered) => Ok(FromRead::new(buffered)),
+        Err(error) if error.kind() == ErrorKind::OutOfMemory => Err(Fault::NoMemory),
+        Err(_) => Err(Fault::CannotOpen(path)),
+    }
 }
 
 // The work of one station, from its making to what is told of it.
