@@ -1,5 +1,6 @@
--- How a frame is kept.
-use Rattle.std.specs.Prelude.{◌≡◌, ℕ, ◌-◌, List, ◌++◌, length, take, replicate, nat_lt, if◌then◌else◌}
+-- How a frame is kept, and how the values of digits are.
+use Rattle.std.specs.Prelude.{◌≡◌, ℕ, ◌-◌, ◌<◌, List, ◌++◌, length, take, replicate, slice_index, unwrap_or, nat_lt, if◌then◌else◌}
+use Rattle.hex.specs.Hex.{hex_digit_value}
 use Rattle.modes_frame.specs.Frames.{df_of}
 
 -- how many bytes a frame has that begins like this
@@ -20,3 +21,12 @@ pub record IsKept (number : ℕ) (padded : List ℕ) : Type 0 where
   pub count : number ≡ count_of padded
   pub same : count_of (bytes_in padded) ≡ number
   pub rest : with_zeros (bytes_in padded) ≡ padded
+
+-- the value of a byte as a digit, or 16 where it is none
+abbrev pub value_of : ℕ → ℕ
+value_of byte = unwrap_or (hex_digit_value byte) 16
+
+-- the values of the first n bytes stand in a list of 256
+pub record HasValues (n : ℕ) (values : List ℕ) : Type 0 where
+  pub size : length values ≡ 256
+  pub at : (byte : ℕ) → byte < n → slice_index values byte ≡ value_of byte

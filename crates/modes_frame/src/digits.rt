@@ -1,8 +1,10 @@
 // Hexadecimal digits.
-ghost use Rattle.std.specs.Prelude.{◌≡◌, ◌≤◌, ◌*◌, length};
+ghost use Rattle.std.specs.Prelude.{◌≡◌, ◌≤◌, ◌<◌, ◌*◌, IsTrue, Ok, length};
+ghost use Rattle.hex.specs.Hex.{decode_pairs, hex_digit_value};
 ghost use Rattle.modes_frame.specs.Reading.{Decodes};
 
 use hex::FromHexError;
+use std::marker::Model;
 
 /// The bytes of some digits, or the place of the first that is none, counted from 1.
 pub(crate) fn decode_digits(digits: &[u8], bytes: &mut [u8]) -> Result<(), u8>
@@ -16,5 +18,61 @@ pub(crate) fn decode_digits(digits: &[u8], bytes: &mut [u8]) -> Result<(), u8>
         Err(FromHexError::OddLength) => Err(0),
         Err(FromHexError::InvalidStringLength) => Err(0),
         Err(FromHexError::OutOfMemory) => Err(0),
+    }
+}
+
+/// The value of a digit.
+fn digit_value(byte: u8) -> Option<u8>
+    ensures { result ≡ hex_digit_value byte }
+{
+    let mut value = [0];
+    match hex::decode_to_slice(&[b'0', byte], &mut value) {
+        Ok(()) => Some(value[0]),
+        Err(_) => None,
+    }
+}
+
+/// What stands for a byte that is no digit.
+const NO_DIGIT: u8 = 16;
+
+/// The value of each byte as a digit, which `hex` was asked for once.
+#[derive(Drop)]
+pub(crate) struct DigitTable {
+    values: [u8; 256],
+}
+
+impl Model for DigitTable {
+    ghost use Rattle.modes_frame.specs.Kept.{HasValues};
+
+    ghost Value = { Unit {0} };
+
+    ghost view = { λ t. tt };
+
+    ghost invariant = { λ t. HasValues 256 t.values };
+}
+
+impl DigitTable {
+    pub(crate) fn new() -> Self {
+        let mut values = [NO_DIGIT; 256];
+        for byte in 0..256 {
+            values[byte] = digit_value(byte as u8).unwrap_or(NO_DIGIT);
+        }
+        DigitTable { values }
+    }
+
+    /// Whether all are digits; then these are their bytes.
+    pub(crate) fn decode(&self, digits: &[u8], bytes: &mut [u8]) -> bool
+        requires even { length digits.now ≡ 2 * length bytes.old }
+        ensures size { length bytes.new ≡ length bytes.old }
+        ensures value { IsTrue result → decode_pairs 0 digits.now ≡ Ok bytes.new }
+    {
+        let mut merged = 0;
+        for i in 0..bytes.len() {
+            let high = self.values[usize::from(digits[2 * i])];
+            let low = self.values[usize::from(digits[2 * i + 1])];
+            merged |= high | low;
+            bytes[i] = high << 4 | low;
+        }
+        merged < NO_DIGIT
     }
 }

@@ -14,7 +14,7 @@ pub use blanks::trim_blanks;
 pub use claims::{CheckFault, Claim};
 pub use cutter::{Cut, Cutter, LineBuf};
 pub use frame::Frame;
-pub use line::{Line, LineFault, read_line, read_trimmed};
+pub use line::{Line, LineFault, LineReader, read_line};
 pub use parity::remainder;
 
 #[cfg(test)]

@@ -3,7 +3,9 @@ ghost use Rattle.std.specs.Prelude.{◌<◌, ◌≤◌, IfSome};
 
 use crate::parity::parity_of_byte;
 use crate::readers::claim;
-use crate::{CheckFault, Claim, Cut, Cutter, Frame, Line, LineFault, read_line, remainder};
+use crate::{
+    CheckFault, Claim, Cut, Cutter, Frame, Line, LineFault, LineReader, read_line, remainder,
+};
 use std::process::Abort;
 use std::test::Fail;
 
@@ -94,6 +96,28 @@ fn each_byte_of_a_line_replaced(rt: HostRuntime) {
             let mut line = KLM1023_LINE;
             line[place] = byte;
             check_replaced(&rt, &line, place, byte);
+        }
+    }
+}
+
+#[test]
+fn a_table_reads_the_same(rt: HostRuntime) {
+    let lines = LineReader::with_table();
+    for line in [
+        b"*8D4840D6202CC371C32CE0576098;".as_slice(),
+        b"@0123456789AB7700;",
+    ] {
+        assert_eq!(rt; lines.read_line(line), read_line(line));
+    }
+    for place in 0..KLM1023_LINE.len() {
+        for byte in 0..=u8::MAX {
+            let mut line = KLM1023_LINE;
+            line[place] = byte;
+            assert_eq!(rt;
+                lines.read_line(&line),
+                read_line(&line),
+                "byte {byte} at {place}"
+            );
         }
     }
 }
