@@ -1,10 +1,11 @@
 -- A table of digits' values, and what they decode to.
 use Rattle.std.proofs.Common.{◌≡◌, ℕ, ◌+◌, ◌*◌, ◌%◌, ◌<◌, List, [], ◌∷◌, Option, Some, None, Result, Ok, Err, length, slice_index, slice_index_or, slice_set, take, drop, bit_or, arith, refl, ap, sym, ◌∙◌, subst, inl, inr}
 use Rattle.std.proofs.lemmas.Bool.Decides.{eqb_tells}
-use Rattle.std.specs.Prelude.{unwrap_or}
+use Rattle.std.specs.Prelude.{is_some, true, unwrap_or}
+use Rattle.std.specs.List.{AllWithin}
 use Rattle.std.proofs.lemmas.List.{get_or-set_same, get_or-set_other, length-set}
-use Rattle.std.proofs.lemmas.Nat.{or_shifted, shl_whole}
-use Rattle.hex.specs.Hex.{decode_pairs, decode_sized, digit_or_error, hex_digit_value, pair_value, ◌>>=◌}
+use Rattle.std.proofs.lemmas.Nat.{or_lt, or_shifted, shl_whole}
+use Rattle.hex.specs.Hex.{decode_pairs, decode_sized, digit_or_error, hex_digit_value, is_hex_digit, pair_value, ◌>>=◌}
 use Rattle.hex.specs.declared.error.FromHexError.{FromHexError}
 use Rattle.hex.specs.declared.error.FromHexError.TheVariants.{InvalidHexCharacter}
 use Rattle.hex.proofs.Pairs.{prepend, decode_step}
@@ -89,3 +90,30 @@ byte-more values digits bytes i high low h fits room a-byte b-byte high-is low-i
     let a-known : hex_digit_value a ≡ Some high = value-known a (subst (λ n. n < 16) high-value hs) ∙ ap (λ n. Some n) (sym high-value) in
     let b-known : hex_digit_value b ≡ Some low = value-known b (subst (λ n. n < 16) low-value ls) ∙ ap (λ n. Some n) (sym low-value) in
     decode_step digits bytes i _ fits room (pair-known a b (2 * i) high low a-known b-known ∙ ap (λ n. Ok n) (sym (byte-of high low hs ls))) inv
+
+-- ---- all are digits
+
+value-small : (byte v : ℕ) → hex_digit_value byte ≡ Some v → v < 16
+value-small byte v h = grind (arith)
+
+some-small : (v : Option ℕ) → is_some v ≡ true → ((n : ℕ) → v ≡ Some n → n < 16) → unwrap_or v 16 < 16
+some-small None h small = cc h
+some-small (Some n) h small = small n refl
+
+digit-small : (byte : ℕ) → is_hex_digit byte ≡ true → value_of byte < 16
+digit-small byte h = some-small (hex_digit_value byte) h (value-small byte)
+
+abbrev pub DigitsBefore : ℕ → List ℕ → Type 0
+DigitsBefore n digits = AllWithin (λ c. is_hex_digit c ≡ true) digits 0 n
+
+-- two digits more
+pub digits-more : (values digits : List ℕ) (i high low merged : ℕ) → HasValues 256 values
+    → slice_index digits (2 * i) < 256 → slice_index digits (2 * i + 1) < 256
+    → high ≡ slice_index values (slice_index digits (2 * i)) → low ≡ slice_index values (slice_index digits (2 * i + 1))
+    → (DigitsBefore (2 * i) digits → merged < 16) → DigitsBefore (2 * (i + 1)) digits → bit_or merged (bit_or high low) < 16
+digits-more values digits i high low merged h a-byte b-byte high-is low-is before all =
+    let a = slice_index digits (2 * i) in
+    let b = slice_index digits (2 * i + 1) in
+    let high-small : high < 16 = subst (λ n. n < 16) (sym (high-is ∙ h.at a a-byte)) (digit-small a (all (2 * i) 0 (omega arith) (omega arith))) in
+    let low-small : low < 16 = subst (λ n. n < 16) (sym (low-is ∙ h.at b b-byte)) (digit-small b (all (2 * i + 1) 0 (omega arith) (omega arith))) in
+    or_lt 4 merged (bit_or high low) (before (λ k d from below. all k d from (omega (arith, below)))) (or_lt 4 high low high-small low-small)

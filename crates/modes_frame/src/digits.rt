@@ -1,6 +1,7 @@
 // Hexadecimal digits.
-ghost use Rattle.std.specs.Prelude.{◌≡◌, ◌≤◌, ◌<◌, ◌*◌, IsTrue, Ok, length};
-ghost use Rattle.hex.specs.Hex.{decode_pairs, hex_digit_value};
+ghost use Rattle.std.specs.Prelude.{◌≡◌, ◌≤◌, ◌<◌, ◌*◌, ◌↔◌, IsTrue, Ok, length};
+ghost use Rattle.std.specs.List.{AllPass};
+ghost use Rattle.hex.specs.Hex.{decode_pairs, hex_digit_value, is_hex_digit};
 ghost use Rattle.modes_frame.specs.Reading.{Decodes};
 
 use hex::FromHexError;
@@ -15,9 +16,9 @@ pub(crate) fn decode_digits(digits: &[u8], bytes: &mut [u8]) -> Result<(), u8>
     match hex::decode_to_slice(digits, bytes) {
         Ok(()) => Ok(()),
         Err(FromHexError::InvalidHexCharacter { c: _, index }) => Err(index as u8 + 1),
-        Err(FromHexError::OddLength) => Err(0),
-        Err(FromHexError::InvalidStringLength) => Err(0),
-        Err(FromHexError::OutOfMemory) => Err(0),
+        Err(FromHexError::OddLength) => unreachable!(),
+        Err(FromHexError::InvalidStringLength) => unreachable!(),
+        Err(FromHexError::OutOfMemory) => unreachable!(),
     }
 }
 
@@ -64,6 +65,7 @@ impl DigitTable {
     pub(crate) fn decode(&self, digits: &[u8], bytes: &mut [u8]) -> bool
         requires even { length digits.now ≡ 2 * length bytes.old }
         ensures size { length bytes.new ≡ length bytes.old }
+        ensures all { IsTrue result ↔ AllPass is_hex_digit digits.now }
         ensures value { IsTrue result → decode_pairs 0 digits.now ≡ Ok bytes.new }
     {
         let mut merged = 0;
