@@ -1,5 +1,5 @@
 -- The statuses that answers give.
-use Rattle.std.specs.Prelude.{ℕ, Option, Some, None, Result, Ok, Err}
+use Rattle.std.specs.Prelude.{ℕ, Bool, true, false, Option, Some, None, Result, Ok, Err}
 
 -- 0 for an answer, and 1 after a fault
 abbrev pub status_of : {T E : Type 0} → Result T E → ℕ
@@ -10,3 +10,8 @@ status_of (Err fault) = 1
 abbrev pub answer_status : {T E : Type 0} → Option (Result T E) → ℕ
 answer_status None = 1
 answer_status (Some answer) = status_of answer
+
+-- 1 after a fault
+abbrev pub fault_status : Bool → ℕ
+fault_status false = 0
+fault_status true = 1

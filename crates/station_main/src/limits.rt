@@ -12,3 +12,7 @@ pub const LIMITS: Limits = Limits {
 
 /// How many reads of one input are made at most.
 pub const TURNS: u32 = u32::MAX;
+
+/// How many bytes of tables are held until they are flushed. A full table has 512 rows of 74 bytes, and 112 bytes above
+/// them at most.
+pub const TABLE_ROOM: usize = 65_536;

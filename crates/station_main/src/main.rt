@@ -3,6 +3,7 @@
 
 mod faults;
 mod limits;
+mod output;
 mod program;
 mod replay_job;
 mod reporter;

@@ -28,8 +28,8 @@ pub fn program<
     ensures taken { takes station (map (λ w. w.now) words.now) ≡ true → result ≤ 1 }
 {
     match read_words(alloc, words) {
-        Ok(Job::Replay) => replay_input(rt, alloc, input, out, err),
-        Ok(Job::Run { every, paths }) => run_paths(rt, alloc, every, &paths, out, &mut err),
+        Ok(Job::Replay) => replay_input(rt, alloc, input, out, &mut err).status,
+        Ok(Job::Run { every, paths }) => run_paths(rt, alloc, every, &paths, out, &mut err).status,
         Err(WordsFault::NoMemory) => tell(&mut err, Fault::NoMemory),
         Err(WordsFault::Clap(error)) => write_answer(&error, out, err),
     }

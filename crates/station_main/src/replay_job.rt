@@ -1,9 +1,12 @@
 // The job `replay`.
-ghost use Rattle.std.specs.Prelude.{◌≡◌, ◌≤◌};
-ghost use Rattle.station_main.specs.Status.{status_of};
+ghost use Rattle.std.specs.Prelude.{◌≡◌, ◌≤◌, IfSome, None, max};
+ghost use Rattle.std.specs.Io.Buffered.{writer_contents};
+ghost use Rattle.station_main.specs.Report.{EndsReplay, GivesBack};
+ghost use Rattle.station_main.specs.Status.{fault_status, status_of};
 
 use crate::faults::{Fault, tell, write_tally};
 use crate::limits::{AIRCRAFT, LIMITS, TURNS};
+use crate::output::{Ran, Written, give_up, unbuffered, without_output};
 use station_report::ToWrite;
 use station_shared::{Desk, FromRead, ReplayFault, Tally, replay};
 use std::alloc::Global;
@@ -11,27 +14,57 @@ use std::io::{BufReader, BufWriter, Read, Write};
 use std::sync::Wait;
 
 /// Reads the lines of the input, and writes the tables that they ask for, then what was counted, and a fault if there
-/// is one. Answers the status.
-pub fn replay_input<R: Wait, I: Read + Drop, O: Write + Drop, E: Write + Drop>(
+/// is one. Hands the output back, after all that was read.
+pub fn replay_input<R: Wait, I: Read + Drop, O: Write + Drop, E: Write>(
     rt: &R,
     alloc: Global,
     input: I,
     out: O,
-    mut err: E,
-) -> u8
-    ensures { result ≤ 1 }
+    err: &mut E,
+) -> Ran<O>
+    ensures most { result.status ≤ 1 }
+    ensures gone { result.out ≡ None → result.status ≡ 1 }
+    ensures ended { IfSome result.out (λ left. EndsReplay (record { entries = 16777216; aircraft = 512 })
+        (I.remaining input) (O.Write.contents out) (O.Write.contents left) result.status) }
 {
     let (Ok(input), Ok(output)) = (BufReader::new(alloc, input), BufWriter::new(alloc, out)) else {
-        return tell(&mut err, Fault::NoMemory);
+        return without_output(err, Fault::NoMemory);
     };
     let Ok(mut desk) = Desk::<AIRCRAFT>::new(alloc, LIMITS) else {
-        return tell(&mut err, Fault::NoMemory);
+        return without_output(err, Fault::NoMemory);
     };
     let mut from = FromRead::new(input);
     let mut to = ToWrite::new(output);
     let answer = replay(rt, &mut desk, &mut from, &mut to, TURNS);
     desk.end(rt);
-    write_answer(&mut err, &answer)
+    let Written { out, has_failed } = take_out(to.into_inner(), &answer);
+    Ran {
+        status: tell_end(err, &answer, has_failed),
+        out: Some(out),
+    }
+}
+
+// The output of a replay out of its buffer.
+fn take_out<O: Write + Drop>(out: BufWriter<O>, answer: &Result<Tally, ReplayFault>) -> Written<O>
+    ensures { GivesBack (writer_contents O.contents out) (O.contents result.out) result.has_failed }
+{
+    match answer {
+        Err(ReplayFault::Write(_)) => give_up(out),
+        _ => unbuffered(out),
+    }
+}
+
+// Writes what was counted, and a fault if there is one: at last that of the output, if none was told. Answers the status.
+fn tell_end<E: Write>(err: &mut E, answer: &Result<Tally, ReplayFault>, has_failed: bool) -> u8
+    ensures value { result ≡ max (status_of answer.now) (fault_status has_failed) }
+    ensures most { result ≤ 1 }
+{
+    let status = write_answer(err, answer);
+    if has_failed && status == 0 {
+        tell(err, Fault::Write)
+    } else {
+        status
+    }
 }
 
 fn write_answer<E: Write>(err: &mut E, answer: &Result<Tally, ReplayFault>) -> u8

@@ -1,12 +1,14 @@
 // The job `run`.
-ghost use Rattle.std.specs.Prelude.{◌≡◌, ◌≤◌, All, IfSome, fold, is_some, length, max, true};
-ghost use Rattle.station_main.specs.Status.{status_of, answer_status};
+ghost use Rattle.std.specs.Prelude.{◌≡◌, ◌+◌, ◌≤◌, All, Bool, IfOk, IfSome, None, Some, fold, is_some, length, max, true};
+ghost use Rattle.station_main.specs.Report.{Ends, HaveWorked, PrintsLast, Reports, buffered_of, sink_of};
+ghost use Rattle.station_main.specs.Status.{answer_status, fault_status, status_of};
 
 use crate::faults::{Fault, tell, write_tally};
-use crate::limits::{AIRCRAFT, LIMITS, TURNS};
-use crate::reporter::{Reported, print_table, report};
+use crate::limits::{AIRCRAFT, LIMITS, TABLE_ROOM, TURNS};
+use crate::output::{Ran, Written, give_up, unbuffered, without_output};
+use crate::reporter::{Given, Reported, print_table, report};
 use station_journal::NoMemory;
-use station_report::ToWrite;
+use station_report::{Sink, ToWrite};
 use station_shared::{
     FromRead, Places, PumpFault, Seat, Station, Tally, Total, Worker, run_receivers,
 };
@@ -15,6 +17,7 @@ use std::fs::File;
 use std::io::{BufReader, BufWriter, ErrorKind, Write};
 use std::marker::Brand;
 use std::rt::Files;
+use std::snapshot::Snapshot;
 use std::sync::Wait;
 use std::sync::atomic::{AtomicBool, Ordering};
 use std::sync::ledger::Blank;
@@ -43,25 +46,28 @@ struct Plan<O: Write + Drop> {
 
 /// Reads each path by a receiver of its own, and prints the table of them all each time that `every` milliseconds more
 /// have passed, and once more when all have ended. Then it tells what each receiver counted, with a fault directly
-/// after it, and at last a fault of writing. Answers the status.
+/// after it, and at last a fault of writing. Hands the output back, after all that was read.
 pub fn run_paths<
     R: Threads + Wait + Clock + Files<File = File> + Sync,
     O: Write + Send + Drop,
     E: Write,
->(rt: &R, alloc: Global, every: u32, paths: &Vec<String>, out: O, err: &mut E) -> u8
+>(rt: &R, alloc: Global, every: u32, paths: &Vec<String>, out: O, err: &mut E) -> Ran<O>
     requires { length paths.now.items ≤ 8 }
-    ensures { result ≤ 1 }
+    ensures most { result.status ≤ 1 }
+    ensures gone { result.out ≡ None → result.status ≡ 1 }
+    ensures ended { IfSome result.out (λ left. Ends (record { entries = 16777216; aircraft = 512 }) every
+        (length paths.now.items) (O.contents out) (O.contents left) result.status) }
 {
     let inputs = match open_all(rt, alloc, paths) {
         Ok(inputs) => inputs,
-        Err(fault) => return tell(err, fault),
+        Err(fault) => return without_output(err, fault),
     };
-    let Ok(buffered) = BufWriter::new(alloc, out) else {
-        return tell(err, Fault::NoMemory);
+    let Ok(buffered) = BufWriter::with_capacity(alloc, TABLE_ROOM, out) else {
+        return without_output(err, Fault::NoMemory);
     };
     let seats = paths.len() as u8 + 1;
     let Ok(places) = Places::new(rt, alloc, seats) else {
-        return tell(err, Fault::NoMemory);
+        return without_output(err, Fault::NoMemory);
     };
     let plan = Plan {
         every,
@@ -78,7 +84,9 @@ fn open_all<'a, R: Files<File = File>>(
     rt: &R,
     alloc: Global,
     paths: &'a Vec<String>,
-) -> Result<Vec<Input>, Fault<'a>> {
+) -> Result<Vec<Input>, Fault<'a>>
+    ensures { IfOk result (λ inputs. length inputs.items ≡ length paths.now.items) }
+{
     let mut inputs = Vec::new(alloc);
     for path in paths {
         let input = open(rt, alloc, path.as_str())?;
@@ -108,21 +116,32 @@ fn run_station<
     R: Threads + Wait + Clock + Sync,
     O: Write + Send + Drop,
     E: Write,
->(rt: &R, alloc: Global, plan: Plan<O>, blank: Blank, places: Places<AIRCRAFT>, err: &mut E) -> u8
+>(
+    rt: &R,
+    alloc: Global,
+    plan: Plan<O>,
+    blank: Blank,
+    places: Places<AIRCRAFT>,
+    err: &mut E,
+) -> Ran<O>
     requires few { plan.seats ≤ 9 }
+    requires inputs { plan.seats ≡ length plan.inputs.items + 1 }
     requires ledger { (blank.name ≡ L.name) × (blank.parts ≡ L.parts) }
     requires seats { (L.parts ≡ plan.seats) × (L.seats ≡ plan.seats) × (places.places ≡ plan.seats) }
     requires history { places.history ≡ L.history }
     requires limits { L.limits ≡ record { entries = 16777216; aircraft = 512 } }
-    ensures { result ≤ 1 }
+    ensures most { result.status ≤ 1 }
+    ensures gone { result.out ≡ None → result.status ≡ 1 }
+    ensures ended { IfSome result.out (λ out. Ends L.limits plan.every (length plan.inputs.items)
+        (buffered_of O.contents plan.out).taken (O.contents out) result.status) }
 {
     match Station::<AIRCRAFT, L>::new(rt, alloc, LIMITS, plan.seats, blank, places) {
         Ok((station, seats)) => {
-            let status = run_seats(rt, alloc, &station, seats, plan, err);
+            let ran = run_seats(rt, alloc, &station, seats, plan, err);
             station.end(rt);
-            status
+            ran
         }
-        Err(_) => tell(err, Fault::NoMemory),
+        Err(_) => without_output(err, Fault::NoMemory),
     }
 }
 
@@ -139,8 +158,12 @@ fn run_seats<
     mut seats: Vec<Seat<AIRCRAFT, L>>,
     plan: Plan<O>,
     err: &mut E,
-) -> u8
-    ensures { result ≤ 1 }
+) -> Ran<O>
+    requires { length seats.items ≡ length plan.inputs.items + 1 }
+    ensures most { result.status ≤ 1 }
+    ensures gone { result.out ≡ None → result.status ≡ 1 }
+    ensures ended { IfSome result.out (λ out. Ends L.limits plan.every (length plan.inputs.items)
+        (buffered_of O.contents plan.out).taken (O.contents out) result.status) }
 {
     let Plan {
         every,
@@ -149,11 +172,11 @@ fn run_seats<
         out,
     } = plan;
     let (Some(seat), Ok(receivers)) = (seats.pop(), receivers(alloc, seats, inputs)) else {
-        return tell(err, Fault::NoMemory);
+        return without_output(err, Fault::NoMemory);
     };
     match run_threads(rt, station, every, receivers, seat, out) {
         Some((receivers, reported)) => tell_end(err, &receivers, reported),
-        None => tell(err, Fault::ThreadNotStarted),
+        None => without_output(err, Fault::ThreadNotStarted),
     }
 }
 
@@ -162,7 +185,10 @@ fn receivers<L: Total>(
     alloc: Global,
     seats: Vec<Seat<AIRCRAFT, L>>,
     inputs: Vec<Input>,
-) -> Result<Vec<Receiver<L>>, NoMemory> {
+) -> Result<Vec<Receiver<L>>, NoMemory>
+    requires { length seats.items ≡ length inputs.items }
+    ensures { IfOk result (λ made. length made.items ≡ length inputs.items) }
+{
     let mut receivers = Vec::new(alloc);
     for (seat, source) in seats.into_iter().zip(inputs) {
         receivers.push(Worker {
@@ -176,25 +202,38 @@ fn receivers<L: Total>(
 
 // The receivers and the reporter, each in a thread of its own, to their ends. `None` where the reporter's thread can't
 // be started: then nothing is read.
-fn run_threads<L: Total + Send + Sync, R: Threads + Wait + Clock + Sync, O: Write + Send + Drop>(
+fn run_threads<L: Total + Send + Sync, R: Threads + Wait + Clock + Sync, S: Sink + Send + Drop>(
     rt: &R,
     station: &Station<AIRCRAFT, L>,
     every: u32,
     mut receivers: Vec<Receiver<L>>,
     seat: Seat<AIRCRAFT, L>,
-    out: Output<O>,
-) -> Option<(Vec<Receiver<L>>, Ended<L, O>)>
-    ensures { IfSome result (λ ended. All (λ r. is_some r.answer ≡ true) ended.0.items) }
+    out: S,
+) -> Option<(Vec<Receiver<L>>, Reported<Seat<AIRCRAFT, L>, S>)>
+    ensures answered { IfSome result (λ ended. All (λ r. is_some r.answer ≡ true) ended.0.items) }
+    ensures receivers { IfSome result (λ ended. HaveWorked L.limits (λ r. r.seat) (λ r. r.source) (λ r. r.answer)
+        receivers.items ended.0.items) }
+    ensures reporter { IfSome result (λ ended. Reports L.limits every seat ended.1.seat
+        (sink_of S.taken S.failures out) (sink_of S.taken S.failures ended.1.out) ended.1.has_failed) }
 {
     let have_ended = AtomicBool::new(false);
     let flag = &have_ended;
     thread::scope(
         thread::scope_env(),
         rt,
-        move |scope| -> Option<(Vec<Receiver<L>>, Ended<L, O>)>
-            ensures { IfSome result (λ ended. All (λ r. is_some r.answer ≡ true) ended.0.items) }
+        move |scope| -> Option<(Vec<Receiver<L>>, Reported<Seat<AIRCRAFT, L>, S>)>
+            ensures answered { IfSome result (λ ended. All (λ r. is_some r.answer ≡ true) ended.0.items) }
+            ensures receivers { IfSome result (λ ended. HaveWorked L.limits (λ r. r.seat) (λ r. r.source) (λ r. r.answer)
+                receivers.items ended.0.items) }
+            ensures reporter { IfSome result (λ ended. Reports L.limits every seat ended.1.seat
+                (sink_of S.taken S.failures out) (sink_of S.taken S.failures ended.1.out) ended.1.has_failed) }
         {
-            match scope.spawn(move || report(rt, station, flag, every, seat, out)) {
+            let given = Given {
+                every,
+                seat: Snapshot::of(&seat),
+                out: Snapshot::of(&out),
+            };
+            match scope.spawn_with(given, move || report(rt, station, flag, every, seat, out)) {
                 Ok(reporter) => {
                     run_receivers(rt, station, receivers.as_mut_slice(), TURNS);
                     flag.store(true, Ordering::SeqCst);
@@ -206,31 +245,46 @@ fn run_threads<L: Total + Send + Sync, R: Threads + Wait + Clock + Sync, O: Writ
     )
 }
 
-// Prints the last table, unless a write failed, and tells what each receiver counted. Answers the status.
+// Prints the last table, unless a write failed, and tells what each receiver counted, and at last a fault of writing.
 fn tell_end<L: Total, O: Write + Drop, E: Write>(
     err: &mut E,
     receivers: &Vec<Receiver<L>>,
     reported: Ended<L, O>,
-) -> u8
+) -> Ran<O>
     requires answered { All (λ r. is_some r.answer ≡ true) receivers.now.items }
-    ensures most { result ≤ 1 }
-    ensures receivers { fold (λ status r. max status (answer_status r.answer)) 0 receivers.now.items ≤ result }
-    ensures reporter { reported.has_failed ≡ true → result ≡ 1 }
+    ensures most { result.status ≤ 1 }
+    ensures told { (out : O) × (has_failed : Bool) × (result.out ≡ Some out)
+        × PrintsLast L.limits reported.seat (buffered_of O.contents reported.out) reported.has_failed (O.contents out) has_failed
+        × (result.status ≡ max (fold (λ status r. max status (answer_status r.answer)) 0 receivers.now.items) (fault_status has_failed)) }
+{
+    let Written { out, has_failed } = print_last(reported);
+    let mut status = tell_answers(err, receivers);
+    if has_failed {
+        status = tell(err, Fault::Write);
+    }
+    Ran {
+        status,
+        out: Some(out),
+    }
+}
+
+// Prints the last table, unless a write failed, and takes the output out of its buffer.
+fn print_last<L: Total, O: Write + Drop>(reported: Ended<L, O>) -> Written<O>
+    ensures { PrintsLast L.limits reported.seat (buffered_of O.contents reported.out) reported.has_failed
+        (O.contents result.out) result.has_failed }
 {
     let Reported {
         seat,
         mut out,
-        mut has_failed,
+        has_failed,
     } = reported;
-    if !has_failed {
-        let (_seat, written) = print_table(seat, &mut out);
-        has_failed = written.is_err();
-    }
-    let status = tell_answers(err, receivers);
     if has_failed {
-        tell(err, Fault::Write)
-    } else {
-        status
+        return give_up(out.into_inner());
+    }
+    let (_seat, written) = print_table(seat, &mut out);
+    match written {
+        Ok(()) => unbuffered(out.into_inner()),
+        Err(_) => give_up(out.into_inner()),
     }
 }
 

@@ -1,3 +1,4 @@
+mod report;
 mod run;
 
 use crate::program::program;

@@ -1,0 +1,19 @@
+use Rattle.std.proofs.Common.{ap, ◌∙◌}
+use Rattle.std.specs.Io.Buffered.{reader_buffer, reader_capacity, reader_inner, reader_remaining, writer_buffer, writer_contents, writer_inner}
+use Rattle.station_main.specs.Report.{buffered_of}
+use Rattle.station_main.proofs.ReplayLemmas.{all_left, ends_replay}
+use Rattle.station_main.proofs.RunJobLemmas.{appended_nil}
+use Rattle.station_main.proofs.replay_job.replay_input.Goals as goal
+
+pub returns-clause-ended : goal.returns-clause-ended
+returns-clause-ended g c =
+    let remaining = g.I.Read.remaining in
+    let contents = g.O.Write.contents in
+    let reader = c.in-Ok-Ok.input in
+    let writer = c.in-Ok-Ok.output in
+    let read = c.in-Ok-Ok.ensures in
+    let write = c.in-Ok-Ok.ensures' in
+    let whole = ap (λ r. reader_remaining remaining r) c.new-from.ensures.inner ∙ all_left (reader_capacity reader) (reader_buffer reader) (remaining (reader_inner reader)) read.capacity read.empty ∙ ap remaining read.inner in
+    let start = ap (λ w. writer_contents contents w) c.new-to.ensures.inner ∙ appended_nil (contents (writer_inner writer)) (writer_buffer writer) write.empty ∙ ap contents write.inner in
+    ends_replay _ c.in-Ok.desk.log c.replay-answer.new.desk.log _ _ _ _ (buffered_of contents c.replay-answer.new.out) _ _ _ c.replay-answer.result c.take_out-out.result.has_failed _
+    c.in-Ok.ensures whole start c.new-to.ensures.failures c.replay-answer.ensures (rw c.into_inner.ensures at c.take_out-out.ensures) c.tell_end.ensures.value
