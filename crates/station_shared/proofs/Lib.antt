@@ -1,4 +1,5 @@
 pub mod Adding
+pub mod AheadLemmas
 pub mod Alls
 pub mod Beginnings
 pub mod Closing

@@ -120,7 +120,7 @@ unfolding heard_line
 no_tick (Whole line) = of_line_tick (reading_of line)
 no_tick TooLong = refl
 
-no_show : (line : Cut) → is_show (heard line) ≡ false
+pub no_show : (line : Cut) → is_show (heard line) ≡ false
 unfolding heard_line
 no_show (Whole line) = of_line_show (reading_of line)
 no_show TooLong = refl

@@ -1,3 +1,4 @@
+pub mod Ahead
 pub mod Calls
 pub mod Closing
 pub mod Command

@@ -1,6 +1,7 @@
 //! The station: a desk that keeps the journal, and what feeds it.
 #![tactic(auto)]
 
+mod ahead;
 pub mod close;
 pub mod command;
 pub mod desk;
@@ -10,6 +11,7 @@ mod fakes;
 pub mod feed;
 pub mod from_read;
 mod gate;
+mod held;
 mod history;
 pub mod look;
 pub mod names;

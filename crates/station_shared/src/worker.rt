@@ -6,11 +6,11 @@ ghost use Rattle.station_shared.specs.Workers.{Worked};
 #[cfg(test)]
 mod tests;
 
+use crate::held::pump_held;
 use crate::names::Total;
 use crate::pumping::PumpFault;
 use crate::rule::Published;
 use crate::seat::Seat;
-use crate::seat_feed::pump_seat;
 use crate::shown::{Mark, Shown};
 use crate::source::Source;
 use crate::station::Station;
@@ -47,7 +47,7 @@ fn run_part<const N: usize, S: Source, L: Total, R: Wait>(
         (drawn_of S.left S.reads S.ends S.failures new.source) turns new.answer }
 {
     let worker = &mut part[0];
-    let answer = pump_seat(rt, station, &mut worker.seat, &mut worker.source, turns);
+    let answer = pump_held(rt, station, &mut worker.seat, &mut worker.source, turns);
     worker.answer = Some(answer);
 }
 

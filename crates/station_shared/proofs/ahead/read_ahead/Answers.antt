@@ -1,0 +1,43 @@
+use Rattle.std.proofs.Common.{◌+◌, ◌++◌, ◌∷◌, [], ◌∙◌, ap, take, length-set, arith}
+use Rattle.std.specs.Option.{option_to_list}
+use Rattle.std.proofs.lemmas.List.{take_more_set}
+use Rattle.modes_frame.specs.Lines.{ended_cuts}
+use Rattle.station_shared.specs.Ahead.{Tells}
+use Rattle.station_shared.proofs.AheadLemmas.{Tells-then}
+use Rattle.station_shared.proofs.DrawingLemmas.{next_piece, TakesBytes-quiet, TakesBytes-line}
+use Rattle.station_shared.proofs.ahead.read_ahead.Goals as goal
+
+pub loop-at-preserved-in-Some : goal.loop-at-preserved-in-Some
+loop-at-preserved-in-Some c =
+    let i = c.loop-at.at in
+    let n = c.loop-at.count in
+    let bytes = c.args.bytes.now in
+    let told = c.push_line-taken in
+    let size = length-set c.loop-at.ahead n c.tell.result in
+    record {
+      within = omega (arith, told.ensures.within);
+      few = omega (arith, told.ensures.some, c.loop-at.invariant.few, c.loop-at-test.true);
+      fits = omega (arith, size, c.if-count-ahead.true);
+      size = size ∙ c.loop-at.invariant.size;
+      told = λ before h. let so_far = c.loop-at.invariant.told before h in
+          TakesBytes-line Tells Tells-then before (take i bytes) _ _ _ _ so_far (take (i + told.result.0) bytes) (next_piece bytes i told.result.0) told.new.self c.in-Some.cut _
+          (told.ensures.held (before ++ take i bytes) so_far.all_taken.1)
+          (told.ensures.told (before ++ take i bytes) so_far.all_taken.1 ∙ ap (λ o. ended_cuts (before ++ take i bytes) ++ option_to_list o) c.in-Some.is)
+          (take_more_set c.loop-at.ahead n c.tell.result c.if-count-ahead.true ∙ ap (λ t. take n c.loop-at.ahead ++ t ∷ []) c.tell.ensures);
+    }
+
+pub loop-at-preserved : goal.loop-at-preserved
+loop-at-preserved c =
+    let i = c.loop-at.at in
+    let bytes = c.args.bytes.now in
+    let told = c.push_line-taken in
+    record {
+      within = omega (arith, told.ensures.within);
+      few = omega (arith, c.loop-at.invariant.few);
+      fits = c.loop-at.invariant.fits;
+      size = c.loop-at.invariant.size;
+      told = λ before h. let so_far = c.loop-at.invariant.told before h in
+          TakesBytes-quiet Tells Tells-then before (take i bytes) _ _ _ _ so_far (take (i + told.result.0) bytes) (next_piece bytes i told.result.0) told.new.self
+          (told.ensures.held (before ++ take i bytes) so_far.all_taken.1)
+          (told.ensures.told (before ++ take i bytes) so_far.all_taken.1 ∙ ap (λ o. ended_cuts (before ++ take i bytes) ++ option_to_list o) c.in-None.is);
+    }

@@ -1,0 +1,15 @@
+use Rattle.std.proofs.Common.{◌≡◌, ◌+◌, List, take, Ok}
+use Rattle.modes_frame.specs.declared.cutter.Cut.{Cut}
+use Rattle.station_shared.specs.Ahead.{told_all}
+use Rattle.station_shared.specs.Pump.{Pumps}
+use Rattle.station_shared.specs.Workers.{SeatSteps}
+use Rattle.station_shared.proofs.held.take_ahead.Given as goal
+
+-- the lines so far were taken
+abbrev pub invariant-loop-told : goal.invariant-loop-told
+invariant-loop-told g l =
+    record {
+      room : l.tally.lines ≡ l.fn.tally.lines + l.told-index;
+      taken : (lines : List Cut) → l.ahead ≡ told_all lines →
+          Pumps (SeatSteps g.L.Total.limits) (record { feed = l.fn.seat; tally = l.fn.tally }) (take l.told-index lines) (Ok tt) (record { feed = l.seat; tally = l.tally });
+    }

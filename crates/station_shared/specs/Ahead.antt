@@ -1,0 +1,38 @@
+-- Lines that are told before the lock of their station is taken.
+use Rattle.std.specs.Prelude.{◌≡◌, List, ◌++◌, Result, Ok, Err, OnOk, [], map}
+use Rattle.std.specs.declared.alloc.AllocError.{AllocError}
+use Rattle.modes_frame.specs.declared.cutter.Cut.{Cut}
+use Rattle.modes_frame.specs.declared.line.Line.TheVariants.{Frame, ModeAc, Blank}
+use Rattle.station_book.specs.Steps.{sighting_of}
+use Rattle.station_book.specs.declared.steps.Step.TheVariants.{Heard}
+use Rattle.station_shared.specs.Calls.{heard}
+use Rattle.station_shared.specs.declared.ahead.Told.{Told}
+use Rattle.station_shared.specs.declared.ahead.Told.TheVariants as Tolds
+use Rattle.station_shared.specs.declared.command.Command.{Command}
+use Rattle.station_shared.specs.declared.command.Command.TheVariants.{Tick, Show, Line as Received}
+use Rattle.station_shared.specs.declared.command.CommandFault.{CommandFault}
+
+-- what a line says to a pump, its frame decoded; a fault has no name
+abbrev pub told_of : Result Command CommandFault → Told
+told_of (Ok (Tick at)) = Tolds.Fault
+told_of (Ok Show) = Tolds.Fault
+told_of (Ok (Received (Frame frame))) = Tolds.Frame frame (Heard (sighting_of frame))
+told_of (Ok (Received ModeAc)) = Tolds.ModeAc
+told_of (Ok (Received Blank)) = Tolds.Blank
+told_of (Err fault) = Tolds.Fault
+
+-- the same of each of these lines
+abbrev pub told_all : List Cut → List Told
+told_all lines = map (λ (line : Cut). told_of (heard line)) lines
+
+-- these lines are told after those before them
+abbrev pub Tells : List Told → List Cut → Result (Unit {0}) AllocError → List Told → Type 0
+Tells old lines result new = new ≡ old ++ told_all lines
+
+-- of these lines a front was taken, as Took says, or all
+pub record TakesFront {X E : Type 0} (Took : X → List Cut → Result (Unit {0}) E → X → Type 0) (all : List Cut) (x y : X) (result : Result (Unit {0}) E) : Type 0 where
+  pub lines : List Cut
+  pub left_out : List Cut
+  pub parts : all ≡ lines ++ left_out
+  pub all_taken : OnOk result (left_out ≡ [])
+  pub took : Took x lines result y

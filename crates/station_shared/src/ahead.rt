@@ -1,0 +1,81 @@
+//! The lines of one read, before the lock of their station is taken: cut, read, and their frames decoded.
+ghost use Rattle.std.specs.Prelude.{◌≡◌, ℕ, ◌<◌, ◌≤◌, List, [], Ok, length, slice_set, take};
+ghost use Rattle.modes_frame.specs.Lines.{pending};
+ghost use Rattle.station_book.specs.Steps.{sighting_of};
+ghost use Rattle.station_book.specs.declared.steps.Step.TheVariants as Steps;
+ghost use Rattle.station_shared.specs.Ahead.{Tells, told_of};
+ghost use Rattle.station_shared.specs.Calls.{heard};
+ghost use Rattle.station_shared.specs.Drawing.{TakesBytes};
+ghost use Rattle.station_shared.specs.declared.ahead.Told.TheVariants as Tolds;
+
+use crate::pumping::read_cut;
+use modes_frame::{Cut, Cutter, Frame, Line, LineReader};
+use station_book::Step;
+
+/// What a line says to a pump. Its frame is decoded.
+#[derive(Clone, Copy, Debug, Default)]
+pub(crate) enum Told {
+    /// A frame, and what it decodes to.
+    Frame(Frame, Step),
+    /// A mode A/C reply or the heartbeat.
+    ModeAc,
+    /// Blanks alone.
+    #[default]
+    Blank,
+    /// A line that can't be read.
+    Fault,
+}
+
+// A frame, with what it decodes to.
+fn decoded(frame: Frame) -> Told
+    ensures { result ≡ Tolds.Frame frame (Steps.Heard (sighting_of frame)) }
+{
+    let step = Step::heard(&frame);
+    Told::Frame(frame, step)
+}
+
+/// What a line says, as it was cut.
+pub(crate) fn tell(lines: &LineReader, cut: &Cut) -> Told
+    ensures { result ≡ told_of (heard cut.now) }
+{
+    let line = match read_cut(lines, cut) {
+        Ok(line) => line,
+        Err(_) => return Told::Fault,
+    };
+    match line {
+        Line::Frame(frame) => decoded(frame),
+        Line::ModeAc => Told::ModeAc,
+        Line::Blank => Told::Blank,
+    }
+}
+
+/// Tells the lines that these bytes end, until there is no room for more. Answers how many bytes it took, and how many lines it told.
+pub(crate) fn read_ahead(
+    cutter: &mut Cutter,
+    lines: &LineReader,
+    bytes: &[u8],
+    ahead: &mut [Told],
+) -> (usize, usize)
+    requires room { 0 < length ahead.old }
+    ensures within { result.0 ≤ length bytes.now }
+    ensures some { 0 < length bytes.now → 0 < result.0 }
+    ensures few { result.1 ≤ result.0 }
+    ensures fits { (result.1 ≤ length ahead.new) × (length ahead.new ≡ length ahead.old) }
+    ensures told { (before : List ℕ) → cutter.old ≡ pending before →
+        TakesBytes Tells before (take result.0 bytes.now) cutter.new [] (take result.1 ahead.new) (Ok tt) }
+{
+    let mut at = 0;
+    let mut count = 0;
+    while at < bytes.len() && count < ahead.len() {
+        let (taken, cut) = cutter.push_line(&bytes[at..]);
+        at += taken;
+        match cut {
+            Some(cut) => {
+                ahead[count] = tell(lines, &cut);
+                count += 1;
+            }
+            None => {}
+        }
+    }
+    (at, count)
+}
