@@ -5,6 +5,7 @@ use Rattle.station_book.specs.declared.steps.Step.{Step}
 use Rattle.station_book.specs.declared.steps.Step.TheVariants.{Tick, Heard}
 use Rattle.station_book.specs.declared.steps.Change.{Change}
 use Rattle.station_book.specs.declared.tracks.Track.{Track}
+use Rattle.modes_fields.specs.Carried.{fields_of}
 use Rattle.station_book.specs.Steps.{change_of}
 use Rattle.station_book.specs.State.{State, applied_step, caught_up, fits}
 use Rattle.station_book.specs.Tracks.{find_track, put_track, updated, track_or_blank, with_track, has_place}
@@ -22,7 +23,7 @@ by_step : (n : ℕ) (book : State) (step : Step) → fits n book step ≡ true �
 by_step n book (Tick at) fit = refl
 by_step n book (Heard (Ok sighting)) fit =
     ap (λ (tracks : List Track). record { moment = book.moment; entries = (applied_step book (Heard (Ok sighting))).entries; tracks = tracks })
-    (copied n sighting.claim.address (updated book.moment sighting.fields (track_or_blank sighting.claim.address book.tracks)) book.tracks
+    (copied n sighting.claim.address (updated book.moment (fields_of sighting.frame) (track_or_blank sighting.claim.address book.tracks)) book.tracks
     (found_address sighting.claim.address book.tracks) fit)
 by_step n book (Heard (Err fault)) fit = tt
 

@@ -15,7 +15,7 @@ use Rattle.station_journal.specs.declared.Entry.TheVariants.{Tick, Heard}
 use Rattle.station_journal.specs.Past.{clock, speaks_for}
 use Rattle.station_journal.specs.Past.{IsTimed}
 use Rattle.station_book.specs.declared.tracks.Track.{Track}
-use Rattle.station_book.specs.Steps.{with_fields}
+use Rattle.station_book.specs.Steps.{with_frame}
 use Rattle.station_book.specs.Tracks.{blank, updated, find_track, with_sighting}
 use Rattle.station_book.specs.State.{State, applied, starting}
 use Rattle.station_book.specs.Matching.{ClaimFits, Fits, Sound, Tracks, TracksAt, MatchesPast, Matches}
@@ -73,7 +73,7 @@ module _ (n base : ℕ) (past : List Entry) where
         unchanged_by_other base b past seat frame not_own (find_track b tracks) (each b)
 
     -- what is kept of each aircraft after the frame
-    pub after_frame : (b : ℕ) → TracksAt base (Heard seat frame ∷ past) b (find_track b (with_sighting (clock base past) (with_fields (fields_of frame) (Ok claim)) tracks))
+    pub after_frame : (b : ℕ) → TracksAt base (Heard seat frame ∷ past) b (find_track b (with_sighting (clock base past) (with_frame frame (Ok claim)) tracks))
     after_frame b = rw (find_put_as claim.address b (track_after frame claim.address tracks) tracks (address_of_found claim.address (find_track claim.address tracks) (each claim.address))) (by_test b (claim.address == b) refl)
 
   pub matches_frame : (seat : ℕ) (frame : Frame) (claim : Result Claim CheckFault) (book : State) → claim_of frame ≡ claim → ClaimFits n base past claim → MatchesPast n base book past → MatchesPast n base (applied book (Heard seat frame)) (Heard seat frame ∷ past)

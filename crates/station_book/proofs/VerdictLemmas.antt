@@ -4,21 +4,19 @@ use Rattle.std.specs.Prelude.{nat_le, nat_lt, not}
 use Rattle.std.proofs.lemmas.Bool.Decides.{nat_tests}
 use Rattle.modes_frame.specs.declared.claims.Claim.{Claim}
 use Rattle.modes_frame.specs.declared.claims.CheckFault.{CheckFault}
-use Rattle.modes_fields.specs.declared.types.Fields.{Fields}
-use Rattle.modes_fields.specs.Carried.{fields_of}
 use Rattle.modes_frame.specs.Claims.{claim_of}
 use Rattle.station_journal.specs.declared.Entry.{Entry}
 use Rattle.station_journal.specs.declared.Entry.TheVariants.{Tick, Heard}
 use Rattle.station_journal.specs.declared.Limits.{Limits}
 use Rattle.station_journal.specs.declared.Refusal.{Refusal}
 use Rattle.station_journal.specs.declared.Refusal.TheVariants.{Unknown, JournalFull, BookFull, NotLater}
-use Rattle.station_journal.specs.Past.{clock, live, or_older}
+use Rattle.station_journal.specs.Past.{Frame, clock, live, or_older}
 use Rattle.station_journal.specs.Table.{live_addresses}
 use Rattle.station_journal.specs.Verdict.{refuse_if, claim_refusal, tick_refusal, refusal, is_full, Accepts, Legal}
 use Rattle.station_book.specs.declared.tracks.Track.{Track}
 use Rattle.station_book.specs.declared.steps.Step.{Step}
 use Rattle.station_book.specs.declared.steps.Step.TheVariants as step
-use Rattle.station_book.specs.Steps.{with_fields, claim_in, step_of}
+use Rattle.station_book.specs.Steps.{with_frame, claim_in, step_of}
 use Rattle.station_book.specs.Tracks.{find_track}
 use Rattle.station_book.specs.State.{State, book_claim_refusal, book_tick_refusal, book_refusal, step_refusal, claim_fits, fits}
 use Rattle.station_book.specs.Matching.{ClaimFits, Fits, Sound, MatchesPast}
@@ -36,10 +34,10 @@ not_refused : (test : Bool) (r : Refusal) → refuse_if test r ≡ None → test
 not_refused true r e = cc
 not_refused false r e = refl
 
--- fields leave a claim as it is
-claim_kept : (fields : Fields) (claim : Result Claim CheckFault) → claim_in (with_fields fields claim) ≡ claim
-claim_kept fields (Ok claim) = refl
-claim_kept fields (Err fault) = refl
+-- a frame leaves a claim as it is
+claim_kept : (frame : Frame) (claim : Result Claim CheckFault) → claim_in (with_frame frame claim) ≡ claim
+claim_kept frame (Ok claim) = refl
+claim_kept frame (Err fault) = refl
 
 module _ (n base : ℕ) (past : List Entry) (book : State) (m : MatchesPast n base book past) where
   -- the book's refusal of a claim is that of a journal that isn't full
@@ -52,7 +50,7 @@ module _ (n base : ℕ) (past : List Entry) (book : State) (m : MatchesPast n ba
 
   pub same_refusal : (entry : Entry) → book_refusal n book entry ≡ refusal false n base past entry
   same_refusal (Tick seat at) = same_tick_refusal at
-  same_refusal (Heard seat frame) = rw (claim_kept (fields_of frame) (claim_of frame)) (same_claim_refusal (claim_of frame))
+  same_refusal (Heard seat frame) = rw (claim_kept frame (claim_of frame)) (same_claim_refusal (claim_of frame))
 
   pub claim_fits_from : (claim : Result Claim CheckFault) → ClaimFits n base past claim → claim_fits n book claim ≡ true
   claim_fits_from (Err fault) fit = elim fit [ ]
@@ -73,11 +71,11 @@ module _ (n base : ℕ) (past : List Entry) (book : State) (m : MatchesPast n ba
   -- an entry fits the book exactly where it fits the past
   pub fits_from : (entry : Entry) → Fits n base past entry → fits n book (step_of entry) ≡ true
   fits_from (Tick seat at) fit = rw m.moment (grind (arith, nat_tests))
-  fits_from (Heard seat frame) fit = rw (claim_kept (fields_of frame) (claim_of frame)) (claim_fits_from (claim_of frame) fit)
+  fits_from (Heard seat frame) fit = rw (claim_kept frame (claim_of frame)) (claim_fits_from (claim_of frame) fit)
 
   pub fits_back : (entry : Entry) → fits n book (step_of entry) ≡ true → Fits n base past entry
   fits_back (Tick seat at) fit = let fit' : nat_lt (clock base past) at ≡ true = rw m.moment at fit in grind (arith, nat_tests)
-  fits_back (Heard seat frame) fit = claim_fits_back (claim_of frame) (rw (claim_kept (fields_of frame) (claim_of frame)) at fit)
+  fits_back (Heard seat frame) fit = claim_fits_back (claim_of frame) (rw (claim_kept frame (claim_of frame)) at fit)
 
 -- what is accepted fits
 accepted_claim : (full : Bool) (n base : ℕ) (past : List Entry) (claim : Result Claim CheckFault) → claim_refusal full n base past claim ≡ None → ClaimFits n base past claim

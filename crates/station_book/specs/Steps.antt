@@ -1,7 +1,5 @@
 -- Entries as a book takes them: decoded.
 use Rattle.std.specs.Prelude.{Result, Ok, Err, Option, Some, None}
-use Rattle.modes_fields.specs.declared.types.Fields.{Fields}
-use Rattle.modes_fields.specs.Carried.{fields_of}
 use Rattle.modes_frame.specs.declared.claims.Claim.{Claim}
 use Rattle.modes_frame.specs.declared.claims.CheckFault.{CheckFault}
 use Rattle.modes_frame.specs.Claims.{claim_of}
@@ -14,14 +12,14 @@ use Rattle.station_book.specs.declared.steps.Step.TheVariants.{Tick, Heard}
 use Rattle.station_book.specs.declared.steps.Change.{Change}
 use Rattle.station_book.specs.declared.steps.Change.TheVariants.{Clock, Track}
 
--- a good claim with the fields of its frame
-abbrev pub with_fields : Fields → Result Claim CheckFault → Result Sighting CheckFault
-with_fields fields (Ok claim) = Ok (record { claim = claim; fields = fields })
-with_fields fields (Err fault) = Err fault
+-- a good claim with its frame
+abbrev pub with_frame : Frame → Result Claim CheckFault → Result Sighting CheckFault
+with_frame frame (Ok claim) = Ok (record { claim = claim; frame = frame })
+with_frame frame (Err fault) = Err fault
 
--- whom a frame speaks for and what it carries
+-- whom a frame speaks for, with the frame
 abbrev pub sighting_of : Frame → Result Sighting CheckFault
-sighting_of frame = with_fields (fields_of frame) (claim_of frame)
+sighting_of frame = with_frame frame (claim_of frame)
 
 -- the claim of a sighting
 abbrev pub claim_in : Result Sighting CheckFault → Result Claim CheckFault

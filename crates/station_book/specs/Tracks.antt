@@ -3,6 +3,7 @@ use Rattle.std.specs.Prelude.{◌≡◌, ℕ, ◌-◌, ◌<◌, Bool, true, fals
 use Rattle.modes_fields.specs.declared.types.Place.{Place}
 use Rattle.modes_cpr.specs.declared.points.Position.{Position}
 use Rattle.modes_fields.specs.declared.types.Fields.{Fields}
+use Rattle.modes_fields.specs.Carried.{fields_of}
 use Rattle.modes_frame.specs.declared.claims.CheckFault.{CheckFault}
 use Rattle.station_journal.specs.declared.Aircraft.{Aircraft}
 use Rattle.station_journal.specs.Past.{stamp, or_older, fresh, with_parity, pair_with}
@@ -84,7 +85,7 @@ track_or_blank a tracks = unwrap_or (find_track a tracks) (blank a)
 -- the tracks after a frame is heard
 abbrev pub with_sighting : ℕ → Result Sighting CheckFault → List Track → List Track
 with_sighting now (Err fault) tracks = tracks
-with_sighting now (Ok sighting) tracks = put_track (updated now sighting.fields (track_or_blank sighting.claim.address tracks)) tracks
+with_sighting now (Ok sighting) tracks = put_track (updated now (fields_of sighting.frame) (track_or_blank sighting.claim.address tracks)) tracks
 
 -- the address is of a track, or one of at most n is free
 abbrev pub has_place : ℕ → ℕ → List Track → Bool

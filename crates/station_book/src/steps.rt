@@ -5,17 +5,15 @@ ghost use Rattle.station_journal.specs.declared.Entry.{Entry};
 ghost use Rattle.station_book.specs.declared.steps.Step.TheVariants as step;
 ghost use Rattle.station_book.specs.Steps.{step_of, sighting_of, change_of};
 
-use modes_fields::Fields;
-use modes_fields::readers::fields;
 use modes_frame::readers::claim;
 use modes_frame::{CheckFault, Claim, Frame};
 use station_journal::Entry;
 
-/// A frame that speaks for an address: the claim, and what the frame carries.
+/// A frame that speaks for an address, with its claim.
 #[derive(Clone, Copy, Debug, PartialEq, Eq)]
 pub struct Sighting {
     pub claim: Claim,
-    pub fields: Fields,
+    pub frame: Frame,
 }
 
 /// An entry, decoded.
@@ -47,14 +45,14 @@ impl Step {
         }
     }
 
-    /// Decodes the frame. Its fields are read only where it speaks for an address.
+    /// Decodes the frame. Its fields are read where a book takes them.
     pub fn heard(frame: &Frame) -> Step
         ensures { result ≡ step.Heard (sighting_of frame.now) }
     {
         match claim(frame) {
             Ok(claim) => Step::Heard(Ok(Sighting {
                 claim,
-                fields: fields(frame),
+                frame: *frame,
             })),
             Err(fault) => Step::Heard(Err(fault)),
         }

@@ -2,12 +2,13 @@
 
 ghost use Rattle.std.specs.Prelude.{◌≡◌, IsTrue, Ok, ◌<◌, ◌≤◌, ◌==◌, List, [], length, map, slice_get, None, Some};
 ghost use Rattle.station_journal.proofs.RisingLemmas.{IsRising};
+ghost use Rattle.modes_fields.specs.Carried.{fields_of};
 ghost use Rattle.station_book.specs.Tracks.{updated, find_track, put_track, with_track, swept, track_or_blank};
 ghost use Rattle.station_book.specs.Tracks.{address_of, IsRank, IsPlace, HeardFrom};
 
 use crate::tracks::{Track, blank, update};
 use arrayvec::ArrayVec;
-use modes_fields::Fields;
+use modes_frame::Frame;
 use std::marker::Model;
 
 /// How many hints are kept, one for each value of an address' low bits.
@@ -119,20 +120,20 @@ impl<const N: usize> Table<N> {
 
     /// Takes what a frame of the address carries, heard at the moment now. The place is that of the
     /// address.
-    pub fn hear(&mut self, place: Result<usize, usize>, now: u64, address: u32, fields: &Fields)
+    pub fn hear(&mut self, place: Result<usize, usize>, now: u64, address: u32, frame: &Frame)
         requires place { IsPlace self.old address place }
         requires room { find_track address self.old ≡ None → length self.old < N }
-        ensures { self.new ≡ put_track (updated now fields.now (track_or_blank address self.old)) self.old }
+        ensures { self.new ≡ put_track (updated now (fields_of frame.now) (track_or_blank address self.old)) self.old }
     {
         self.oldest = self.oldest.min(now);
         match place {
             Ok(rank) => {
                 self.hints[address as usize % HINTS] = u16::try_from(rank).unwrap_or(0);
-                update(&mut self.tracks[rank], now, fields);
+                update(&mut self.tracks[rank], now, frame);
             }
             Err(rank) => {
                 let mut track = blank(address);
-                update(&mut track, now, fields);
+                update(&mut track, now, frame);
                 self.addresses.insert(rank, address);
                 self.tracks.insert(rank, track);
             }

@@ -1,11 +1,15 @@
 //! What is kept of an aircraft.
 
 ghost use Rattle.std.specs.Prelude.{◌≡◌};
+ghost use Rattle.modes_fields.specs.Carried.{fields_of};
+ghost use Rattle.modes_fields.specs.Kinds.{fields_by};
 ghost use Rattle.station_journal.specs.Past.{stamp, or_older};
 ghost use Rattle.station_book.specs.Tracks.{blank, kept_fix, updated, track_row};
 
 use modes_cpr::Position;
-use modes_fields::{Callsign, Fields, Place, Squawk, Velocity};
+use modes_fields::readers::carried;
+use modes_fields::{Callsign, Carried, Place, Squawk, Velocity};
+use modes_frame::Frame;
 use station_journal::aging::{fresh, or_older, pair_with, stamp, with_parity};
 use station_journal::{Aircraft, Stamped};
 
@@ -69,19 +73,50 @@ fn keep<T: Copy>(kept: &mut Option<Stamped<T>>, at: u64, value: Option<T>)
 }
 
 /// Takes what a frame of the aircraft carries, heard at the moment now.
-pub fn update(track: &mut Track, now: u64, fields: &Fields)
-    ensures { track.new ≡ updated now fields.now track.old }
+pub fn update(track: &mut Track, now: u64, frame: &Frame)
+    ensures { track.new ≡ updated now (fields_of frame.now) track.old }
 {
-    let position = kept_fix(now, track, fields.place);
+    take(track, now, carried(frame));
+}
+
+// Takes what a frame carries, heard at the moment now. Fields that no frame of the kind has stay as they are.
+#[inline(always)]
+fn take(track: &mut Track, now: u64, carried: Carried)
+    ensures { track.new ≡ updated now (fields_by carried) track.old }
+{
     track.heard = now;
-    keep(&mut track.callsign, now, fields.callsign);
-    keep(&mut track.altitude, now, fields.altitude);
-    keep(&mut track.squawk, now, fields.squawk);
-    keep(&mut track.velocity, now, fields.velocity);
-    keep(&mut track.vertical, now, fields.vertical);
-    keep(&mut track.even, now, with_parity(false, fields.place));
-    keep(&mut track.odd, now, with_parity(true, fields.place));
-    keep(&mut track.position, now, position);
+    match carried {
+        Carried::Nothing => {}
+        Carried::Height(altitude) => {
+            keep(&mut track.altitude, now, altitude);
+        }
+        Carried::Code(squawk) => {
+            track.squawk = Some(Stamped {
+                value: squawk,
+                at: now,
+            });
+        }
+        Carried::Name(callsign) => {
+            keep(&mut track.callsign, now, callsign);
+        }
+        Carried::HeightAndSpot(altitude, place) => {
+            let position = kept_fix(now, track, Some(place));
+            keep(&mut track.altitude, now, altitude);
+            keep(&mut track.even, now, with_parity(false, Some(place)));
+            keep(&mut track.odd, now, with_parity(true, Some(place)));
+            keep(&mut track.position, now, position);
+        }
+        Carried::Spot(place) => {
+            let alone = kept_fix(now, track, Some(place));
+            keep(&mut track.even, now, with_parity(false, Some(place)));
+            keep(&mut track.odd, now, with_parity(true, Some(place)));
+            keep(&mut track.position, now, alone);
+        }
+        Carried::Motion(velocity, vertical) => {
+            keep(&mut track.velocity, now, velocity);
+            keep(&mut track.vertical, now, vertical);
+        }
+    }
 }
 
 /// The row that the track shows.
