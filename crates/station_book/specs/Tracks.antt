@@ -34,6 +34,14 @@ abbrev pub kept_fix : ℕ → Track → Option Place → Option Position
 kept_fix now track None = None
 kept_fix now track (Some place) = pair_with place (kept_partner now track place.odd)
 
+-- the track with a place heard at the moment now, and the position that it gives
+abbrev pub with_place : ℕ → Place → Track → Track
+with_place now place track = record track {
+  even = or_older (stamp now (with_parity false (Some place))) track.even;
+  odd = or_older (stamp now (with_parity true (Some place))) track.odd;
+  position = or_older (stamp now (kept_fix now track (Some place))) track.position;
+}
+
 -- the track after a frame with these fields is heard at the moment now
 abbrev pub updated : ℕ → Fields → Track → Track
 updated now fields track = record {

@@ -4,7 +4,7 @@ ghost use Rattle.std.specs.Prelude.{◌≡◌};
 ghost use Rattle.modes_fields.specs.Carried.{fields_of};
 ghost use Rattle.modes_fields.specs.Kinds.{fields_by};
 ghost use Rattle.station_journal.specs.Past.{stamp, or_older};
-ghost use Rattle.station_book.specs.Tracks.{blank, kept_fix, updated, track_row};
+ghost use Rattle.station_book.specs.Tracks.{blank, kept_fix, with_place, updated, track_row};
 
 use modes_cpr::Position;
 use modes_fields::readers::carried;
@@ -72,6 +72,17 @@ fn keep<T: Copy>(kept: &mut Option<Stamped<T>>, at: u64, value: Option<T>)
     }
 }
 
+/// Keeps the place, and the position that it gives with the kept place of the other parity.
+#[inline(always)]
+fn keep_place(track: &mut Track, now: u64, place: Place)
+    ensures { track.new ≡ with_place now place track.old }
+{
+    let position = kept_fix(now, track, Some(place));
+    keep(&mut track.even, now, with_parity(false, Some(place)));
+    keep(&mut track.odd, now, with_parity(true, Some(place)));
+    keep(&mut track.position, now, position);
+}
+
 /// Takes what a frame of the aircraft carries, heard at the moment now.
 pub fn update(track: &mut Track, now: u64, frame: &Frame)
     ensures { track.new ≡ updated now (fields_of frame.now) track.old }
@@ -79,7 +90,7 @@ pub fn update(track: &mut Track, now: u64, frame: &Frame)
     take(track, now, carried(frame));
 }
 
-// Takes what a frame carries, heard at the moment now. Fields that no frame of the kind has stay as they are.
+/// Takes what a frame carries, heard at the moment now. What no frame of the kind carries stays as it was.
 #[inline(always)]
 fn take(track: &mut Track, now: u64, carried: Carried)
     ensures { track.new ≡ updated now (fields_by carried) track.old }
@@ -87,32 +98,15 @@ fn take(track: &mut Track, now: u64, carried: Carried)
     track.heard = now;
     match carried {
         Carried::Nothing => {}
-        Carried::Height(altitude) => {
+        Carried::Altitude(altitude) => keep(&mut track.altitude, now, altitude),
+        Carried::Squawk(squawk) => keep(&mut track.squawk, now, Some(squawk)),
+        Carried::Callsign(callsign) => keep(&mut track.callsign, now, callsign),
+        Carried::AirbornePosition { altitude, place } => {
             keep(&mut track.altitude, now, altitude);
+            keep_place(track, now, place);
         }
-        Carried::Code(squawk) => {
-            track.squawk = Some(Stamped {
-                value: squawk,
-                at: now,
-            });
-        }
-        Carried::Name(callsign) => {
-            keep(&mut track.callsign, now, callsign);
-        }
-        Carried::HeightAndSpot(altitude, place) => {
-            let position = kept_fix(now, track, Some(place));
-            keep(&mut track.altitude, now, altitude);
-            keep(&mut track.even, now, with_parity(false, Some(place)));
-            keep(&mut track.odd, now, with_parity(true, Some(place)));
-            keep(&mut track.position, now, position);
-        }
-        Carried::Spot(place) => {
-            let alone = kept_fix(now, track, Some(place));
-            keep(&mut track.even, now, with_parity(false, Some(place)));
-            keep(&mut track.odd, now, with_parity(true, Some(place)));
-            keep(&mut track.position, now, alone);
-        }
-        Carried::Motion(velocity, vertical) => {
+        Carried::GnssPosition(place) => keep_place(track, now, place),
+        Carried::AirborneVelocity { velocity, vertical } => {
             keep(&mut track.velocity, now, velocity);
             keep(&mut track.vertical, now, vertical);
         }
