@@ -4,9 +4,9 @@ use Rattle.modes_frame.specs.Reading.{line_of}
 use Rattle.modes_frame.specs.declared.line.Line.{Line}
 use Rattle.modes_frame.specs.declared.line.LineFault.{LineFault}
 use Rattle.modes_frame.proofs.RulesLemmas.{reads-short}
-use Rattle.modes_frame.proofs.line.LineReader.read_line.Goals as goal
+use Rattle.modes_frame.proofs.line.LineReader.read_short.Goals as goal
 
 pub returns-clause-rules : goal.returns-clause-rules
 returns-clause-rules c =
     subst (λ (r : Result Line LineFault). Reads c.args.line.now r) (sym (c.read_trimmed.ensures ∙ ap line_of c.trim_blanks.ensures.value))
-    (reads-short c.args.line.now c.if-line-gt-MAX_LINE.false)
+    (reads-short c.args.line.now c.requires)
