@@ -2,7 +2,8 @@
 use Rattle.std.proofs.Common.{◌≡◌, ℕ, zero, ◌^◌, ◌<◌, ◌≤◌, ◌==◌, Bool, true, false, List, length, take, drop, Option, Some, None, if◌then◌else◌, refl, subst, arith}
 use Rattle.std.proofs.Math.Nat.{pow-le-pow_right}
 use Rattle.std.proofs.lemmas.List.{length-take}
-use Rattle.modes_frame.specs.Frames.{df_of, bits_of}
+use Rattle.modes_frame.specs.Frames.{bits_of}
+use Rattle.modes_frame.specs.Claims.{is_squitter_frame}
 use Rattle.modes_fields.specs.Bits.{number, field, me_of}
 use Rattle.modes_fields.specs.Altitudes.{altitude12_of, altitude13_of}
 use Rattle.modes_fields.specs.Identity.{squawk_of}
@@ -66,4 +67,4 @@ unfolding fields_of
 fields_of-IsPlace frame =
     chosen (has_ac frame) (record no_fields { altitude = altitude13_of (field 20 32 (bits_of frame)) }) _ holds_none
     (chosen (has_id frame) (record no_fields { squawk = Some (squawk_of (field 20 32 (bits_of frame))) }) _ holds_none
-    (chosen (df_of frame == 17) (message_fields (me_of frame)) no_fields (message_holds_place (me_of frame)) holds_none))
+    (chosen (is_squitter_frame frame) (message_fields (me_of frame)) no_fields (message_holds_place (me_of frame)) holds_none))

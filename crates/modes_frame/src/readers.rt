@@ -1,6 +1,7 @@
 // Readers named as types.
-ghost use Rattle.std.specs.Prelude.{◌≡◌, ◌^◌, ◌<◌, IfOk};
-ghost use Rattle.modes_frame.specs.Claims.{claim_of, address_field};
+ghost use Rattle.std.specs.Prelude.{◌≡◌, ◌^◌, ◌<◌, ◌==◌, not, IfOk, length};
+ghost use Rattle.std.specs.Bool.{OnTrue};
+ghost use Rattle.modes_frame.specs.Claims.{claim_of, address_field, assigned, control_field, is_squitter_frame};
 
 use crate::claims::{CheckFault, Claim};
 use crate::frame::Frame;
@@ -20,20 +21,49 @@ pub fn claim(frame: &Frame) -> Result<Claim, CheckFault>
             address: remainder,
             overlaid: true,
         }),
-        11 if remainder >= 128 => Err(CheckFault::BadParity(remainder)),
-        17 if remainder != 0 => Err(CheckFault::BadParity(remainder)),
-        11 | 17 => {
-            let address = announced_address(frame);
-            if address == 0 || address == 0xFF_FFFF {
-                Err(CheckFault::Unassigned(address))
-            } else {
-                Ok(Claim {
-                    address,
-                    overlaid: remainder != 0,
-                })
-            }
-        }
-        _ => Err(CheckFault::Unsupported(df)),
+        11 if remainder < 128 => announced(frame, remainder),
+        11 => Err(CheckFault::BadParity(remainder)),
+        _ if !is_squitter(frame) => Err(CheckFault::Unsupported(df)),
+        _ if remainder == 0 => announced(frame, remainder),
+        _ => Err(CheckFault::BadParity(remainder)),
+    }
+}
+
+/// Whether a frame is an extended squitter whose sender's address it announces: DF 17, or DF 18 with control field 0
+/// (bits 6 to 8), from a device that is no transponder (ICAO Annex 10 Volume IV, 3.1.2.8.6 and 3.1.2.8.7). Such a frame
+/// has 14 bytes.
+#[inline(always)]
+pub fn is_squitter(frame: &Frame) -> bool
+    ensures value { result ≡ is_squitter_frame frame.now }
+    ensures long { OnTrue result (length frame.now ≡ 14) }
+{
+    match frame.df() {
+        17 => true,
+        18 => control(frame) == 0,
+        _ => false,
+    }
+}
+
+/// The number in bits 6 to 8.
+fn control(frame: &Frame) -> u8
+    ensures { result ≡ control_field frame.now }
+{
+    frame.bytes()[0] % 8
+}
+
+/// The claim of the address that is announced.
+fn announced(frame: &Frame, remainder: u32) -> Result<Claim, CheckFault>
+    ensures value { result ≡ assigned (address_field frame.now) (not (remainder == 0)) }
+    ensures below { IfOk result (λ claim. claim.address < 2 ^ 24) }
+{
+    let address = announced_address(frame);
+    if address == 0 || address == 0xFF_FFFF {
+        Err(CheckFault::Unassigned(address))
+    } else {
+        Ok(Claim {
+            address,
+            overlaid: remainder != 0,
+        })
     }
 }
 

@@ -252,6 +252,17 @@ fn claims_of_extended_squitters(rt: HostRuntime) -> Result<(), Fail> {
 }
 
 #[test]
+fn claims_of_devices_that_are_no_transponders(rt: HostRuntime) -> Result<(), Fail> {
+    let device = frame(b"*904840D6202CC371C32CE02A6C6D;")?;
+    assert_eq!(rt; claim(&device), plain(0x48_40D6));
+    let flipped = frame(b"*904840D6202CC371C32CE02A6C6C;")?;
+    assert_eq!(rt; claim(&flipped), Err(CheckFault::BadParity(1)));
+    let rebroadcast = frame(b"*914840D6202CC371C32CE0000000;")?;
+    assert_eq!(rt; claim(&rebroadcast), Err(CheckFault::Unsupported(18)));
+    Ok(())
+}
+
+#[test]
 fn claims_of_all_call_replies(rt: HostRuntime) -> Result<(), Fail> {
     assert_eq!(rt; claim(&frame(b"*5D484FDEA248E3;")?), plain(0x48_4FDE));
     assert_eq!(rt; claim(&frame(b"*5D484FDEA2489C;")?), overlaid(0x48_4FDE));
