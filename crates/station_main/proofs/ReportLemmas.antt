@@ -1,30 +1,52 @@
 -- Rounds of the reporter, one more at the end.
-use Rattle.std.proofs.Common.{rules, ◌≡◌, ◌∙◌, ◌⊎◌, inl, inr, ℕ, ◌≤◌, Bool, true, false, List, [], ◌∷◌, ◌++◌, Option, Some, None, Result, Ok, Err, IsOk, is_ok, IfSome, refl, sym, ap, subst, append_assoc, append-nil, arith}
-use Rattle.std.specs.Prelude.{is_err, IfOk, IfErr}
+use Rattle.std.proofs.Common.{rules, ◌≡◌, ◌∙◌, ◌⊎◌, inl, inr, ℕ, ◌≤◌, ◌<◌, Bool, true, false, List, [], ◌∷◌, ◌++◌, Option, Some, None, Result, Ok, Err, IsOk, is_ok, IfSome, refl, sym, ap, subst, append_assoc, append-nil, cond, map}
+use Rattle.std.proofs.lemmas.Bool.{lt-ltb, le-ltb}
+use Rattle.std.specs.Prelude.{is_err, IfOk, IfErr, nat_lt}
 use Rattle.std.specs.Io.KnownBytes.{Appends, Keeps}
 use Rattle.std.proofs.KnownBytes.{Appends-nil, Appends-trans, Appends-kept}
 use Rattle.station_journal.specs.declared.Limits.{Limits}
 use Rattle.station_journal.specs.declared.Entry.TheVariants.{Tick}
 use Rattle.station_journal.specs.declared.Refusal.{Refusal}
-use Rattle.station_report.specs.Sink.{AppendsFront, TakesAll, counted}
+use Rattle.station_report.specs.Sink.{TakesAll, counted}
 use Rattle.station_report.specs.declared.sinks.WriteFault.{WriteFault}
 use Rattle.station_shared.specs.Seats.{Seated, Accepted, Refused, Looks}
 use Rattle.station_shared.specs.History.{Known}
-use Rattle.station_main.specs.Report.{Printed, Prints, PassesOver, PrintsAtMost, Round, IsRound, Rounds, Ticks, TakesTexts, FailsAtLast, seat_after, next_due, looks_of, shown, texts, text_of, failures_after}
+use Rattle.station_main.specs.Output.{Printed}
+use Rattle.station_main.specs.Reporter.{IsRound, Reports, Round, Rounds, Ticks, due_moments, looks_of, next_moment, seat_after}
+use Rattle.station_main.specs.Tables.{Prints, PassesOver, PrintsAtMost, TakesTexts, shown, texts, failures_after}
 
--- when the next round is due
-abbrev pub due_after : ℕ → ℕ → List Round → ℕ
+-- ---- moments
+
+-- when the next table is due, after these moments
+abbrev pub due_after : (every due : ℕ) → List ℕ → ℕ
 due_after every due [] = due
-due_after every due (round ∷ rounds) = due_after every (next_due every round.at) rounds
+due_after every due (now ∷ moments) = cond (nat_lt now due) (due_after every due moments) (due_after every (next_moment every now) moments)
 
-due_snoc : (every due : ℕ) (rounds : List Round) (round : Round) → due_after every due (rounds ++ round ∷ []) ≡ next_due every round.at
-due_snoc every due [] round = refl
-due_snoc every due (r ∷ rs) round = due_snoc every (next_due every r.at) rs round
+due_moments-append : (every due : ℕ) (moments more : List ℕ) → due_moments every due (moments ++ more) ≡ due_moments every due moments ++ due_moments every (due_after every due moments) more
+due_moments-append every due [] more = refl
+due_moments-append every due (now ∷ moments) more =
+    elim (nat_lt now due) as (λ early. cond early (due_moments every due (moments ++ more)) (now ∷ due_moments every (next_moment every now) (moments ++ more))
+    ≡ cond early (due_moments every due moments) (now ∷ due_moments every (next_moment every now) moments)
+    ++ due_moments every (cond early (due_after every due moments) (due_after every (next_moment every now) moments)) more)
+    [ true ↦ due_moments-append every due moments more | false ↦ ap (λ ms. now ∷ ms) (due_moments-append every (next_moment every now) moments more) ]
 
-Rounds_snoc : (limits : Limits) (every due : ℕ) (old mid : Seated) (rounds : List Round) (round : Round) → Rounds limits every due old rounds mid
-    → IsRound limits (due_after every due rounds) mid round → Rounds limits every due old (rounds ++ round ∷ []) (seat_after round)
-Rounds_snoc limits every due old mid [] round walk is = (subst (λ s. IsRound limits due s round) walk is, refl)
-Rounds_snoc limits every due old mid (r ∷ rs) round walk is = (walk.0, Rounds_snoc limits every (next_due every r.at) (seat_after r) mid rs round walk.1 is)
+due_after-append : (every due : ℕ) (moments more : List ℕ) → due_after every due (moments ++ more) ≡ due_after every (due_after every due moments) more
+due_after-append every due [] more = refl
+due_after-append every due (now ∷ moments) more =
+    elim (nat_lt now due) as (λ early. cond early (due_after every due (moments ++ more)) (due_after every (next_moment every now) (moments ++ more))
+    ≡ due_after every (cond early (due_after every due moments) (due_after every (next_moment every now) moments)) more)
+    [ true ↦ due_after-append every due moments more | false ↦ due_after-append every (next_moment every now) moments more ]
+
+-- ---- rounds
+
+Rounds_snoc : (limits : Limits) (old mid : Seated) (rounds : List Round) (round : Round) → Rounds limits old rounds mid → IsRound limits mid round
+    → Rounds limits old (rounds ++ round ∷ []) (seat_after round)
+Rounds_snoc limits old mid [] round walk is = (subst (λ s. IsRound limits s round) walk is, refl)
+Rounds_snoc limits old mid (r ∷ rs) round walk is = (walk.0, Rounds_snoc limits (seat_after r) mid rs round walk.1 is)
+
+moments_snoc : (rounds : List Round) (round : Round) → map (λ (r : Round). r.at) (rounds ++ round ∷ []) ≡ map (λ (r : Round). r.at) rounds ++ round.at ∷ []
+moments_snoc [] round = refl
+moments_snoc (r ∷ rs) round = ap (λ (ms : List ℕ). r.at ∷ ms) (moments_snoc rs round)
 
 looks_snoc : (rounds : List Round) (round : Round) → looks_of (rounds ++ round ∷ []) ≡ looks_of rounds ++ round.look ∷ []
 looks_snoc [] round = refl
@@ -83,16 +105,38 @@ pub printed_at_most : (limits : Limits) (looks : List (Option Seated)) (old new 
 printed_at_most limits looks old new start before after result so_far same (inl prints) = printed limits looks old new start before after result so_far same prints
 printed_at_most limits looks old new start before after result so_far same (inr passes) = passed limits looks old new start before after result so_far same passes
 
--- the rounds so far
-pub record ReportsTo (limits : Limits) (every moment : ℕ) (old new : Seated) (before after : Printed) (has_failed : Bool) : Type 0 where
-  pub rounds : List Round
-  pub walk : Rounds limits every every old rounds new
-  pub due : moment ≡ due_after every every rounds
-  pub takes : TakesTexts limits (looks_of rounds) before.taken after.taken has_failed
-  pub failures : after.failures ≡ failures_after has_failed before.failures
+-- the rounds so far, by the moments that a clock gave since it had given the first ones; a table is due at a moment
+pub record ReportsTo (limits : Limits) (every moment : ℕ) (given given_now : Option (List ℕ)) (old new : Seated) (before after : Printed) (has_failed : Bool) : Type 0 where
+  pub moments : List ℕ
+  pub are_given : Appends given given_now moments
+  pub due : moment ≡ due_after every every moments
+  pub reports : Reports limits every moments old new before after has_failed
 
-pub no_round : (limits : Limits) (every : ℕ) (seat : Seated) (sink : Printed) → ReportsTo limits every every seat seat sink sink false
-no_round limits every seat sink = record { rounds = []; walk = refl; due = refl; takes = Appends-nil sink.taken; failures = refl }
+pub no_moment : (limits : Limits) (every : ℕ) (seat : Seated) (sink : Printed) → Reports limits every [] seat seat sink sink false
+no_moment limits every seat sink = record { rounds = []; keeps = record { due = refl; walk = refl }; takes = Appends-nil sink.taken; failures = refl }
+
+-- nothing is done at a moment at which no table is due
+pub one_more_sleep : (limits : Limits) (every moment now : ℕ) (given given_before given_now : Option (List ℕ)) (old new : Seated) (before after : Printed) (has_failed : Bool)
+    → ReportsTo limits every moment given given_before old new before after has_failed → Appends given_before given_now (now ∷ []) → now < moment
+    → ReportsTo limits every moment given given_now old new before after has_failed
+one_more_sleep limits every moment now given given_before given_now old new before after has_failed so_far gives early =
+    let is_early : nat_lt now (due_after every every so_far.moments) ≡ true = subst (λ m. nat_lt now m ≡ true) so_far.due (lt-ltb now moment early) in
+    record {
+      moments = so_far.moments ++ now ∷ [];
+      are_given = Appends-trans given given_before given_now _ _ so_far.are_given gives;
+      due = so_far.due ∙ sym (due_after-append every every so_far.moments (now ∷ []) ∙ ap (λ b. cond b (due_after every every so_far.moments) (next_moment every now)) is_early);
+      reports = record {
+        rounds = so_far.reports.rounds;
+        keeps = record {
+          due = so_far.reports.keeps.due ∙ sym (due_moments-append every every so_far.moments (now ∷ [])
+              ∙ ap (λ b. due_moments every every so_far.moments ++ cond b [] (now ∷ [])) is_early
+              ∙ append-nil (due_moments every every so_far.moments));
+          walk = so_far.reports.keeps.walk;
+        };
+        takes = so_far.reports.takes;
+        failures = so_far.reports.failures;
+      };
+    }
 
 end_of : (limits : Limits) (ticked new : Seated) (at : ℕ) (look : Option Seated) → (look ≡ None) × (new ≡ ticked) ⊎ (look ≡ Some new) × Looks limits ticked new
     → seat_after (record { at = at; ticked = ticked; look = look }) ≡ new
@@ -122,17 +166,28 @@ pub ticks_of : {N : Type 0} (limits : Limits) (old new : Seated) (at : ℕ) (nam
 ticks_of limits old new at name n (Ok receipt) accepted refused = inl (receipt, accepted.1)
 ticks_of limits old new at name n (Err refusal) accepted refused = inr (refusal, refused)
 
-pub one_more_round : (limits : Limits) (every moment at : ℕ) (old mid ticked new : Seated) (start before after : Printed) (result : Result (Unit {0}) WriteFault)
-    → ReportsTo limits every moment old mid start before false → moment ≤ at → Ticks limits mid at ticked → PrintsAtMost limits ticked new before after result
-    → ReportsTo limits every (next_due every at) old new start after (is_err result)
-one_more_round limits every moment at old mid ticked new start before after result so_far late ticks prints =
-    let p = printed_at_most limits (looks_of so_far.rounds) ticked new start before after result so_far.takes so_far.failures prints in
-    let round : Round = record { at = at; ticked = ticked; look = p.look } in
-    let is : IsRound limits (due_after every every so_far.rounds) mid round = record { due = subst (λ m. m ≤ at) so_far.due late; ticks = ticks; looks = looked_is limits ticked new p.look p.looked } in
+pub one_more_round : (limits : Limits) (every moment now : ℕ) (given given_before given_now : Option (List ℕ)) (old mid ticked new : Seated) (start before after : Printed) (result : Result (Unit {0}) WriteFault)
+    → ReportsTo limits every moment given given_before old mid start before false → Appends given_before given_now (now ∷ []) → moment ≤ now
+    → Ticks limits mid now ticked → PrintsAtMost limits ticked new before after result
+    → ReportsTo limits every (next_moment every now) given given_now old new start after (is_err result)
+one_more_round limits every moment now given given_before given_now old mid ticked new start before after result so_far gives late ticks prints =
+    let is_late : nat_lt now (due_after every every so_far.moments) ≡ false = subst (λ m. nat_lt now m ≡ false) so_far.due (le-ltb now moment late) in
+    let p = printed_at_most limits (looks_of so_far.reports.rounds) ticked new start before after result so_far.reports.takes so_far.reports.failures prints in
+    let round : Round = record { at = now; ticked = ticked; look = p.look } in
+    let is : IsRound limits mid round = record { ticks = ticks; looks = looked_is limits ticked new p.look p.looked } in
     record {
-      rounds = so_far.rounds ++ round ∷ [];
-      walk = subst (Rounds limits every every old (so_far.rounds ++ round ∷ [])) (end_of limits ticked new at p.look p.looked) (Rounds_snoc limits every every old mid so_far.rounds round so_far.walk is);
-      due = sym (due_snoc every every so_far.rounds round);
-      takes = subst (λ ls. TakesTexts limits ls start.taken after.taken (is_err result)) (sym (looks_snoc so_far.rounds round)) p.takes;
-      failures = p.failures;
+      moments = so_far.moments ++ now ∷ [];
+      are_given = Appends-trans given given_before given_now _ _ so_far.are_given gives;
+      due = sym (due_after-append every every so_far.moments (now ∷ []) ∙ ap (λ b. cond b (due_after every every so_far.moments) (next_moment every now)) is_late);
+      reports = record {
+        rounds = so_far.reports.rounds ++ round ∷ [];
+        keeps = record {
+          due = moments_snoc so_far.reports.rounds round ∙ ap (λ ms. ms ++ now ∷ []) so_far.reports.keeps.due
+              ∙ sym (due_moments-append every every so_far.moments (now ∷ []) ∙ ap (λ b. due_moments every every so_far.moments ++ cond b [] (now ∷ [])) is_late);
+          walk = subst (Rounds limits old (so_far.reports.rounds ++ round ∷ [])) (end_of limits ticked new now p.look p.looked)
+              (Rounds_snoc limits old mid so_far.reports.rounds round so_far.reports.keeps.walk is);
+        };
+        takes = subst (λ ls. TakesTexts limits ls start.taken after.taken (is_err result)) (sym (looks_snoc so_far.reports.rounds round)) p.takes;
+        failures = p.failures;
+      };
     }

@@ -1,16 +1,18 @@
 -- What the job `run` leaves.
-use Rattle.std.proofs.Common.{rules, ◌≡◌, ◌∙◌, ◌⊎◌, inl, inr, ℕ, ◌+◌, Bool, true, false, List, [], ◌∷◌, ◌++◌, Option, Some, None, Result, Ok, Err, is_some, zero, suc, length-append, refl, sym, ap, subst, append-nil, take, drop, length, arith}
-use Rattle.std.specs.Prelude.{All, is_err, fold, map, max, get_or, slice_index_or}
-use Rattle.std.specs.Io.KnownBytes.{Appends, Keeps, append_known}
-use Rattle.std.proofs.KnownBytes.{Appends-kept, Keeps-trans, Keeps-refl}
+use Rattle.std.proofs.Common.{rules, ◌≡◌, ◌∙◌, ◌⊎◌, inl, inr, ℕ, ◌+◌, Bool, true, false, List, [], ◌∷◌, ◌++◌, Option, Some, None, Result, Ok, Err, zero, suc, length-append, refl, sym, ap, subst, append-nil, take, drop, length, arith}
+use Rattle.std.specs.Prelude.{is_err, fold, map, max}
+use Rattle.std.specs.Io.KnownBytes.{Keeps, append_known}
 use Rattle.std.proofs.Math.Seq.{take-append_seam}
 use Rattle.std.proofs.lemmas.List.Folds.{fold-map}
 use Rattle.station_journal.specs.declared.Limits.{Limits}
 use Rattle.station_report.specs.declared.sinks.WriteFault.{WriteFault}
 use Rattle.station_shared.specs.Seats.{Seated, Looks, newcomer, newcomers}
 use Rattle.station_main.specs.Status.{answer_status, fault_status}
-use Rattle.station_main.specs.Report.{Printed, PrintsAtMost, Reports, Rounds, TakesTexts, GivesBack, PrintsLast, LastLook, Leaves, looks_of}
-use Rattle.station_main.proofs.ReportLemmas.{PrintsOne, printed_at_most}
+use Rattle.station_main.specs.Output.{Printed}
+use Rattle.station_main.specs.Reporter.{ReportsByAClock, looks_of}
+use Rattle.station_main.specs.Run.{LastLook, Leaves, PrintsLast}
+use Rattle.station_main.specs.Tables.{TakesTexts}
+use Rattle.station_main.proofs.ReportLemmas.{printed_at_most}
 
 -- a vector that was lent as a slice
 pub whole_list : {W : Type 0} (len : ℕ) (ws old : List W) → length ws ≡ length old → len ≡ length old → take len (ws ++ drop (length ws) old) ≡ ws
@@ -31,28 +33,30 @@ one_look limits mid new (Some l) (inl p) = absurd (search rules)
 one_look limits mid new (Some l) (inr p) = let same : new ≡ l = cc in (Some l, refl, subst (λ s. Looks limits mid s) same p.1)
 
 pub leaves : (limits : Limits) (every : ℕ) (first mid : Seated) (start before : Printed) (after : Option (List ℕ)) (failed_before has_failed : Bool)
-    → Reports limits every first mid start before failed_before → PrintsLast limits mid before failed_before after has_failed → Leaves limits every start.taken after has_failed
+    → ReportsByAClock limits every first mid start before failed_before → PrintsLast limits mid before failed_before after has_failed → Leaves limits every start.taken after has_failed
 leaves limits every first mid start before after true has_failed reports prints = record {
   first = first;
   mid = mid;
-  rounds = reports.rounds;
-  walk = reports.walk;
+  moments = reports.0;
+  rounds = reports.1.rounds;
+  keeps = reports.1.keeps;
   failed_before = true;
   last = [];
   looks = refl;
   between = before.taken;
   write_failed = true;
-  takes = subst (λ ls. TakesTexts limits ls start.taken before.taken true) (sym (append-nil (looks_of reports.rounds))) reports.takes;
+  takes = subst (λ ls. TakesTexts limits ls start.taken before.taken true) (sym (append-nil (looks_of reports.1.rounds))) reports.1.takes;
   gives = prints.0;
   told = λ _. prints.1;
 }
 leaves limits every first mid start before after false has_failed reports prints =
-    let p = printed_at_most limits (looks_of reports.rounds) mid prints.new start before prints.sink prints.result reports.takes reports.failures prints.prints in
+    let p = printed_at_most limits (looks_of reports.1.rounds) mid prints.new start before prints.sink prints.result reports.1.takes reports.1.failures prints.prints in
     record {
       first = first;
       mid = mid;
-      rounds = reports.rounds;
-      walk = reports.walk;
+      moments = reports.0;
+      rounds = reports.1.rounds;
+      keeps = reports.1.keeps;
       failed_before = false;
       last = p.look ∷ [];
       looks = one_look limits mid prints.new p.look p.looked;

@@ -8,6 +8,7 @@ mod program;
 mod replay_job;
 mod reporter;
 mod run_job;
+mod schedule;
 #[cfg(test)]
 mod tests;
 mod words;

@@ -1,7 +1,7 @@
 // The output of a job, out of its buffer.
 ghost use Rattle.std.specs.Prelude.{◌≡◌, None, true};
 ghost use Rattle.std.specs.Io.Buffered.{writer_contents};
-ghost use Rattle.station_main.specs.Report.{GivesBack};
+ghost use Rattle.station_main.specs.Output.{GivesBack};
 
 use crate::faults::{Fault, tell};
 use std::io::{BufWriter, Write};

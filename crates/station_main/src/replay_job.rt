@@ -1,7 +1,9 @@
 // The job `replay`.
 ghost use Rattle.std.specs.Prelude.{◌≡◌, ◌≤◌, IfSome, None, max};
 ghost use Rattle.std.specs.Io.Buffered.{writer_contents};
-ghost use Rattle.station_main.specs.Report.{EndsReplay, GivesBack};
+ghost use Rattle.station_main.specs.Limits.{program_limits};
+ghost use Rattle.station_main.specs.Output.{GivesBack};
+ghost use Rattle.station_main.specs.Replay.{EndsReplay};
 ghost use Rattle.station_main.specs.Status.{fault_status, status_of};
 
 use crate::faults::{Fault, tell, write_tally};
@@ -24,7 +26,7 @@ pub fn replay_input<R: Wait, I: Read + Drop, O: Write + Drop, E: Write>(
 ) -> Ran<O>
     ensures most { result.status ≤ 1 }
     ensures gone { result.out ≡ None → result.status ≡ 1 }
-    ensures ended { IfSome result.out (λ left. EndsReplay (record { entries = 16777216; aircraft = 512 })
+    ensures ended { IfSome result.out (λ left. EndsReplay program_limits
         (I.remaining input) (O.Write.contents out) (O.Write.contents left) result.status) }
 {
     let (Ok(input), Ok(output)) = (BufReader::new(alloc, input), BufWriter::new(alloc, out)) else {

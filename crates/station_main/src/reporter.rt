@@ -1,9 +1,12 @@
 // The reporter: the table of its own seat's looks, now and then.
-ghost use Rattle.std.specs.Prelude.{◌≡◌, ◌<◌, ◌≤◌, is_ok};
-ghost use Rattle.std.specs.Io.KnownBytes.{Keeps};
-ghost use Rattle.station_main.specs.Report.{PrintsAtMost, Reports, sink_of, text_of};
+ghost use Rattle.std.specs.Prelude.{◌≡◌, ℕ, List, is_ok};
+ghost use Rattle.std.specs.Io.KnownBytes.{Appends, Keeps};
+ghost use Rattle.station_main.specs.Output.{sink_of};
+ghost use Rattle.station_main.specs.Reporter.{Reports, ReportsByAClock};
+ghost use Rattle.station_main.specs.Tables.{PrintsAtMost, text_of};
 ghost use Rattle.station_report.specs.Sink.{TakesAll, counted};
 
+use crate::schedule::{Act, Moments, Since, act_at};
 use station_report::{Sink, WriteFault, table};
 use station_shared::{Look, Seat, Station, Total};
 use std::snapshot::Snapshot;
@@ -11,10 +14,7 @@ use std::sync::Wait;
 use std::sync::atomic::{AtomicBool, Ordering};
 use std::thread;
 use std::thread::Promise;
-use std::time::{Clock, Duration, Instant};
-
-// The longest sleep, in milliseconds.
-const LONGEST_SLEEP: u64 = 50;
+use std::time::{Clock, Instant};
 
 /// What a reporter hands back.
 #[derive(Drop)]
@@ -34,9 +34,10 @@ pub struct Given<S, O> {
 }
 
 impl<const N: usize, L: Total, S: Sink> Promise<Reported<Seat<N, L>, S>> for Given<Seat<N, L>, S> {
-    ghost use Rattle.station_main.specs.Report.{Reports, sink_of};
+    ghost use Rattle.station_main.specs.Output.{sink_of};
+    ghost use Rattle.station_main.specs.Reporter.{ReportsByAClock};
 
-    ghost kept_by = { λ given reported. Reports L.limits given.every given.seat.value reported.seat
+    ghost kept_by = { λ given reported. ReportsByAClock L.limits given.every given.seat.value reported.seat
         (sink_of S.taken S.failures given.out.value) (sink_of S.taken S.failures reported.out) reported.has_failed };
 }
 
@@ -48,30 +49,53 @@ pub fn report<const N: usize, L: Total, R: Wait + Clock, S: Sink>(
     station: &Station<N, L>,
     have_ended: &AtomicBool,
     every: u32,
+    seat: Seat<N, L>,
+    out: S,
+) -> Reported<Seat<N, L>, S>
+    ensures { ReportsByAClock L.limits every seat result.seat (sink_of S.taken S.failures out)
+        (sink_of S.taken S.failures result.out) result.has_failed }
+{
+    match Instant::now(rt) {
+        Ok(start) => {
+            let mut moments = Since { rt, start };
+            report_at(rt, station, have_ended, every, seat, out, &mut moments)
+        }
+        Err(_) => Reported {
+            seat,
+            out,
+            has_failed: false,
+        },
+    }
+}
+
+// The same at the moments of any clock: a table at each of them that is due, and at no other.
+fn report_at<const N: usize, L: Total, R: Wait + Clock, S: Sink, M: Moments>(
+    rt: &R,
+    station: &Station<N, L>,
+    have_ended: &AtomicBool,
+    every: u32,
     mut seat: Seat<N, L>,
     mut out: S,
+    moments: &mut M,
 ) -> Reported<Seat<N, L>, S>
-    ensures { Reports L.limits every seat result.seat (sink_of S.taken S.failures out)
+    ensures { (given : List ℕ) × Appends (M.given moments.old) (M.given moments.new) given
+        × Reports L.limits every given seat result.seat (sink_of S.taken S.failures out)
         (sink_of S.taken S.failures result.out) result.has_failed }
 {
     let mut has_failed = false;
-    if let Ok(start) = Instant::now(rt) {
-        let pause = u64::from(every);
-        let mut due = pause;
-        for _ in rt.forever() {
-            if has_failed || have_ended.load(Ordering::SeqCst) {
-                break;
-            }
-            let now = milliseconds_since(rt, &start);
-            if now < due {
-                let step = (due - now).min(LONGEST_SLEEP);
-                thread::sleep(rt, Duration::from_millis(step));
-            } else {
-                let _ = station.tick(rt, &mut seat, now);
+    let mut due = u64::from(every);
+    for _ in rt.forever() {
+        if has_failed || have_ended.load(Ordering::SeqCst) {
+            break;
+        }
+        match act_at(moments.now(), due, every) {
+            Act::Sleep(pause) => thread::sleep(rt, pause),
+            Act::Print { at, next_due } => {
+                let _ = station.tick(rt, &mut seat, at);
                 let (shown, written) = print_table(seat, &mut out);
                 seat = shown;
                 has_failed = written.is_err();
-                due = now.saturating_add(pause);
+                due = next_due;
             }
         }
     }
@@ -121,13 +145,5 @@ fn flush<S: Sink>(out: &mut S) -> Result<(), WriteFault>
     match out.flush() {
         Ok(()) => Ok(()),
         Err(_) => Err(WriteFault),
-    }
-}
-
-// A clock that can't be read counts as one that stands at the start.
-fn milliseconds_since<R: Clock>(rt: &R, start: &Instant) -> u64 {
-    match start.elapsed(rt) {
-        Ok(passed) => u64::try_from(passed.as_millis()).unwrap_or(u64::MAX),
-        Err(_) => 0,
     }
 }

@@ -1,6 +1,9 @@
 // The job `run`.
 ghost use Rattle.std.specs.Prelude.{◌≡◌, ◌+◌, ◌≤◌, All, Bool, IfOk, IfSome, None, Some, fold, is_some, length, max, true};
-ghost use Rattle.station_main.specs.Report.{Ends, HaveWorked, PrintsLast, Reports, buffered_of, sink_of};
+ghost use Rattle.station_main.specs.Limits.{program_limits};
+ghost use Rattle.station_main.specs.Output.{buffered_of, sink_of};
+ghost use Rattle.station_main.specs.Reporter.{ReportsByAClock};
+ghost use Rattle.station_main.specs.Run.{Ends, HaveWorked, PrintsLast};
 ghost use Rattle.station_main.specs.Status.{answer_status, fault_status, status_of};
 
 use crate::faults::{Fault, tell, write_tally};
@@ -55,7 +58,7 @@ pub fn run_paths<
     requires { length paths.now.items ≤ 8 }
     ensures most { result.status ≤ 1 }
     ensures gone { result.out ≡ None → result.status ≡ 1 }
-    ensures ended { IfSome result.out (λ left. Ends (record { entries = 16777216; aircraft = 512 }) every
+    ensures ended { IfSome result.out (λ left. Ends program_limits every
         (length paths.now.items) (O.contents out) (O.contents left) result.status) }
 {
     let inputs = match open_all(rt, alloc, paths) {
@@ -129,7 +132,7 @@ fn run_station<
     requires ledger { (blank.name ≡ L.name) × (blank.parts ≡ L.parts) }
     requires seats { (L.parts ≡ plan.seats) × (L.seats ≡ plan.seats) × (places.places ≡ plan.seats) }
     requires history { places.history ≡ L.history }
-    requires limits { L.limits ≡ record { entries = 16777216; aircraft = 512 } }
+    requires limits { L.limits ≡ program_limits }
     ensures most { result.status ≤ 1 }
     ensures gone { result.out ≡ None → result.status ≡ 1 }
     ensures ended { IfSome result.out (λ out. Ends L.limits plan.every (length plan.inputs.items)
@@ -213,7 +216,7 @@ fn run_threads<L: Total + Send + Sync, R: Threads + Wait + Clock + Sync, S: Sink
     ensures answered { IfSome result (λ ended. All (λ r. is_some r.answer ≡ true) ended.0.items) }
     ensures receivers { IfSome result (λ ended. HaveWorked L.limits (λ r. r.seat) (λ r. r.source) (λ r. r.answer)
         receivers.items ended.0.items) }
-    ensures reporter { IfSome result (λ ended. Reports L.limits every seat ended.1.seat
+    ensures reporter { IfSome result (λ ended. ReportsByAClock L.limits every seat ended.1.seat
         (sink_of S.taken S.failures out) (sink_of S.taken S.failures ended.1.out) ended.1.has_failed) }
 {
     let have_ended = AtomicBool::new(false);
@@ -225,7 +228,7 @@ fn run_threads<L: Total + Send + Sync, R: Threads + Wait + Clock + Sync, S: Sink
             ensures answered { IfSome result (λ ended. All (λ r. is_some r.answer ≡ true) ended.0.items) }
             ensures receivers { IfSome result (λ ended. HaveWorked L.limits (λ r. r.seat) (λ r. r.source) (λ r. r.answer)
                 receivers.items ended.0.items) }
-            ensures reporter { IfSome result (λ ended. Reports L.limits every seat ended.1.seat
+            ensures reporter { IfSome result (λ ended. ReportsByAClock L.limits every seat ended.1.seat
                 (sink_of S.taken S.failures out) (sink_of S.taken S.failures ended.1.out) ended.1.has_failed) }
         {
             let given = Given {

@@ -1,5 +1,4 @@
-use Rattle.std.proofs.Common.{rules}
-use Rattle.station_main.specs.Report.{buffered_of}
+use Rattle.station_main.specs.Output.{buffered_of}
 use Rattle.station_main.proofs.RunJobLemmas.{well_told}
 use Rattle.station_main.proofs.run_job.print_last.Goals as goal
 

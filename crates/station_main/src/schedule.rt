@@ -1,0 +1,74 @@
+// When the reporter acts. Moments are milliseconds since its start.
+ghost use Rattle.std.specs.Prelude.{◌≡◌, ◌-◌, ◌^◌, ◌/◌, ℕ, List, [], ◌∷◌, Option, None, min};
+ghost use Rattle.std.specs.Duration.{as_nanos};
+ghost use Rattle.std.specs.Io.KnownBytes.{Appends};
+ghost use Rattle.station_main.specs.Reporter.{IsActAt};
+
+use std::time::{Clock, Duration, Instant};
+
+// The longest sleep, in milliseconds.
+const LONGEST_SLEEP: u64 = 50;
+
+/// What the reporter does at a moment.
+#[derive(Clone, Copy, Debug, PartialEq, Eq)]
+pub enum Act {
+    /// Sleep, since no table is due yet.
+    Sleep(Duration),
+    /// Tick and print the table.
+    Print {
+        /// The moment of the tick.
+        at: u64,
+        /// When the next table is due.
+        next_due: u64,
+    },
+}
+
+/// What the reporter does now. Before a table is due it sleeps up to then, 50 ms at most. From then on it prints one
+/// at this moment, and the next is due `every` milliseconds later, up to 2^64 - 1.
+pub fn act_at(now: u64, due: u64, every: u32) -> Act
+    ensures { IsActAt every due now result }
+{
+    if now < due {
+        return Act::Sleep(Duration::from_millis((due - now).min(LONGEST_SLEEP)));
+    }
+    Act::Print {
+        at: now,
+        next_due: now.saturating_add(u64::from(every)),
+    }
+}
+
+/// A clock that gives moments.
+pub trait Moments {
+    /// The moments given so far, where they are known.
+    ghost given: { Self → Option (List ℕ) };
+
+    /// The moment now.
+    fn now(&mut self) -> u64
+        ensures { Appends (given self.old) (given self.new) (result ∷ []) };
+}
+
+/// The moments since a start.
+#[derive(Drop)]
+pub struct Since<'a, R> {
+    pub rt: &'a R,
+    pub start: Instant,
+}
+
+impl<R: Clock> Moments for Since<'_, R> {
+    ghost given = { λ _. None };
+
+    // A clock that can't be read counts as one that stands at the start.
+    fn now(&mut self) -> u64 {
+        match self.start.elapsed(self.rt) {
+            Ok(passed) => milliseconds(passed),
+            Err(_) => 0,
+        }
+    }
+}
+
+// Whole milliseconds, up to 2^64 - 1.
+fn milliseconds(passed: Duration) -> u64
+    ensures { result ≡ min (as_nanos passed / 1000000) (2 ^ 64 - 1) }
+{
+    u64::try_from(passed.as_millis()).unwrap_or(u64::MAX)
+}
