@@ -1,5 +1,7 @@
 mod report;
 mod run;
+mod staged;
+mod through_time;
 
 use crate::program::program;
 use std::fs::File;
@@ -10,6 +12,8 @@ use std::thread::Threads;
 use std::time::Clock;
 
 const IDENTIFICATION: &[u8] = b"*8D4840D6202CC371C32CE0576098;\n?\n";
+
+const NO_LINES: &[u8] = b"";
 
 #[derive(Debug, Drop)]
 struct Ran {

@@ -1,0 +1,63 @@
+// The job `run` while its paths last.
+use super::staged::{Staged, becomes_set, lasting_path};
+use super::{NO_LINES, text};
+use crate::program::program;
+use std::io::{self, Write};
+use std::sync::atomic::{AtomicBool, Ordering};
+use std::test::*;
+use std::thread::join;
+
+const TABLES_OF_NOBODY: &str = concat!(
+    "now 100 aircraft 0\n",
+    "  ADDR CALLSIGN    ALT SQWK     VELOCITY   VERT        LAT        LON AGE\n",
+    "now 200 aircraft 0\n",
+    "  ADDR CALLSIGN    ALT SQWK     VELOCITY   VERT        LAT        LON AGE\n",
+    "now 60205 aircraft 0\n",
+    "  ADDR CALLSIGN    ALT SQWK     VELOCITY   VERT        LAT        LON AGE\n",
+    "now 60305 aircraft 0\n",
+    "  ADDR CALLSIGN    ALT SQWK     VELOCITY   VERT        LAT        LON AGE\n",
+    "now 60305 aircraft 0\n",
+    "  ADDR CALLSIGN    ALT SQWK     VELOCITY   VERT        LAT        LON AGE\n",
+);
+
+// The clock starts at 1,000,000 ms. It shows the moment before each table is due and the one when it is, and passes a
+// minute at once. The last table comes at the end of the path.
+#[test]
+fn a_table_is_printed_when_it_is_due_and_at_the_end(rt: HostRuntime) -> Result<(), Fail> {
+    let moments = [
+        1_000_000, 1_000_050, 1_000_099, 1_000_100, 1_000_150, 1_000_199, 1_000_200, 1_060_205,
+        1_060_304, 1_060_305,
+    ];
+    let has_ended = AtomicBool::new(false);
+    let staged = Staged::new(&rt, moments.as_slice(), &has_ended);
+    let lasting = lasting_path(&rt, rt.alloc())?;
+    let words = [
+        "groundstation",
+        "run",
+        "--every",
+        "100",
+        lasting.path.as_str(),
+    ];
+    let (mut out, mut err) = (Vec::new(rt.alloc()), Vec::new(rt.alloc()));
+    let lines = lasting.lines;
+    let (was_shown, status) = join(
+        &rt,
+        || {
+            let was_shown = becomes_set(&rt, &has_ended);
+            drop(lines);
+            was_shown
+        },
+        || program(
+            &staged,
+            rt.alloc(),
+            words.as_slice(),
+            NO_LINES,
+            &mut out,
+            &mut err,
+        ),
+    );
+    assert!(rt; was_shown);
+    assert_eq!(rt; text(&out), TABLES_OF_NOBODY);
+    assert_eq!(rt; status, 0);
+    Ok(())
+}
