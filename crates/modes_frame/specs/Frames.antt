@@ -1,15 +1,7 @@
 -- Frames, their bits and their parity (ICAO Annex 10 Volume IV, 3.1.2.3).
-use Rattle.std.specs.Prelude.{◌≡◌, ℕ, ◌+◌, ◌-◌, ◌*◌, ◌/◌, ◌%◌, ◌==◌, nat_le, nat_lt, Bool, false, List, [], ◌∷◌, ◌++◌, fold, length, slice_index, if◌then◌else◌, bit_xor, replicate}
+use Rattle.std.specs.Prelude.{◌≡◌, ℕ, ◌+◌, ◌-◌, ◌*◌, ◌/◌, ◌%◌, ◌==◌, nat_le, nat_lt, Bool, false, List, [], ◌∷◌, ◌++◌, fold, length, take, if◌then◌else◌, bit_xor, replicate}
 use Rattle.std.specs.List.{flat_map}
 use Rattle.std.proofs.Common.{get_or}
-
--- the downlink format DF: bits 1 to 5 (3.1.2.3.2.1.2)
-abbrev pub df_of : List ℕ → ℕ
-df_of bytes = slice_index bytes 0 / 8
-
--- 56 bits with DF below 16, or 112 bits with DF 16 and above (3.1.2.3.1)
-abbrev pub IsFrame : List ℕ → Type 0
-IsFrame bytes = length bytes ≡ (if nat_lt (df_of bytes) 16 then 7 else 14)
 
 -- the bits of a byte, the first sent, and highest, first
 unfoldable pub byte_bits : ℕ → List Bool
@@ -31,6 +23,14 @@ brought_down rest bit = 2 * rest + (if bit then 1 else 0)
 -- the number that bits write, the most significant bit first
 abbrev pub number_of : List Bool → ℕ
 number_of bits = fold brought_down 0 bits
+
+-- the downlink format DF: the number in bits 1 to 5 (3.1.2.3.2.1.2)
+unfoldable pub df_of : List ℕ → ℕ
+df_of bytes = number_of (take 5 (bits_of bytes))
+
+-- 56 bits with DF below 16, or 112 bits with DF 16 and above (3.1.2.3.1)
+abbrev pub IsFrame : List ℕ → Type 0
+IsFrame bytes = length bytes ≡ (if nat_lt (df_of bytes) 16 then 7 else 14)
 
 -- the generator polynomial's coefficients below x^24: those of x^23 to x^12, x^10, x^3 and 1 (3.1.2.3.3.1.2)
 abbrev pub generator : ℕ

@@ -1,5 +1,6 @@
 // Frames (ICAO Annex 10 Volume IV, 3.1.2.3).
 ghost use Rattle.std.specs.Prelude.{◌≡◌, ◌≤◌, ◌<◌, ◌↔◌, ◌*◌, ℕ, List, IsSome, IfSome, length};
+ghost use Rattle.modes_frame.specs.Frames.{df_of};
 
 use std::marker::Model;
 
@@ -30,15 +31,19 @@ impl Model for Frame {
 }
 
 impl Frame {
-    ghost use Rattle.modes_frame.specs.Frames.{IsFrame, df_of, bits_of, bit_of};
+    ghost use Rattle.modes_frame.specs.Frames.{IsFrame, bits_of, bit_of};
 
     /// The frame of these bytes. None where their number is not the one that their downlink format has.
     pub fn from_bytes(bytes: &[u8]) -> Option<Frame>
         ensures some { IsSome result ↔ IsFrame bytes.now }
         ensures value { IfSome result (λ f. f ≡ bytes.now) }
     {
+        if bytes.is_empty() {
+            return None;
+        }
         let mut padded = [0; 16];
-        let count = if bytes.first()? / 8 < 16 {
+        let is_short = format_of(bytes) < 16;
+        let count = if is_short {
             if bytes.len() != 7 {
                 return None;
             }
@@ -67,7 +72,7 @@ impl Frame {
         ensures value { result ≡ df_of self.now }
         ensures frame { IsFrame self.now }
     {
-        self.bytes()[0] / 8
+        format_of(self.bytes())
     }
 
     /// The number of bits, 56 or 112.
@@ -86,4 +91,12 @@ impl Frame {
     {
         self.bytes()[(n - 1) / 8] >> (7 - (n - 1) % 8) & 1 == 1
     }
+}
+
+/// The downlink format with which bytes begin.
+pub(crate) fn format_of(bytes: &[u8]) -> u8
+    requires { 0 < length bytes.now }
+    ensures { result ≡ df_of bytes.now }
+{
+    bytes[0] / 8
 }

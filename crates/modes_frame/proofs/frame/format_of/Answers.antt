@@ -1,0 +1,9 @@
+use Rattle.std.proofs.Common.{◌<◌, get_or, arith}
+use Rattle.modes_frame.proofs.FormatLemmas.{format-is}
+use Rattle.modes_frame.proofs.frame.format_of.Goals as goal
+
+pub returns : goal.returns
+returns c =
+    let bytes = c.args.bytes.now in
+    let first : get_or bytes 0 0 < 256 = omega arith in
+    format-is bytes first
