@@ -50,7 +50,7 @@ matches_legal : (limits : Limits) (base : ℕ) (past : List Entry) → Legal lim
 matches_legal limits base [] legal = matches_starting limits.aircraft base
 matches_legal limits base (entry ∷ past) legal = matches_applied limits.aircraft base past entry (book_of_past base past) (fits_from_accepts limits base past entry legal.0) (matches_legal limits base past legal.1)
 
-pub book_equals_search : (log : Log) → IsLegal log → (rows (book_after log.base log.entries) ≡ table_of log) × ((book_after log.base log.entries).moment ≡ clock_of log)
+pub book_equals_search : (log : Log) → IsLegal log → (rows (book_after log.base log.entries) ≡ table_of log) × ((book_after log.base log.entries).moment ≡ clock_of log) × ((book_after log.base log.entries).entries ≡ length log.entries)
 book_equals_search log legal =
     let m = matches_legal log.limits log.base (past_of log) legal in
-    (rows_are_table log.limits.aircraft log.base (past_of log) (book_after log.base log.entries) m, m.moment)
+    (rows_are_table log.limits.aircraft log.base (past_of log) (book_after log.base log.entries) m, m.moment, m.entries ∙ length-reverse log.entries)

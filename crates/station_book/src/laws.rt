@@ -45,11 +45,12 @@ pub fn an_offer_keeps_a_match()
         (log.entries ++ entry ∷ []) }
 {}
 
-/// After the entries of any legal journal the book shows the journal's table and clock.
+/// After the entries of any legal journal the book shows the journal's table and clock, and counts its entries.
 pub fn the_book_equals_the_search()
     ensures { (log : Log) → IsLegal log →
         (rows (book_after log.base log.entries) ≡ table_of log) ×
-        ((book_after log.base log.entries).moment ≡ clock_of log) }
+        ((book_after log.base log.entries).moment ≡ clock_of log) ×
+        ((book_after log.base log.entries).entries ≡ length log.entries) }
 {}
 
 /// A book that takes over what an entry changed is the one that took the entry.
