@@ -98,3 +98,44 @@ fn the_greater_number_of_zones_holds_at_each_transition(rt: HostRuntime) {
         assert_eq!(rt; zones(num + 1, 100_000_000) as usize + k, 58);
     }
 }
+
+// Half a bin is rounded up. 3/131072 degrees are half of the first bin of 6/131072 degrees, and 180/(59 * 131072)
+// half of the first bin where there are 59 zones.
+#[test]
+fn a_point_between_two_bins_is_sent_as_the_greater(rt: HostRuntime) {
+    assert_eq!(rt;
+        encode(at(3, 131072), at(180, 7733248), false),
+        place(false, 1, 1)
+    );
+}
+
+// Half a zone is rounded up: (59 * 1124 - 60 * 13)/2^17 = 1/2, so the index is 1, and the even latitude
+// 6 (1 + 1124/2^17), which is 360 (131072 + 1124)/(60 * 2^17).
+#[test]
+fn places_half_a_zone_apart_are_in_the_greater_zone(rt: HostRuntime) -> Result<(), Fail> {
+    let p = pair(place(false, 1124, 0), place(true, 13, 0), false).ok_or("none")?;
+    assert_eq!(rt; p.lat.num, 360 * 132_196);
+    assert_eq!(rt; p.lat.den, 7864320);
+    let p = pair(place(false, 1124, 0), place(true, 13, 0), true).ok_or("none")?;
+    assert_eq!(rt; p.lat.num, 360 * 131_085);
+    assert_eq!(rt; p.lat.den, 7733248);
+    Ok(())
+}
+
+// The even latitude 6 (1 + 97659/2^17) = 10.470474 has 58 zones, the odd one 360/59 (1 + 93846/2^17) = 10.470436 has
+// 59: the number falls at 10.4704713.
+#[test]
+fn an_odd_latitude_with_more_zones_tells_no_position(rt: HostRuntime) {
+    assert!(rt; pair(place(false, 97659, 0), place(true, 93846, 0), false).is_none());
+    assert!(rt; pair(place(false, 97659, 0), place(true, 93846, 0), true).is_none());
+}
+
+// 10.47046 degrees have 59 zones; the nearest bin, 97659, stands for 10.470474, which has 58. At 90 degrees east 58
+// zones give bin 1/2 * 2^17, and 59 would give bin 3/4 * 2^17.
+#[test]
+fn the_rounded_latitude_decides_the_zones(rt: HostRuntime) {
+    assert_eq!(rt;
+        encode(at(1047046, 100000), at(90, 1), false),
+        place(false, 97659, 65536)
+    );
+}
