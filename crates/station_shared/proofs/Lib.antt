@@ -3,6 +3,7 @@ pub mod AheadLemmas
 pub mod Alls
 pub mod Beginnings
 pub mod Closing
+pub mod CommandLemmas
 pub mod Counts
 pub mod DeskLemmas
 pub mod DigitLemmas

@@ -2,6 +2,7 @@ pub mod Ahead
 pub mod Calls
 pub mod Closing
 pub mod Command
+pub mod CommandRules
 pub mod Counting
 pub mod Desk
 pub mod DeskPump
