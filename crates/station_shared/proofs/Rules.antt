@@ -1,13 +1,15 @@
 -- Each step keeps the rule over what is published.
 use Rattle.std.proofs.Common.{◌≡◌, ◌≢◌, ℕ, List, set, Option, Some, None, refl, sym, ap, ◌∙◌, subst, ⊎_elim, inr}
 use Rattle.std.specs.Prelude.{IfSome}
+use mathlib.Core.List.{IsPrefix}
 use mathlib.Core.Option.{some}
 use lib.ListN.{get_elem?}
 use Rattle.station_journal.specs.declared.Limits.{Limits}
 use Rattle.crossbeam_utils.specs.Register.{Admits, TurnsAt, Turns, Forks, Merges}
 use Rattle.atomic_table.proofs.Lists.{at_set, at_snoc, set_again}
-use Rattle.station_shared.specs.Shown.{Sheet, IsPublished, IsOfSheet, SawPublished, Follows, marked}
+use Rattle.station_shared.specs.Shown.{Sheet, IsPublished, IsOfSheet, SawPublished, GoesOn, Follows, marked}
 use Rattle.station_shared.specs.declared.shown.Mark.{Mark}
+use Rattle.station_shared.proofs.Fronts.{prefix_refl, prefix_trans}
 
 some_mark : (k l : Mark) → Some k ≡ Some l → k ≡ l
 some_mark k l e = cc
@@ -23,14 +25,21 @@ seen_is_of s k e = by s.limits refl e
     by None is e = absurd (none_some k e)
     by (Some limits) is e =
         let mark : record { front = s.front; limits = limits } ≡ k = some_mark _ k e in
-        record { name = ap (λ (m : Mark). m.front.name) (sym mark); limits = is ∙ ap (λ (m : Mark). Some m.limits) mark }
+        record {
+          name = ap (λ (m : Mark). m.front.name) (sym mark);
+          limits = is ∙ ap (λ (m : Mark). Some m.limits) mark;
+          begins = subst (λ (m : Mark). IsPrefix m.front.entries s.front.entries) mark (prefix_refl s.front.entries);
+        }
 
 -- who knew the station before knows it after
 still_of : (n : ℕ) (s t : Sheet) (k : Mark) → Follows n s t → IsOfSheet s k → IsOfSheet t k
 still_of n s t k next is = ⊎_elim
     (λ (none : s.limits ≡ None). absurd (none_some k.limits (sym none ∙ is.limits)))
-    (λ (same : (t.limits ≡ s.limits) × (t.front.name ≡ s.front.name)). record { name = is.name ∙ sym same.1; limits = same.0 ∙ is.limits })
+    (λ (on : GoesOn s t). record { name = is.name ∙ sym on.name; limits = on.limits ∙ is.limits; begins = prefix_trans _ _ _ is.begins on.begins })
     next.same
+
+goes_on_same : (s : Sheet) → GoesOn s s
+goes_on_same s = record { limits = refl; name = refl; begins = prefix_refl s.front.entries }
 
 module _ {T : Type 0} (n : ℕ) (sheet : T → Sheet) where
   abbrev pub Holds : T → List (Option Mark) → Type 0
@@ -57,7 +66,7 @@ module _ {T : Type 0} (n : ℕ) (sheet : T → Sheet) where
       known (Some k) e = still_of n (sheet x) (sheet y) k next (h.views seat k e)
 
   pub enters : (seat : ℕ) (v : Option Mark) → Turns Holds seat v (λ x. x) Saw
-  enters seat v x = turns_at seat v x x (record { right = λ r. r; same = inr (refl, refl) })
+  enters seat v x = turns_at seat v x x (record { right = λ r. r; same = inr (goes_on_same (sheet x)) })
 
   pub admits : Admits Holds None
   admits x views h = record {

@@ -1,5 +1,6 @@
 -- What readers look at, and the rule over it.
 use Rattle.std.specs.Prelude.{◌≡◌, ℕ, ◌⊎◌, List, Option, Some, None, IfSome, option_map}
+use mathlib.Core.List.{IsPrefix}
 use mathlib.Core.Option.{some}
 use lib.ListN.{get_elem?}
 use Rattle.station_journal.specs.declared.Entry.{Entry}
@@ -46,10 +47,11 @@ pub record IsRight (n : ℕ) (s : Sheet) : Type 0 where
   pub matched : Matches n 0 s.book s.front.entries
   pub legal : LegalUnder s.limits s.front.entries
 
--- what is known is of the history that is published, and of its limits
+-- what is known is of the history that is published, which begins with it, and of its limits
 pub record IsOfSheet (s : Sheet) (k : Mark) : Type 0 where
   pub name : k.front.name ≡ s.front.name
   pub limits : s.limits ≡ Some k.limits
+  pub begins : IsPrefix k.front.entries s.front.entries
 
 -- what is published is right, and who knows a station at all knows this one
 pub record IsPublished (n : ℕ) (s : Sheet) (all : List (Option Mark)) : Type 0 where
@@ -66,10 +68,16 @@ pub record SawPublished (n : ℕ) (old : Option Mark) (s : Sheet) (new : Option 
   pub right : IsRight n s
   pub known : IfSome old (IsOfSheet s)
 
--- one may be published after the other: it is right, and of the same station, where there was one
+-- the same station, of whose history nothing is taken back
+pub record GoesOn (old new : Sheet) : Type 0 where
+  pub limits : new.limits ≡ old.limits
+  pub name : new.front.name ≡ old.front.name
+  pub begins : IsPrefix old.front.entries new.front.entries
+
+-- one may be published after the other: it is right, and the same station goes on, where there was one
 pub record Follows (n : ℕ) (old new : Sheet) : Type 0 where
   pub right : IsRight n old → IsRight n new
-  pub same : (old.limits ≡ None) ⊎ ((new.limits ≡ old.limits) × (new.front.name ≡ old.front.name))
+  pub same : (old.limits ≡ None) ⊎ GoesOn old new
 
 -- the view knows this history and these limits
 pub record IsOf (history : Name) (most : Limits) (view : Option Mark) : Type 0 where

@@ -1,11 +1,13 @@
 //! A seat at a station, and receipts of accepted calls.
-ghost use Rattle.std.specs.Prelude.{◌≡◌, ◌+◌, ◌<◌, ◌≤◌, length, MatchResult};
+ghost use Rattle.std.specs.Prelude.{◌≡◌, ◌+◌, ◌<◌, ◌≤◌, ◌↔◌, IsTrue, false, length, MatchResult};
+ghost use mathlib.Core.List.{IsPrefix};
 ghost use Rattle.station_shared.specs.Seats.{Told, Looks, count_of};
+ghost use Rattle.station_shared.specs.Shown.{IsOfSheet, sheet_of};
 
 use crate::history::Front;
 use crate::look::Look;
 use crate::names::Total;
-use crate::rule::{Place, Published, Sees};
+use crate::rule::{Looking, Place, Published, Sees};
 use crate::shown::{Mark, Shown};
 use crossbeam_utils::rule::Protocol;
 use std::marker::Model;
@@ -82,6 +84,16 @@ where
         × (s.accepted ≤ count_of s.number s.front.entries) };
 }
 
+// Whether the published table lacks entries of this beginning. It lacks none that a place had seen before it was let in.
+fn lacks<const N: usize>(looking: &Looking<N>, known: &Front) -> bool
+    ensures fewer { IsTrue result
+        ↔ (length looking.now.part.value.front.entries < length known.now.entries) }
+    ensures seen { (before : Mark) → IsOfSheet (sheet_of looking.now.part.value) before →
+        IsPrefix known.now.entries before.front.entries → result ≡ false }
+{
+    looking.get().front.count() < known.count()
+}
+
 impl<const N: usize, L: Total> Seat<N, L> {
     /// The number of the seat: below the number of seats, and no other seat of the station has it.
     pub fn number(&self) -> u8
@@ -121,7 +133,7 @@ impl<const N: usize, L: Total> Seat<N, L> {
         } = self;
         match place.enter_as::<Sees>() {
             Ok(looking) => {
-                if looking.get().front.count() < front.count() {
+                if lacks(&looking, &front) {
                     let place = looking.leave();
                     return Err(Seat {
                         number,

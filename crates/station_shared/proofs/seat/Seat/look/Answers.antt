@@ -21,8 +21,8 @@ invariant_of-result-in-Ok-2 g c =
     let shown = c.in-Ok.looking.part.value in
     let name = g.L.Total.history in
     let limits = g.L.Total.limits in
-    let front : c.again-front.result ≡ shown.front = c.again-front.ensures ∙ ap (λ s. s.front) c.get-in-Ok-2.ensures in
-    let later : IsPrefix c.self.inside.front.entries shown.front.entries = subst (λ (l : List Entry). IsPrefix c.self.inside.front.entries l) (ap (λ s. s.front.entries) c.get-in-Ok.ensures) c.begins.ensures in (
+    let front : c.again-front.result ≡ shown.front = c.again-front.ensures ∙ ap (λ s. s.front) c.get-in-Ok.ensures in
+    let later : IsPrefix c.self.inside.front.entries shown.front.entries = subst (λ (l : List Entry). IsPrefix c.self.inside.front.entries l) (ap (λ s. s.front.entries) c.get.ensures) c.begins.ensures in (
       i.0,
       i.1,
       view_seen g.row.N name limits _ _ _ i.2 saw,
