@@ -102,9 +102,10 @@ impl<const N: usize, L: Total> Seat<N, L> {
         self.number
     }
 
-    /// How many of its calls were accepted.
+    /// How many of its calls were accepted. What it has seen holds at least as many entries of its number.
     pub fn accepted(&self) -> u64
-        ensures { result ≡ self.now.accepted }
+        ensures value { result ≡ self.now.accepted }
+        ensures seen { result ≤ count_of self.now.number self.now.seen }
     {
         self.accepted
     }
