@@ -1,3 +1,4 @@
+mod outputs;
 mod report;
 mod run;
 mod staged;
@@ -14,6 +15,11 @@ use std::time::Clock;
 const IDENTIFICATION: &[u8] = b"*8D4840D6202CC371C32CE0576098;\n?\n";
 
 const NO_LINES: &[u8] = b"";
+
+const TABLE_OF_NOBODY: &str = concat!(
+    "now 0 aircraft 0\n",
+    "  ADDR CALLSIGN    ALT SQWK     VELOCITY   VERT        LAT        LON AGE\n",
+);
 
 #[derive(Debug, Drop)]
 struct Ran {
@@ -38,6 +44,33 @@ fn text(bytes: &Vec<u8>) -> &str {
         Ok(text) => text,
         Err(_) => "",
     }
+}
+
+// Four frames are accepted and one isn't, three ticks and five aren't.
+const LINES_OF_ALL_KINDS: &[u8] = b"\
+    *8D4840D6202CC371C32CE0576098;\n\
+    *8D485020994409940838175B284F;\n\
+    *5D510AF9A8D8BC;\n\
+    *2A00516D492B80;\n\
+    *8D4840D6202CC371C32CE0576099;\n\
+    +1\n+2\n+3\n+3\n+2\n+1\n+0\n+0\n\
+    ?\n\
+    \n   \n\
+    *0000;\n*0000;\n@0123456789AB0000;\n\
+    x\n*8D4840D6\n*;\n+\n";
+
+#[test]
+fn each_count_stands_by_its_word(rt: HostRuntime) {
+    let counted = run_words(
+        &rt,
+        ["groundstation", "replay"].as_slice(),
+        LINES_OF_ALL_KINDS,
+    );
+    assert_eq!(rt;
+        text(&counted.err),
+        "lines 23 frames 5 ticks 8 shows 1 blank 2 modeac 3 faults 4 accepted 7 refused 6\n"
+    );
+    assert_eq!(rt; counted.status, 0);
 }
 
 #[test]

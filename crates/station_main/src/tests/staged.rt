@@ -1,7 +1,7 @@
 // What tests of `run` stand on: a clock that shows the moments of a test, a path that lasts, and a wait with a bound.
-use std::alloc::{AllocError, Allocator, Global};
+use std::alloc::{Allocator, Global};
 use std::fs::{File, Metadata, OpenOptions};
-use std::io::{self, PipeReader, PipeWriter};
+use std::io::{self, PipeReader, PipeWriter, Write};
 use std::os::fd::AsRawFd;
 use std::rt::Files;
 use std::sync::Wait;
@@ -126,4 +126,9 @@ pub fn becomes_set<R: Clock>(rt: &R, word: &AtomicBool) -> bool {
         thread::sleep(rt, Duration::from_millis(10));
     }
     false
+}
+
+/// Waits until the word is set, and then writes the lines and ends the path. Answers whether that was done.
+pub fn end_path<R: Clock>(rt: &R, word: &AtomicBool, mut lines: PipeWriter, text: &[u8]) -> bool {
+    becomes_set(rt, word) && lines.write_all(text).is_ok()
 }

@@ -1,5 +1,5 @@
 // The job `run` while its paths last.
-use super::staged::{Staged, becomes_set, lasting_path};
+use super::staged::{Staged, becomes_set, end_path, lasting_path};
 use super::{NO_LINES, text};
 use crate::program::program;
 use std::io::{self, Write};
@@ -42,11 +42,7 @@ fn a_table_is_printed_when_it_is_due_and_at_the_end(rt: HostRuntime) -> Result<(
     let lines = lasting.lines;
     let (was_shown, status) = join(
         &rt,
-        || {
-            let was_shown = becomes_set(&rt, &has_ended);
-            drop(lines);
-            was_shown
-        },
+        || end_path(&rt, &has_ended, lines, NO_LINES),
         || program(
             &staged,
             rt.alloc(),
@@ -58,6 +54,63 @@ fn a_table_is_printed_when_it_is_due_and_at_the_end(rt: HostRuntime) -> Result<(
     );
     assert!(rt; was_shown);
     assert_eq!(rt; text(&out), TABLES_OF_NOBODY);
+    assert_eq!(rt; status, 0);
+    Ok(())
+}
+
+// Sets the word at a table of both aircraft.
+#[derive(Drop)]
+struct Seen<'a> {
+    are_shown: &'a AtomicBool,
+}
+
+impl<'a> Write for Seen<'a> {
+    fn write(&mut self, piece: &[u8]) -> io::Result<usize> {
+        if let Ok(table) = str::from_utf8(piece)
+            && table.contains("\n4840D6 ")
+            && table.contains("\n485020 ")
+        {
+            self.are_shown.store(true, Ordering::SeqCst);
+        }
+        Ok(piece.len())
+    }
+
+    fn flush(&mut self) -> io::Result<()> {
+        Ok(())
+    }
+}
+
+#[test]
+fn paths_are_read_and_shown_side_by_side(rt: HostRuntime) -> Result<(), Fail> {
+    let are_shown = AtomicBool::new(false);
+    let mut first = lasting_path(&rt, rt.alloc())?;
+    let mut second = lasting_path(&rt, rt.alloc())?;
+    first.lines.write_all(b"*8D4840D6202CC371C32CE0576098;\n")?;
+    second.lines.write_all(b"*8D485020994409940838175B284F;\n")?;
+    let words = [
+        "groundstation",
+        "run",
+        "--every",
+        "10",
+        first.path.as_str(),
+        second.path.as_str(),
+    ];
+    let mut err = Vec::new(rt.alloc());
+    let out = Seen {
+        are_shown: &are_shown,
+    };
+    let (first_lines, second_lines) = (first.lines, second.lines);
+    let (were_shown, status) = join(
+        &rt,
+        || {
+            let were_shown = becomes_set(&rt, &are_shown);
+            drop(first_lines);
+            drop(second_lines);
+            were_shown
+        },
+        || program(&rt, rt.alloc(), words.as_slice(), NO_LINES, out, &mut err),
+    );
+    assert!(rt; were_shown);
     assert_eq!(rt; status, 0);
     Ok(())
 }

@@ -1,0 +1,274 @@
+// Outputs that fail once, that wait, and that tell how they are written.
+use super::staged::{Staged, becomes_set, end_path, lasting_path};
+use super::{NO_LINES, TABLE_OF_NOBODY, text};
+use crate::program::program;
+use std::alloc::{AllocError, Global};
+use std::io::{self, ErrorKind, Write};
+use std::sync::atomic::{AtomicBool, Ordering};
+use std::test::*;
+use std::thread::join;
+use std::time::Clock;
+
+// Fails at its second write alone.
+#[derive(Drop)]
+struct FailsOnce<'a> {
+    taken: &'a mut Vec<u8>,
+    writes: usize,
+    has_failed: &'a AtomicBool,
+}
+
+impl<'a> Write for FailsOnce<'a> {
+    fn write(&mut self, piece: &[u8]) -> io::Result<usize> {
+        self.writes = self.writes.saturating_add(1);
+        if self.writes == 2 {
+            self.has_failed.store(true, Ordering::SeqCst);
+            return Err(io::Error::from(ErrorKind::StorageFull));
+        }
+        self.taken.write(piece)
+    }
+
+    fn flush(&mut self) -> io::Result<()> {
+        Ok(())
+    }
+}
+
+#[test]
+fn replay_writes_nothing_after_a_failed_write(rt: HostRuntime) {
+    let lines: &[u8] = b"?\n*8D4840D6202CC371C32CE0576098;\n?\n?\n*0000;\n?\n";
+    let (mut taken, mut err) = (Vec::new(rt.alloc()), Vec::new(rt.alloc()));
+    let has_failed = AtomicBool::new(false);
+    let out = FailsOnce {
+        taken: &mut taken,
+        writes: 0,
+        has_failed: &has_failed,
+    };
+    let words = ["groundstation", "replay"];
+    let status = program(&rt, rt.alloc(), words.as_slice(), lines, out, &mut err);
+    assert_eq!(rt; text(&taken), TABLE_OF_NOBODY);
+    assert_eq!(rt;
+        text(&err),
+        concat!(
+            "lines 3 frames 1 ticks 0 shows 2 blank 0 modeac 0 faults 0 accepted 1 refused 0\n",
+            "groundstation: write failed\n",
+        )
+    );
+    assert_eq!(rt; status, 1);
+}
+
+// The second table is due at 200 ms. The frame comes after its write has failed.
+#[test]
+fn run_writes_nothing_after_a_failed_write_and_reads_on(rt: HostRuntime) -> Result<(), Fail> {
+    let moments = [0, 50, 100, 150, 200, 250, 300, 350, 400];
+    let (has_ended, has_failed) = (AtomicBool::new(false), AtomicBool::new(false));
+    let staged = Staged::new(&rt, moments.as_slice(), &has_ended);
+    let lasting = lasting_path(&rt, rt.alloc())?;
+    let words = [
+        "groundstation",
+        "run",
+        "--every",
+        "100",
+        lasting.path.as_str(),
+    ];
+    let (mut taken, mut err) = (Vec::new(rt.alloc()), Vec::new(rt.alloc()));
+    let out = FailsOnce {
+        taken: &mut taken,
+        writes: 0,
+        has_failed: &has_failed,
+    };
+    let lines = lasting.lines;
+    let (was_fed, status) = join(
+        &rt,
+        || end_path(&rt, &has_failed, lines, b"*8D4840D6202CC371C32CE0576098;\n"),
+        || program(
+            &staged,
+            rt.alloc(),
+            words.as_slice(),
+            NO_LINES,
+            out,
+            &mut err,
+        ),
+    );
+    assert!(rt; was_fed);
+    assert_eq!(rt;
+        text(&taken),
+        concat!(
+            "now 100 aircraft 0\n",
+            "  ADDR CALLSIGN    ALT SQWK     VELOCITY   VERT        LAT        LON AGE\n",
+        )
+    );
+    assert_eq!(rt;
+        text(&err),
+        concat!(
+            "lines 1 frames 1 ticks 0 shows 0 blank 0 modeac 0 faults 0 accepted 1 refused 0\n",
+            "groundstation: write failed\n",
+        )
+    );
+    assert_eq!(rt; status, 1);
+    Ok(())
+}
+
+// Waits in its first write until all has been fed. It fails where that doesn't come.
+#[derive(Drop)]
+struct Waiting<'a, R> {
+    rt: &'a R,
+    is_waiting: &'a AtomicBool,
+    is_fed: &'a AtomicBool,
+}
+
+impl<'a, R: Clock> Write for Waiting<'a, R> {
+    fn write(&mut self, piece: &[u8]) -> io::Result<usize> {
+        self.is_waiting.store(true, Ordering::SeqCst);
+        if becomes_set(self.rt, self.is_fed) {
+            Ok(piece.len())
+        } else {
+            Err(io::Error::from(ErrorKind::TimedOut))
+        }
+    }
+
+    fn flush(&mut self) -> io::Result<()> {
+        Ok(())
+    }
+}
+
+// Four frames of four aircraft, each before 40,000 blank lines: more than a pipe and a receiver's buffer hold.
+fn long_lines(alloc: Global) -> Result<Vec<u8>, AllocError> {
+    let mut lines = Vec::new(alloc);
+    for frame in [
+        "*8D4840D6202CC371C32CE0576098;\n",
+        "*8D485020994409940838175B284F;\n",
+        "*8DA05F219B06B6AF189400CBC33F;\n",
+        "*5D510AF9A8D8BC;\n",
+    ] {
+        lines.extend_from_slice(frame.as_bytes())?;
+        for _ in 0..40_000 {
+            lines.push(b'\n')?;
+        }
+    }
+    Ok(lines)
+}
+
+#[test]
+fn output_that_waits_holds_no_receiver_up(rt: HostRuntime) -> Result<(), Fail> {
+    let (is_waiting, is_fed) = (AtomicBool::new(false), AtomicBool::new(false));
+    let lasting = lasting_path(&rt, rt.alloc())?;
+    let words = [
+        "groundstation",
+        "run",
+        "--every",
+        "1",
+        lasting.path.as_str(),
+    ];
+    let mut err = Vec::new(rt.alloc());
+    let out = Waiting {
+        rt: &rt,
+        is_waiting: &is_waiting,
+        is_fed: &is_fed,
+    };
+    let fed = long_lines(rt.alloc())?;
+    let lines = lasting.lines;
+    let (was_fed, status) = join(
+        &rt,
+        || {
+            let was_fed = end_path(&rt, &is_waiting, lines, fed.as_slice());
+            is_fed.store(was_fed, Ordering::SeqCst);
+            was_fed
+        },
+        || program(&rt, rt.alloc(), words.as_slice(), NO_LINES, out, &mut err),
+    );
+    assert!(rt; was_fed);
+    assert_eq!(rt;
+        text(&err),
+        "lines 160004 frames 4 ticks 0 shows 0 blank 160000 modeac 0 faults 0 accepted 4 refused 0\n"
+    );
+    assert_eq!(rt; status, 0);
+    Ok(())
+}
+
+// Keeps the length of each piece that it is given, and of all pieces the last.
+#[derive(Drop)]
+struct Pieces<'a> {
+    lengths: &'a mut Vec<usize>,
+    last: &'a mut Vec<u8>,
+    is_written: &'a AtomicBool,
+}
+
+impl<'a> Write for Pieces<'a> {
+    fn write(&mut self, piece: &[u8]) -> io::Result<usize> {
+        self.lengths.push(piece.len())?;
+        self.last.clear();
+        self.last.extend_from_slice(piece)?;
+        self.is_written.store(true, Ordering::SeqCst);
+        Ok(piece.len())
+    }
+
+    fn flush(&mut self) -> io::Result<()> {
+        Ok(())
+    }
+}
+
+// The 24 parity bits of a frame of 56 bits, of which these are the first 32.
+fn parity(first: u64) -> u64 {
+    let mut rest = (first & 0xFFFF_FFFF) << 24;
+    for place in (0..32u32).rev() {
+        if rest >> (place + 24) & 1 == 1 {
+            rest ^= 0x1FF_F409 << place;
+        }
+    }
+    rest
+}
+
+// An all-call reply of each address from 1 to 512.
+fn all_call_replies(alloc: Global) -> Result<String, AllocError> {
+    let mut lines = String::new(alloc);
+    for address in 1..513u64 {
+        let first = 0x5D00_0000 + address;
+        let last = parity(first);
+        lines.push_str(format!(in alloc; "*{first:08X}{last:06X};\n")?.as_str())?;
+    }
+    Ok(lines)
+}
+
+// The first line has 37 bytes before its LF where the moment has 20 digits, the header and each row have 73.
+#[test]
+fn a_full_table_is_written_at_once(rt: HostRuntime) -> Result<(), Fail> {
+    let moments = [0, 18_446_744_073_709_551_000];
+    let (has_ended, is_written) = (AtomicBool::new(false), AtomicBool::new(false));
+    let staged = Staged::new(&rt, moments.as_slice(), &has_ended);
+    let lasting = lasting_path(&rt, rt.alloc())?;
+    let words = [
+        "groundstation",
+        "run",
+        "--every",
+        "1",
+        lasting.path.as_str(),
+    ];
+    let (mut lengths, mut last) = (Vec::new(rt.alloc()), Vec::new(rt.alloc()));
+    let mut err = Vec::new(rt.alloc());
+    let out = Pieces {
+        lengths: &mut lengths,
+        last: &mut last,
+        is_written: &is_written,
+    };
+    let replies = all_call_replies(rt.alloc())?;
+    let lines = lasting.lines;
+    let (was_fed, status) = join(
+        &rt,
+        || end_path(&rt, &is_written, lines, replies.as_bytes()),
+        || program(
+            &staged,
+            rt.alloc(),
+            words.as_slice(),
+            NO_LINES,
+            out,
+            &mut err,
+        ),
+    );
+    assert!(rt; was_fed);
+    assert!(rt; text(&last).starts_with("now 18446744073709551000 aircraft 512\n"));
+    assert_eq!(rt;
+        lengths.as_slice(),
+        [36 + 74, 38 + 74 + 512 * 74].as_slice()
+    );
+    assert_eq!(rt; status, 0);
+    Ok(())
+}
