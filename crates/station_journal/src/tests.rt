@@ -54,10 +54,29 @@ fn once(journal: &mut Journal, call: Call) -> Result<Result<u64, Refusal>, Fail>
     }
 }
 
-// A call that answers want of memory is made once more.
-fn answer(journal: &mut Journal, call: Call) -> Result<Result<u64, Refusal>, Fail> {
+// What a journal shows: how many entries, the moment, how many aircraft are live, and the last entry.
+fn shown(journal: &Journal) -> (u64, u64, usize, Option<Entry>) {
+    let len = journal.len();
+    (
+        len,
+        journal.now(),
+        Rows::len(journal),
+        journal.get(len.saturating_sub(1)),
+    )
+}
+
+// A call that answers want of memory leaves the journal as it was, and is made once more.
+fn answer(
+    rt: &impl Abort,
+    journal: &mut Journal,
+    call: Call,
+) -> Result<Result<u64, Refusal>, Fail> {
+    let before = shown(journal);
     match once(journal, call)? {
-        Err(Refusal::NoMemory) => once(journal, call),
+        Err(Refusal::NoMemory) => {
+            assert_eq!(rt; shown(journal), before);
+            once(journal, call)
+        }
         told => Ok(told),
     }
 }
@@ -68,7 +87,7 @@ fn played(rt: &impl Abort, alloc: Global, limits: Limits, script: Script) -> Res
 {
     let mut journal = Journal::new(alloc, limits);
     for (call, told) in script {
-        assert_eq!(rt; answer(&mut journal, *call)?, *told);
+        assert_eq!(rt; answer(rt, &mut journal, *call)?, *told);
     }
     Ok(journal)
 }
@@ -77,7 +96,7 @@ fn played(rt: &impl Abort, alloc: Global, limits: Limits, script: Script) -> Res
 fn after(rt: &impl Abort, alloc: Global, calls: &[Call]) -> Result<Journal, Fail> {
     let mut journal = Journal::new(alloc, MANY);
     for call in calls {
-        assert!(rt; answer(&mut journal, *call)?.is_ok());
+        assert!(rt; answer(rt, &mut journal, *call)?.is_ok());
     }
     Ok(journal)
 }
