@@ -18,4 +18,6 @@ pub use line::{Line, LineFault, LineReader, read_line};
 pub use parity::remainder;
 
 #[cfg(test)]
+mod byte_tests;
+#[cfg(test)]
 mod tests;
