@@ -361,3 +361,27 @@ fn a_book_of_512_aircraft_is_made(rt: HostRuntime) -> Result<(), Fail> {
     assert_eq!(rt; book.now(), 5);
     Ok(())
 }
+
+// An all-call reply of 4848D6, whose low eleven bits are those of 4840D6, and one of 400000, below both.
+const SAME_LOW_BITS: &[u8] = &[0x5D, 0x48, 0x48, 0xD6, 0x88, 0x18, 0x0F];
+
+const BELOW: &[u8] = &[0x5D, 0x40, 0x00, 0x00, 0xEE, 0x1F, 0x40];
+
+// Heard twice, 4840D6 stands first; 400000 then comes before it, and 4848D6 has its hint.
+#[test]
+fn hints_that_are_out_of_date(rt: HostRuntime) -> Result<(), Fail> {
+    let calls = [
+        Hear(KLM1023),
+        Hear(KLM1023),
+        Hear(BELOW),
+        Hear(SAME_LOW_BITS),
+        Hear(SAME_LOW_BITS),
+        Hear(KLM1023),
+    ];
+    let book: Book<4> = compare(&rt, rt.alloc(), &calls)?;
+    let row = book.get(0x4840D6).ok_or("no aircraft")?;
+    assert_eq!(rt; row.address, 0x4840D6);
+    assert!(rt; row.callsign.is_some());
+    assert_eq!(rt; book.len(), 3);
+    Ok(())
+}
