@@ -10,13 +10,13 @@ use Rattle.station_book.specs.Steps.{sighting_of}
 use Rattle.station_book.specs.declared.steps.Step.{Step}
 use Rattle.station_book.specs.declared.steps.Step.TheVariants.{Heard}
 use Rattle.station_journal.specs.declared.Refusal.{Refusal}
-use Rattle.station_shared.specs.Ahead.{told_of, told_all, Tells, TakesFront}
+use Rattle.station_shared.specs.LinesAhead.{told_of, told_all, Tells, TakesFront}
 use Rattle.station_shared.specs.Calls.{heard, frame_in}
 use Rattle.station_shared.specs.Counting.{is_frame, is_mode_ac, is_blank}
 use Rattle.station_shared.specs.Drawing.{TakesBytes}
 use Rattle.station_shared.specs.Pump.{Pumps}
-use Rattle.station_shared.specs.declared.ahead.Told.{Told}
-use Rattle.station_shared.specs.declared.ahead.Told.TheVariants as Tolds
+use Rattle.station_shared.specs.declared.lines_ahead.LineAhead.{LineAhead}
+use Rattle.station_shared.specs.declared.lines_ahead.LineAhead.TheVariants as Kinds
 use Rattle.station_shared.specs.declared.command.Command.{Command}
 use Rattle.station_shared.specs.declared.command.Command.TheVariants.{Tick, Show, Line as Received}
 use Rattle.station_shared.specs.declared.command.CommandFault.{CommandFault}
@@ -26,13 +26,13 @@ use Rattle.station_shared.proofs.PumpLemmas.{no_tick, no_show}
 
 -- ---- what was told
 
-pub Tells-then : (x y z : List Told) (cs ds : List Cut) (r : Result (Unit {0}) AllocError) → Tells x cs (Ok tt) y → Tells y ds r z → Tells x (cs ++ ds) r z
+pub Tells-then : (x y z : List LineAhead) (cs ds : List Cut) (r : Result (Unit {0}) AllocError) → Tells x cs (Ok tt) y → Tells y ds r z → Tells x (cs ++ ds) r z
 Tells-then x y z cs ds r p q = q ∙ ap (λ l. l ++ told_all ds) p ∙ append_assoc x (told_all cs) (told_all ds) ∙ ap (λ l. x ++ l) (sym (map-append (λ (line : Cut). told_of (heard line)) cs ds))
 
-pub Tells-none : (x : List Told) → Tells x [] (Ok tt) x
+pub Tells-none : (x : List LineAhead) → Tells x [] (Ok tt) x
 Tells-none x = sym (append-nil x)
 
-pub told_frame : (r : Result Command CommandFault) (frame : List ℕ) (s : Step) → Tolds.Frame frame s ≡ told_of r → (r ≡ Ok (Received (Frame frame))) × (s ≡ Heard (sighting_of frame))
+pub told_frame : (r : Result Command CommandFault) (frame : List ℕ) (s : Step) → Kinds.Frame frame s ≡ told_of r → (r ≡ Ok (Received (Frame frame))) × (s ≡ Heard (sighting_of frame))
 told_frame (Ok (Tick at)) frame s e = absurd (cc)
 told_frame (Ok Show) frame s e = absurd (cc)
 told_frame (Ok (Received (Frame f))) frame s e = (cc, cc)
@@ -40,7 +40,7 @@ told_frame (Ok (Received ModeAc)) frame s e = absurd (cc)
 told_frame (Ok (Received Blank)) frame s e = absurd (cc)
 told_frame (Err fault) frame s e = absurd (cc)
 
-pub told_mode_ac : (r : Result Command CommandFault) → Tolds.ModeAc ≡ told_of r → r ≡ Ok (Received ModeAc)
+pub told_mode_ac : (r : Result Command CommandFault) → Kinds.ModeAc ≡ told_of r → r ≡ Ok (Received ModeAc)
 told_mode_ac (Ok (Tick at)) e = cc
 told_mode_ac (Ok Show) e = cc
 told_mode_ac (Ok (Received (Frame f))) e = cc
@@ -48,7 +48,7 @@ told_mode_ac (Ok (Received ModeAc)) e = refl
 told_mode_ac (Ok (Received Blank)) e = cc
 told_mode_ac (Err fault) e = cc
 
-pub told_blank : (r : Result Command CommandFault) → Tolds.Blank ≡ told_of r → r ≡ Ok (Received Blank)
+pub told_blank : (r : Result Command CommandFault) → Kinds.Blank ≡ told_of r → r ≡ Ok (Received Blank)
 told_blank (Ok (Tick at)) e = cc
 told_blank (Ok Show) e = cc
 told_blank (Ok (Received (Frame f))) e = cc
@@ -63,7 +63,7 @@ pub record IsQuiet (r : Result Command CommandFault) : Type 0 where
   pub mode_acs : is_mode_ac r ≡ false
   pub blanks : is_blank r ≡ false
 
-pub told_fault : (r : Result Command CommandFault) → Tolds.Fault ≡ told_of r → IsQuiet r
+pub told_fault : (r : Result Command CommandFault) → Kinds.Fault ≡ told_of r → IsQuiet r
 told_fault (Ok (Tick at)) e = record { no_frame = refl; frames = refl; mode_acs = refl; blanks = refl }
 told_fault (Ok Show) e = record { no_frame = refl; frames = refl; mode_acs = refl; blanks = refl }
 told_fault (Ok (Received (Frame f))) e = absurd (cc)
@@ -93,7 +93,7 @@ Pumps-quiet gives x line s t quiet lines frames ticks shows mode_ac blank accept
 -- ---- lines of some bytes
 
 module _ {X E : Type 0} (Took : X → List Cut → Result (Unit {0}) E → X → Type 0) where
-  pub front_taken : (b piece : List ℕ) (held : Cut) (told : List Told) (y z : X) (r : Result (Unit {0}) E) (read : TakesBytes Tells b piece held [] told (Ok tt)) → TakesFront Took read.lines y z r → TakesBytes Took b piece held y z r
+  pub front_taken : (b piece : List ℕ) (held : Cut) (told : List LineAhead) (y z : X) (r : Result (Unit {0}) E) (read : TakesBytes Tells b piece held [] told (Ok tt)) → TakesFront Took read.lines y z r → TakesBytes Took b piece held y z r
   front_taken b piece held told y z (Ok done) read front = record {
     lines = front.lines;
     left_out = front.left_out;
@@ -140,12 +140,12 @@ module _ {X E : Type 0} (Took : X → List Cut → Result (Unit {0}) E → X →
 
 -- ---- one line of those that were told
 
-pub told_line : (ahead : List Told) (lines : List Cut) (i : ℕ) (item : Told) → ahead ≡ told_all lines → i < length ahead → item ≡ get_or ahead i item → item ≡ told_of (heard (get_or lines i TooLong))
+pub told_line : (ahead : List LineAhead) (lines : List Cut) (i : ℕ) (item : LineAhead) → ahead ≡ told_all lines → i < length ahead → item ≡ get_or ahead i item → item ≡ told_of (heard (get_or lines i TooLong))
 told_line ahead lines i item same within is =
     let many = ap length same ∙ length-map lines (λ (line : Cut). told_of (heard line)) in
     is ∙ ap (λ l. get_or l i item) same ∙ get_or-map (λ (line : Cut). told_of (heard line)) lines i TooLong item (omega (arith, within, many))
 
-pub line_more : (ahead : List Told) (lines : List Cut) (i : ℕ) → ahead ≡ told_all lines → i < length ahead → take (i + 1) lines ≡ take i lines ++ get_or lines i TooLong ∷ []
+pub line_more : (ahead : List LineAhead) (lines : List Cut) (i : ℕ) → ahead ≡ told_all lines → i < length ahead → take (i + 1) lines ≡ take i lines ++ get_or lines i TooLong ∷ []
 line_more ahead lines i same within =
     let many = ap length same ∙ length-map lines (λ (line : Cut). told_of (heard line)) in
     take_more lines i TooLong (omega (arith, within, many))

@@ -1,4 +1,3 @@
-pub mod Ahead
 pub mod Calls
 pub mod Closing
 pub mod Command
@@ -9,6 +8,7 @@ pub mod DeskPump
 pub mod Drawing
 pub mod Feeds
 pub mod History
+pub mod LinesAhead
 pub mod Pump
 pub mod Replay
 pub mod Seats

@@ -1,7 +1,6 @@
 //! The station: a desk that keeps the journal, and what feeds it.
 #![tactic(auto)]
 
-mod ahead;
 pub mod close;
 pub mod command;
 pub mod desk;
@@ -11,8 +10,9 @@ mod fakes;
 pub mod feed;
 pub mod from_read;
 mod gate;
-mod held;
+mod held_pump;
 mod history;
+mod lines_ahead;
 pub mod look;
 pub mod names;
 pub mod places;

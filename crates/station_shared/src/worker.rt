@@ -6,7 +6,7 @@ ghost use Rattle.station_shared.specs.Workers.{Worked};
 #[cfg(test)]
 mod tests;
 
-use crate::held::pump_held;
+use crate::held_pump::pump_held;
 use crate::names::Total;
 use crate::pumping::PumpFault;
 use crate::rule::Published;

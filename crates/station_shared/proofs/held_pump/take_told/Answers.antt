@@ -3,7 +3,7 @@ use Rattle.station_shared.specs.Calls.{heard}
 use Rattle.station_shared.specs.Workers.{SeatSteps}
 use Rattle.station_shared.proofs.AheadLemmas.{told_frame, told_fault, Pumps-quiet}
 use Rattle.station_shared.proofs.PumpLemmas.{Pumps-frame}
-use Rattle.station_shared.proofs.held.take_told.Goals as goal
+use Rattle.station_shared.proofs.held_pump.take_told.Goals as goal
 
 pub returns-in-Frame : goal.returns-in-Frame
 returns-in-Frame g c line h =

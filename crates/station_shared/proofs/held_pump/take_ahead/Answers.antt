@@ -3,13 +3,13 @@ use Rattle.std.proofs.lemmas.List.{length-map}
 use Rattle.std.proofs.lemmas.Result.{err_from_is_err_and}
 use Rattle.modes_frame.specs.declared.cutter.Cut.{Cut}
 use Rattle.modes_frame.specs.declared.cutter.Cut.TheVariants.{TooLong}
-use Rattle.station_shared.specs.Ahead.{told_of}
+use Rattle.station_shared.specs.LinesAhead.{told_of}
 use Rattle.station_shared.specs.Calls.{heard}
 use Rattle.station_shared.specs.Pump.{Pumps}
 use Rattle.station_shared.specs.Workers.{SeatSteps}
 use Rattle.station_shared.proofs.AheadLemmas.{told_line, line_more}
 use Rattle.station_shared.proofs.PumpLemmas.{Pumps-then}
-use Rattle.station_shared.proofs.held.take_ahead.Goals as goal
+use Rattle.station_shared.proofs.held_pump.take_ahead.Goals as goal
 
 pub take_told-requires : goal.take_told-requires
 take_told-requires g c =

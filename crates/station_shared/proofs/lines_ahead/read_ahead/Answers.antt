@@ -2,10 +2,10 @@ use Rattle.std.proofs.Common.{◌+◌, ◌++◌, ◌∷◌, [], ◌∙◌, ap, t
 use Rattle.std.specs.Option.{option_to_list}
 use Rattle.std.proofs.lemmas.List.{take_more_set}
 use Rattle.modes_frame.specs.Lines.{ended_cuts}
-use Rattle.station_shared.specs.Ahead.{Tells}
+use Rattle.station_shared.specs.LinesAhead.{Tells}
 use Rattle.station_shared.proofs.AheadLemmas.{Tells-then}
 use Rattle.station_shared.proofs.DrawingLemmas.{next_piece, TakesBytes-quiet, TakesBytes-line}
-use Rattle.station_shared.proofs.ahead.read_ahead.Goals as goal
+use Rattle.station_shared.proofs.lines_ahead.read_ahead.Goals as goal
 
 pub loop-at-preserved-in-Some : goal.loop-at-preserved-in-Some
 loop-at-preserved-in-Some c =

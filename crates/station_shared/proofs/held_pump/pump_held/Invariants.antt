@@ -3,7 +3,7 @@ use Rattle.station_shared.specs.Source.{counted_up}
 use Rattle.station_shared.specs.Pump.{Pumps}
 use Rattle.station_shared.specs.Workers.{SeatSteps}
 use Rattle.station_shared.proofs.DrawingLemmas.{GivenSoFar}
-use Rattle.station_shared.proofs.held.pump_held.Given as goal
+use Rattle.station_shared.proofs.held_pump.pump_held.Given as goal
 
 -- the lines that the bytes so far ended were taken, and no read failed or found the end
 abbrev pub invariant-loop-turn : goal.invariant-loop-turn

@@ -8,7 +8,7 @@ use Rattle.station_shared.proofs.EndLemmas.{at_end, not_at_end, Consumes_none}
 use Rattle.station_shared.proofs.PumpLemmas.{Pumps-then, Pumps-none, PumpsAll-read, PumpsAll-turns, PumpsAll-stop, PumpsAll-end}
 use Rattle.station_shared.proofs.DrawingLemmas.{GivenSoFar-none, GivenSoFar-piece, counted_up-more, Taken-read, Taken-turns, Taken-stop}
 use Rattle.station_shared.proofs.SeatRuns.{Works-all}
-use Rattle.station_shared.proofs.held.pump_held.Goals as goal
+use Rattle.station_shared.proofs.held_pump.pump_held.Goals as goal
 
 pub loop-turn-init : goal.loop-turn-init
 loop-turn-init g c =

@@ -6,27 +6,27 @@ use Rattle.modes_frame.specs.declared.line.Line.TheVariants.{Frame, ModeAc, Blan
 use Rattle.station_book.specs.Steps.{sighting_of}
 use Rattle.station_book.specs.declared.steps.Step.TheVariants.{Heard}
 use Rattle.station_shared.specs.Calls.{heard}
-use Rattle.station_shared.specs.declared.ahead.Told.{Told}
-use Rattle.station_shared.specs.declared.ahead.Told.TheVariants as Tolds
+use Rattle.station_shared.specs.declared.lines_ahead.LineAhead.{LineAhead}
+use Rattle.station_shared.specs.declared.lines_ahead.LineAhead.TheVariants as Kinds
 use Rattle.station_shared.specs.declared.command.Command.{Command}
 use Rattle.station_shared.specs.declared.command.Command.TheVariants.{Tick, Show, Line as Received}
 use Rattle.station_shared.specs.declared.command.CommandFault.{CommandFault}
 
 -- what a line says to a pump, its frame decoded; a fault has no name
-abbrev pub told_of : Result Command CommandFault → Told
-told_of (Ok (Tick at)) = Tolds.Fault
-told_of (Ok Show) = Tolds.Fault
-told_of (Ok (Received (Frame frame))) = Tolds.Frame frame (Heard (sighting_of frame))
-told_of (Ok (Received ModeAc)) = Tolds.ModeAc
-told_of (Ok (Received Blank)) = Tolds.Blank
-told_of (Err fault) = Tolds.Fault
+abbrev pub told_of : Result Command CommandFault → LineAhead
+told_of (Ok (Tick at)) = Kinds.Fault
+told_of (Ok Show) = Kinds.Fault
+told_of (Ok (Received (Frame frame))) = Kinds.Frame frame (Heard (sighting_of frame))
+told_of (Ok (Received ModeAc)) = Kinds.ModeAc
+told_of (Ok (Received Blank)) = Kinds.Blank
+told_of (Err fault) = Kinds.Fault
 
 -- the same of each of these lines
-abbrev pub told_all : List Cut → List Told
+abbrev pub told_all : List Cut → List LineAhead
 told_all lines = map (λ (line : Cut). told_of (heard line)) lines
 
 -- these lines are told after those before them
-abbrev pub Tells : List Told → List Cut → Result (Unit {0}) AllocError → List Told → Type 0
+abbrev pub Tells : List LineAhead → List Cut → Result (Unit {0}) AllocError → List LineAhead → Type 0
 Tells old lines result new = new ≡ old ++ told_all lines
 
 -- of these lines a front was taken, as Took says, or all

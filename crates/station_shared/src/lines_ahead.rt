@@ -3,18 +3,18 @@ ghost use Rattle.std.specs.Prelude.{◌≡◌, ℕ, ◌<◌, ◌≤◌, List, []
 ghost use Rattle.modes_frame.specs.Lines.{pending};
 ghost use Rattle.station_book.specs.Steps.{sighting_of};
 ghost use Rattle.station_book.specs.declared.steps.Step.TheVariants as Steps;
-ghost use Rattle.station_shared.specs.Ahead.{Tells, told_of};
+ghost use Rattle.station_shared.specs.LinesAhead.{Tells, told_of};
 ghost use Rattle.station_shared.specs.Calls.{heard};
 ghost use Rattle.station_shared.specs.Drawing.{TakesBytes};
-ghost use Rattle.station_shared.specs.declared.ahead.Told.TheVariants as Tolds;
+ghost use Rattle.station_shared.specs.declared.lines_ahead.LineAhead.TheVariants as Kinds;
 
 use crate::pumping::read_cut;
 use modes_frame::{Cut, Cutter, Frame, Line, LineReader};
 use station_book::Step;
 
-/// What a line says to a pump. Its frame is decoded.
+/// What a line says to a pump, read before the lock is taken. Its frame is decoded.
 #[derive(Clone, Copy, Debug, Default)]
-pub(crate) enum Told {
+pub(crate) enum LineAhead {
     /// A frame, and what it decodes to.
     Frame(Frame, Step),
     /// A mode A/C reply or the heartbeat.
@@ -27,34 +27,35 @@ pub(crate) enum Told {
 }
 
 // A frame, with what it decodes to.
-fn decoded(frame: Frame) -> Told
-    ensures { result ≡ Tolds.Frame frame (Steps.Heard (sighting_of frame)) }
+fn decoded(frame: Frame) -> LineAhead
+    ensures { result ≡ Kinds.Frame frame (Steps.Heard (sighting_of frame)) }
 {
     let step = Step::heard(&frame);
-    Told::Frame(frame, step)
+    LineAhead::Frame(frame, step)
 }
 
 /// What a line says, as it was cut.
-pub(crate) fn tell(lines: &LineReader, cut: &Cut) -> Told
+pub(crate) fn tell(lines: &LineReader, cut: &Cut) -> LineAhead
     ensures { result ≡ told_of (heard cut.now) }
 {
     let line = match read_cut(lines, cut) {
         Ok(line) => line,
-        Err(_) => return Told::Fault,
+        Err(_) => return LineAhead::Fault,
     };
     match line {
         Line::Frame(frame) => decoded(frame),
-        Line::ModeAc => Told::ModeAc,
-        Line::Blank => Told::Blank,
+        Line::ModeAc => LineAhead::ModeAc,
+        Line::Blank => LineAhead::Blank,
     }
 }
 
-/// Tells the lines that these bytes end, until there is no room for more. Answers how many bytes it took, and how many lines it told.
+/// Tells the lines that these bytes end, until there is no room for more. Answers how many bytes it took, and how many
+/// lines it told.
 pub(crate) fn read_ahead(
     cutter: &mut Cutter,
     lines: &LineReader,
     bytes: &[u8],
-    ahead: &mut [Told],
+    ahead: &mut [LineAhead],
 ) -> (usize, usize)
     requires room { 0 < length ahead.old }
     ensures within { result.0 ≤ length bytes.now }

@@ -1,9 +1,9 @@
 use Rattle.std.proofs.Common.{◌≡◌, ◌+◌, List, take, Ok}
 use Rattle.modes_frame.specs.declared.cutter.Cut.{Cut}
-use Rattle.station_shared.specs.Ahead.{told_all}
+use Rattle.station_shared.specs.LinesAhead.{told_all}
 use Rattle.station_shared.specs.Pump.{Pumps}
 use Rattle.station_shared.specs.Workers.{SeatSteps}
-use Rattle.station_shared.proofs.held.take_ahead.Given as goal
+use Rattle.station_shared.proofs.held_pump.take_ahead.Given as goal
 
 -- the lines so far were taken
 abbrev pub invariant-loop-told : goal.invariant-loop-told
