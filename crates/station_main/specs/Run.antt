@@ -1,5 +1,6 @@
 -- What the job `run` leaves.
-use Rattle.std.specs.Prelude.{◌≡◌, ℕ, ◌<◌, Bool, true, false, List, [], ◌∷◌, ◌++◌, Option, IfSome, Result, length, slice_index_or, is_err, fold, max}
+use Rattle.std.specs.Prelude.{◌≡◌, ℕ, ◌<◌, Bool, true, false, List, [], ◌∷◌, ◌++◌, Option, IfSome, Result, length, slice_index_or, is_err, fold, max, ⊤}
+use Rattle.std.specs.List.{flat_map}
 use Rattle.station_journal.specs.declared.Limits.{Limits}
 use Rattle.station_report.specs.declared.sinks.WriteFault.{WriteFault}
 use Rattle.station_shared.specs.Drawing.{Drawn}
@@ -13,6 +14,9 @@ use Rattle.station_main.specs.Output.{GivesBack, Printed}
 use Rattle.station_main.specs.Reporter.{KeepsTime, Round, looks_of}
 use Rattle.station_main.specs.Status.{answer_status, fault_status}
 use Rattle.station_main.specs.Tables.{PrintsAtMost, TakesTexts}
+use Rattle.station_main.specs.Telling.{Tells, Told, answer_lines, fault_line, output_lines}
+use Rattle.station_main.specs.declared.faults.Fault.{Fault}
+use Rattle.station_main.specs.declared.faults.Fault.TheVariants as fault
 
 -- ---- the receivers
 
@@ -67,10 +71,27 @@ pub record Leaves (limits : Limits) (every : ℕ) (before after : Option (List �
   pub gives : GivesBack between after has_failed
   pub told : write_failed ≡ true → has_failed ≡ true
 
--- the status is that of the answers, one for each input, and of the output
-pub record Ends (limits : Limits) (every inputs : ℕ) (before after : Option (List ℕ)) (status : ℕ) : Type 0 where
+-- what is told are the answers, one for each input in their order, and at last a failed write; the status is that of both
+pub record Ends (limits : Limits) (every inputs : ℕ) (before after : Option (List ℕ)) (err_old err_new : Told) (status : ℕ) : Type 0 where
   pub has_failed : Bool
   pub output : Leaves limits every before after has_failed
   pub answers : List (Option (Result Tally PumpFault))
   pub many : length answers ≡ inputs
+  pub told : Tells err_old err_new (flat_map answer_lines answers ++ output_lines has_failed)
   pub status_is : status ≡ max (fold (λ worst answer. max worst (answer_status answer)) 0 answers) (fault_status has_failed)
+
+-- a fault that comes before anything is read
+abbrev pub IsEarly : Fault → Type 0
+IsEarly fault.NoMemory = ⊤
+IsEarly (fault.CannotOpen path) = ⊤
+IsEarly fault.ThreadNotStarted = ⊤
+IsEarly fault.Read = ⊥
+IsEarly fault.Write = ⊥
+IsEarly fault.TooManyReads = ⊥
+
+-- only such a fault is told
+pub record EndsEarly (err_old err_new : Told) (status : ℕ) : Type 0 where
+  pub fault : Fault
+  pub early : IsEarly fault
+  pub told : Tells err_old err_new (fault_line fault)
+  pub status_is : status ≡ 1

@@ -1,6 +1,8 @@
 // What the program tells on standard error.
-ghost use Rattle.std.specs.Prelude.{◌≡◌};
+ghost use Rattle.std.specs.Prelude.{◌≡◌, ◌++◌};
+ghost use Rattle.station_main.specs.Telling.{Tells, fault_line, tally_line, told_of};
 
+use crate::standard_error::StandardError;
 use station_shared::Tally;
 use std::fmt::{self, Display, Formatter};
 use std::io::Write;
@@ -18,6 +20,11 @@ pub enum Fault<'a> {
 }
 
 impl Display for Fault<'_> {
+    ghost use Rattle.std.specs.Prelude.{Some};
+    ghost use Rattle.station_main.specs.Telling.{fault_words};
+
+    ghost output = { λ fault. Some (fault_words fault) };
+
     fn fmt<W: fmt::Write>(&self, f: &mut Formatter<W>) -> fmt::Result {
         match self {
             Fault::Read => f.write_str("read failed"),
@@ -31,15 +38,28 @@ impl Display for Fault<'_> {
 }
 
 /// Writes the line of a fault, and answers its status.
-pub fn tell<E: Write>(err: &mut E, fault: Fault<'_>) -> u8
-    ensures { result ≡ 1 }
+pub fn tell<E: Write>(err: &mut StandardError<E>, fault: Fault<'_>) -> u8
+    ensures status { result ≡ 1 }
+    ensures told { Tells (told_of E.contents err.old) (told_of E.contents err.new) (fault_line fault.entry) }
 {
-    let _ = writeln!(err, "groundstation: {fault}");
+    err.line(format_args!("groundstation: {fault}"));
     1
 }
 
+/// Writes what was counted, and a fault directly after it. Answers the status.
+pub fn tell_after<E: Write>(err: &mut StandardError<E>, tally: &Tally, fault: Fault<'_>) -> u8
+    ensures status { result ≡ 1 }
+    ensures told { Tells (told_of E.contents err.old) (told_of E.contents err.new)
+        (tally_line tally.now ++ fault_line fault.entry) }
+{
+    write_tally(err, tally);
+    tell(err, fault)
+}
+
 /// Writes what was counted as one line.
-pub fn write_tally<E: Write>(err: &mut E, tally: &Tally) {
+pub fn write_tally<E: Write>(err: &mut StandardError<E>, tally: &Tally)
+    ensures { Tells (told_of E.contents err.old) (told_of E.contents err.new) (tally_line tally.now) }
+{
     let Tally {
         lines,
         frames,
@@ -51,8 +71,7 @@ pub fn write_tally<E: Write>(err: &mut E, tally: &Tally) {
         accepted,
         refused,
     } = *tally;
-    let _ = writeln!(
-        err,
+    err.line(format_args!(
         "lines {lines} frames {frames} ticks {ticks} shows {shows} blank {blank} modeac {mode_ac} faults {faults} accepted {accepted} refused {refused}"
-    );
+    ));
 }

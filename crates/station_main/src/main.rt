@@ -9,12 +9,14 @@ mod replay_job;
 mod reporter;
 mod run_job;
 mod schedule;
+mod standard_error;
 #[cfg(test)]
 mod tests;
 mod words;
 
 use faults::{Fault, tell};
 use program::program;
+use standard_error::StandardError;
 use std::alloc::{AllocError, Global};
 use std::env;
 use std::io::{ErrorKind, Write};
@@ -41,8 +43,8 @@ fn main(rt: HostRuntime) -> ExitCode {
     ExitCode::from(status)
 }
 
-fn no_memory<E: Write + Drop>(mut err: E) -> ExitCode {
-    ExitCode::from(tell(&mut err, Fault::NoMemory))
+fn no_memory<E: Write + Drop>(err: E) -> ExitCode {
+    ExitCode::from(tell(&mut StandardError::new(err), Fault::NoMemory))
 }
 
 fn not_text<E: Write + Drop>(mut err: E) -> ExitCode {

@@ -2,8 +2,10 @@
 ghost use Rattle.std.specs.Prelude.{◌≡◌, None, true};
 ghost use Rattle.std.specs.Io.Buffered.{writer_contents};
 ghost use Rattle.station_main.specs.Output.{GivesBack};
+ghost use Rattle.station_main.specs.Telling.{Tells, fault_line, told_of};
 
 use crate::faults::{Fault, tell};
+use crate::standard_error::StandardError;
 use std::io::{BufWriter, Write};
 
 /// What a job leaves: the status, and its output, which is gone where nothing was read.
@@ -21,9 +23,10 @@ pub struct Written<O> {
 }
 
 /// Tells a fault that came before anything was read.
-pub fn without_output<O, E: Write>(err: &mut E, fault: Fault<'_>) -> Ran<O>
+pub fn without_output<O, E: Write>(err: &mut StandardError<E>, fault: Fault<'_>) -> Ran<O>
     ensures status { result.status ≡ 1 }
     ensures out { result.out ≡ None }
+    ensures told { Tells (told_of E.contents err.old) (told_of E.contents err.new) (fault_line fault.entry) }
 {
     Ran {
         status: tell(err, fault),

@@ -1,12 +1,16 @@
 // The whole program, over any streams.
 ghost use Rattle.clap.specs.Words.{kind_of, takes};
 ghost use Rattle.clap.specs.declared.error.kind.ErrorKind.TheVariants.{DisplayHelp, DisplayVersion};
-ghost use Rattle.station_main.specs.Command.{station};
-ghost use Rattle.std.specs.Prelude.{◌≡◌, ◌≢◌, ◌≤◌, map, true};
+ghost use Rattle.station_main.specs.Command.{IsInRange, station};
+ghost use Rattle.station_main.specs.Jobs.{IsDone};
+ghost use Rattle.station_main.specs.Telling.{told_of};
+ghost use Rattle.std.specs.Prelude.{◌≡◌, ◌≢◌, ◌≤◌, map, option_map, true};
 
 use crate::faults::{Fault, tell};
+use crate::output::Ran;
 use crate::replay_job::replay_input;
 use crate::run_job::run_paths;
+use crate::standard_error::StandardError;
 use crate::words::{Job, WordsFault, read_words};
 use std::alloc::Global;
 use std::fs::File;
@@ -23,15 +27,33 @@ pub fn program<
     I: Read + Drop,
     O: Write + Send + Drop,
     E: Write + Drop,
->(rt: &R, alloc: Global, words: &[&str], input: I, out: O, mut err: E) -> u8
+>(rt: &R, alloc: Global, words: &[&str], input: I, out: O, err: E) -> u8
     ensures status { result ≤ 2 }
     ensures taken { takes station (map (λ w. w.now) words.now) ≡ true → result ≤ 1 }
 {
     match read_words(alloc, words) {
-        Ok(Job::Replay) => replay_input(rt, alloc, input, out, &mut err).status,
-        Ok(Job::Run { every, paths }) => run_paths(rt, alloc, every, &paths, out, &mut err).status,
-        Err(WordsFault::NoMemory) => tell(&mut err, Fault::NoMemory),
+        Ok(job) => do_job(rt, alloc, job, input, out, &mut StandardError::new(err)).status,
+        Err(WordsFault::NoMemory) => tell(&mut StandardError::new(err), Fault::NoMemory),
         Err(WordsFault::Clap(error)) => write_answer(&error, out, err),
+    }
+}
+
+// Does what the words ask for.
+fn do_job<
+    R: Threads + Wait + Clock + Files<File = File> + Sync,
+    I: Read + Drop,
+    O: Write + Send + Drop,
+    E: Write,
+>(rt: &R, alloc: Global, job: Job, input: I, out: O, err: &mut StandardError<E>) -> Ran<O>
+    requires { IsInRange job }
+    ensures most { result.status ≤ 1 }
+    ensures done { IsDone job (I.remaining input) (O.Write.contents out)
+        (option_map (λ left. O.Write.contents left) result.out)
+        (told_of E.contents err.old) (told_of E.contents err.new) result.status }
+{
+    match job {
+        Job::Replay => replay_input(rt, alloc, input, out, err),
+        Job::Run { every, paths } => run_paths(rt, alloc, every, &paths, out, err),
     }
 }
 

@@ -4,11 +4,14 @@ ghost use Rattle.std.specs.Io.Buffered.{writer_contents};
 ghost use Rattle.station_main.specs.Limits.{program_limits};
 ghost use Rattle.station_main.specs.Output.{GivesBack};
 ghost use Rattle.station_main.specs.Replay.{EndsReplay};
+ghost use Rattle.station_main.specs.Run.{EndsEarly};
 ghost use Rattle.station_main.specs.Status.{fault_status, status_of};
+ghost use Rattle.station_main.specs.Telling.{Tells, replay_lines, told_of};
 
-use crate::faults::{Fault, tell, write_tally};
+use crate::faults::{Fault, tell_after, write_tally};
 use crate::limits::{AIRCRAFT, LIMITS, TURNS};
 use crate::output::{Ran, Written, give_up, unbuffered, without_output};
+use crate::standard_error::StandardError;
 use station_report::ToWrite;
 use station_shared::{Desk, FromRead, ReplayFault, Tally, replay};
 use std::alloc::Global;
@@ -22,12 +25,14 @@ pub fn replay_input<R: Wait, I: Read + Drop, O: Write + Drop, E: Write>(
     alloc: Global,
     input: I,
     out: O,
-    err: &mut E,
+    err: &mut StandardError<E>,
 ) -> Ran<O>
     ensures most { result.status ≤ 1 }
-    ensures gone { result.out ≡ None → result.status ≡ 1 }
+    ensures gone { result.out ≡ None →
+        EndsEarly (told_of E.contents err.old) (told_of E.contents err.new) result.status }
     ensures ended { IfSome result.out (λ left. EndsReplay program_limits
-        (I.remaining input) (O.Write.contents out) (O.Write.contents left) result.status) }
+        (I.remaining input) (O.Write.contents out) (O.Write.contents left)
+        (told_of E.contents err.old) (told_of E.contents err.new) result.status) }
 {
     let (Ok(input), Ok(output)) = (BufReader::new(alloc, input), BufWriter::new(alloc, out)) else {
         return without_output(err, Fault::NoMemory);
@@ -56,33 +61,27 @@ fn take_out<O: Write + Drop>(out: BufWriter<O>, answer: &Result<Tally, ReplayFau
     }
 }
 
-// Writes what was counted, and a fault if there is one: at last that of the output, if none was told. Answers the status.
-fn tell_end<E: Write>(err: &mut E, answer: &Result<Tally, ReplayFault>, has_failed: bool) -> u8
+// Writes what was counted, and a fault if there is one: that of the answer, or else that of the output. Answers the
+// status.
+fn tell_end<E: Write>(
+    err: &mut StandardError<E>,
+    answer: &Result<Tally, ReplayFault>,
+    has_failed: bool,
+) -> u8
     ensures value { result ≡ max (status_of answer.now) (fault_status has_failed) }
     ensures most { result ≤ 1 }
+    ensures told { Tells (told_of E.contents err.old) (told_of E.contents err.new)
+        (replay_lines answer.now has_failed) }
 {
-    let status = write_answer(err, answer);
-    if has_failed && status == 0 {
-        tell(err, Fault::Write)
-    } else {
-        status
-    }
-}
-
-fn write_answer<E: Write>(err: &mut E, answer: &Result<Tally, ReplayFault>) -> u8
-    ensures value { result ≡ status_of answer.now }
-    ensures most { result ≤ 1 }
-{
-    let (tally, fault) = match answer {
+    match answer {
+        Ok(tally) if has_failed => tell_after(err, tally, Fault::Write),
         Ok(tally) => {
             write_tally(err, tally);
-            return 0;
+            0
         }
-        Err(ReplayFault::Read(tally)) => (tally, Fault::Read),
-        Err(ReplayFault::Write(tally)) => (tally, Fault::Write),
-        Err(ReplayFault::TooManyTurns(tally)) => (tally, Fault::TooManyReads),
-        Err(ReplayFault::NoMemory(tally)) => (tally, Fault::NoMemory),
-    };
-    write_tally(err, tally);
-    tell(err, fault)
+        Err(ReplayFault::Read(tally)) => tell_after(err, tally, Fault::Read),
+        Err(ReplayFault::Write(tally)) => tell_after(err, tally, Fault::Write),
+        Err(ReplayFault::TooManyTurns(tally)) => tell_after(err, tally, Fault::TooManyReads),
+        Err(ReplayFault::NoMemory(tally)) => tell_after(err, tally, Fault::NoMemory),
+    }
 }

@@ -1,15 +1,18 @@
 // The job `run`.
-ghost use Rattle.std.specs.Prelude.{◌≡◌, ◌+◌, ◌≤◌, All, Bool, IfOk, IfSome, None, Some, fold, is_some, length, max, true};
+ghost use Rattle.std.specs.Prelude.{◌≡◌, ◌+◌, ◌≤◌, ◌⊎◌, ◌++◌, All, IfErr, IfOk, IfSome, None, fold, is_some, length, max, true};
 ghost use Rattle.station_main.specs.Limits.{program_limits};
 ghost use Rattle.station_main.specs.Output.{buffered_of, sink_of};
 ghost use Rattle.station_main.specs.Reporter.{ReportsByAClock};
-ghost use Rattle.station_main.specs.Run.{Ends, HaveWorked, PrintsLast};
+ghost use Rattle.station_main.specs.Run.{Ends, EndsEarly, HaveWorked, IsEarly, PrintsLast};
 ghost use Rattle.station_main.specs.Status.{answer_status, fault_status, status_of};
+ghost use Rattle.station_main.specs.Telling.{Tells, answer_lines, output_lines, pump_lines, told_of};
+ghost use Rattle.std.specs.List.{flat_map};
 
-use crate::faults::{Fault, tell, write_tally};
+use crate::faults::{Fault, tell, tell_after, write_tally};
 use crate::limits::{AIRCRAFT, LIMITS, TABLE_ROOM, TURNS};
 use crate::output::{Ran, Written, give_up, unbuffered, without_output};
 use crate::reporter::{Given, Reported, print_table, report};
+use crate::standard_error::StandardError;
 use station_journal::NoMemory;
 use station_report::{Sink, ToWrite};
 use station_shared::{
@@ -54,12 +57,21 @@ pub fn run_paths<
     R: Threads + Wait + Clock + Files<File = File> + Sync,
     O: Write + Send + Drop,
     E: Write,
->(rt: &R, alloc: Global, every: u32, paths: &Vec<String>, out: O, err: &mut E) -> Ran<O>
+>(
+    rt: &R,
+    alloc: Global,
+    every: u32,
+    paths: &Vec<String>,
+    out: O,
+    err: &mut StandardError<E>,
+) -> Ran<O>
     requires { length paths.now.items ≤ 8 }
     ensures most { result.status ≤ 1 }
-    ensures gone { result.out ≡ None → result.status ≡ 1 }
+    ensures gone { result.out ≡ None →
+        EndsEarly (told_of E.contents err.old) (told_of E.contents err.new) result.status }
     ensures ended { IfSome result.out (λ left. Ends program_limits every
-        (length paths.now.items) (O.contents out) (O.contents left) result.status) }
+        (length paths.now.items) (O.contents out) (O.contents left)
+        (told_of E.contents err.old) (told_of E.contents err.new) result.status) }
 {
     let inputs = match open_all(rt, alloc, paths) {
         Ok(inputs) => inputs,
@@ -88,7 +100,8 @@ fn open_all<'a, R: Files<File = File>>(
     alloc: Global,
     paths: &'a Vec<String>,
 ) -> Result<Vec<Input>, Fault<'a>>
-    ensures { IfOk result (λ inputs. length inputs.items ≡ length paths.now.items) }
+    ensures opened { IfOk result (λ inputs. length inputs.items ≡ length paths.now.items) }
+    ensures fault { IfErr result IsEarly }
 {
     let mut inputs = Vec::new(alloc);
     for path in paths {
@@ -101,11 +114,10 @@ fn open_all<'a, R: Files<File = File>>(
 }
 
 // Opens a path, with a buffer before it.
-fn open<'a, R: Files<File = File>>(
-    rt: &R,
-    alloc: Global,
-    path: &'a str,
-) -> Result<Input, Fault<'a>> {
+fn open<'a, R: Files<File = File>>(rt: &R, alloc: Global, path: &'a str) -> Result<Input, Fault<'a>>
+    ensures early { IfErr result IsEarly }
+    ensures fault { IfErr result (λ fault. (fault ≡ Fault.NoMemory) ⊎ (fault ≡ Fault.CannotOpen path.entry)) }
+{
     match File::open(rt, path).and_then(|file| BufReader::new(alloc, file)) {
         Ok(buffered) => Ok(FromRead::new(buffered)),
         Err(error) if error.kind() == ErrorKind::OutOfMemory => Err(Fault::NoMemory),
@@ -125,7 +137,7 @@ fn run_station<
     plan: Plan<O>,
     blank: Blank,
     places: Places<AIRCRAFT>,
-    err: &mut E,
+    err: &mut StandardError<E>,
 ) -> Ran<O>
     requires few { plan.seats ≤ 9 }
     requires inputs { plan.seats ≡ length plan.inputs.items + 1 }
@@ -134,9 +146,11 @@ fn run_station<
     requires history { places.history ≡ L.history }
     requires limits { L.limits ≡ program_limits }
     ensures most { result.status ≤ 1 }
-    ensures gone { result.out ≡ None → result.status ≡ 1 }
+    ensures gone { result.out ≡ None →
+        EndsEarly (told_of E.contents err.old) (told_of E.contents err.new) result.status }
     ensures ended { IfSome result.out (λ out. Ends L.limits plan.every (length plan.inputs.items)
-        (buffered_of O.contents plan.out).taken (O.contents out) result.status) }
+        (buffered_of O.contents plan.out).taken (O.contents out)
+        (told_of E.contents err.old) (told_of E.contents err.new) result.status) }
 {
     match Station::<AIRCRAFT, L>::new(rt, alloc, LIMITS, plan.seats, blank, places) {
         Ok((station, seats)) => {
@@ -160,13 +174,15 @@ fn run_seats<
     station: &Station<AIRCRAFT, L>,
     mut seats: Vec<Seat<AIRCRAFT, L>>,
     plan: Plan<O>,
-    err: &mut E,
+    err: &mut StandardError<E>,
 ) -> Ran<O>
     requires { length seats.items ≡ length plan.inputs.items + 1 }
     ensures most { result.status ≤ 1 }
-    ensures gone { result.out ≡ None → result.status ≡ 1 }
+    ensures gone { result.out ≡ None →
+        EndsEarly (told_of E.contents err.old) (told_of E.contents err.new) result.status }
     ensures ended { IfSome result.out (λ out. Ends L.limits plan.every (length plan.inputs.items)
-        (buffered_of O.contents plan.out).taken (O.contents out) result.status) }
+        (buffered_of O.contents plan.out).taken (O.contents out)
+        (told_of E.contents err.old) (told_of E.contents err.new) result.status) }
 {
     let Plan {
         every,
@@ -178,7 +194,13 @@ fn run_seats<
         return without_output(err, Fault::NoMemory);
     };
     match run_threads(rt, station, every, receivers, seat, out) {
-        Some((receivers, reported)) => tell_end(err, &receivers, reported),
+        Some((receivers, reported)) => {
+            let Written { out, has_failed } = print_last(reported);
+            Ran {
+                status: tell_end(err, &receivers, has_failed),
+                out: Some(out),
+            }
+        }
         None => without_output(err, Fault::ThreadNotStarted),
     }
 }
@@ -248,29 +270,6 @@ fn run_threads<L: Total + Send + Sync, R: Threads + Wait + Clock + Sync, S: Sink
     )
 }
 
-// Prints the last table, unless a write failed, and tells what each receiver counted, and at last a fault of writing.
-fn tell_end<L: Total, O: Write + Drop, E: Write>(
-    err: &mut E,
-    receivers: &Vec<Receiver<L>>,
-    reported: Ended<L, O>,
-) -> Ran<O>
-    requires answered { All (λ r. is_some r.answer ≡ true) receivers.now.items }
-    ensures most { result.status ≤ 1 }
-    ensures told { (out : O) × (has_failed : Bool) × (result.out ≡ Some out)
-        × PrintsLast L.limits reported.seat (buffered_of O.contents reported.out) reported.has_failed (O.contents out) has_failed
-        × (result.status ≡ max (fold (λ status r. max status (answer_status r.answer)) 0 receivers.now.items) (fault_status has_failed)) }
-{
-    let Written { out, has_failed } = print_last(reported);
-    let mut status = tell_answers(err, receivers);
-    if has_failed {
-        status = tell(err, Fault::Write);
-    }
-    Ran {
-        status,
-        out: Some(out),
-    }
-}
-
 // Prints the last table, unless a write failed, and takes the output out of its buffer.
 fn print_last<L: Total, O: Write + Drop>(reported: Ended<L, O>) -> Written<O>
     ensures { PrintsLast L.limits reported.seat (buffered_of O.contents reported.out) reported.has_failed
@@ -291,11 +290,33 @@ fn print_last<L: Total, O: Write + Drop>(reported: Ended<L, O>) -> Written<O>
     }
 }
 
+// Tells what each receiver counted, with a fault directly after it, and at last a fault of writing. Answers the status.
+fn tell_end<L: Total, E: Write>(
+    err: &mut StandardError<E>,
+    receivers: &Vec<Receiver<L>>,
+    has_failed: bool,
+) -> u8
+    requires answered { All (λ r. is_some r.answer ≡ true) receivers.now.items }
+    ensures value { result ≡ max (fold (λ status r. max status (answer_status r.answer)) 0 receivers.now.items)
+        (fault_status has_failed) }
+    ensures most { result ≤ 1 }
+    ensures told { Tells (told_of E.contents err.old) (told_of E.contents err.new)
+        (flat_map (λ r. answer_lines r.answer) receivers.now.items ++ output_lines has_failed) }
+{
+    let status = tell_answers(err, receivers);
+    if has_failed {
+        return tell(err, Fault::Write);
+    }
+    status
+}
+
 // Tells what each receiver counted, and a fault directly after it. Answers the status.
-fn tell_answers<L: Total, E: Write>(err: &mut E, receivers: &Vec<Receiver<L>>) -> u8
+fn tell_answers<L: Total, E: Write>(err: &mut StandardError<E>, receivers: &Vec<Receiver<L>>) -> u8
     requires answered { All (λ r. is_some r.answer ≡ true) receivers.now.items }
     ensures value { result ≡ fold (λ status r. max status (answer_status r.answer)) 0 receivers.now.items }
     ensures most { result ≤ 1 }
+    ensures told { Tells (told_of E.contents err.old) (told_of E.contents err.new)
+        (flat_map (λ r. answer_lines r.answer) receivers.now.items) }
 {
     let mut status = 0;
     for receiver in receivers {
@@ -307,19 +328,18 @@ fn tell_answers<L: Total, E: Write>(err: &mut E, receivers: &Vec<Receiver<L>>) -
     status
 }
 
-fn tell_answer<E: Write>(err: &mut E, answer: &Result<Tally, PumpFault>) -> u8
+fn tell_answer<E: Write>(err: &mut StandardError<E>, answer: &Result<Tally, PumpFault>) -> u8
     ensures value { result ≡ status_of answer.now }
     ensures most { result ≤ 1 }
+    ensures told { Tells (told_of E.contents err.old) (told_of E.contents err.new) (pump_lines answer.now) }
 {
-    let (tally, fault) = match answer {
+    match answer {
         Ok(tally) => {
             write_tally(err, tally);
-            return 0;
+            0
         }
-        Err(PumpFault::Read(tally)) => (tally, Fault::Read),
-        Err(PumpFault::TooManyTurns(tally)) => (tally, Fault::TooManyReads),
-        Err(PumpFault::NoMemory(tally)) => (tally, Fault::NoMemory),
-    };
-    write_tally(err, tally);
-    tell(err, fault)
+        Err(PumpFault::Read(tally)) => tell_after(err, tally, Fault::Read),
+        Err(PumpFault::TooManyTurns(tally)) => tell_after(err, tally, Fault::TooManyReads),
+        Err(PumpFault::NoMemory(tally)) => tell_after(err, tally, Fault::NoMemory),
+    }
 }
