@@ -78,7 +78,11 @@ fn an_identification_is_shown(rt: HostRuntime) {
     let shown = run_words(&rt, ["groundstation", "replay"].as_slice(), IDENTIFICATION);
     assert_eq!(rt;
         text(&shown.out),
-        "now 0 aircraft 1\n  ADDR CALLSIGN    ALT SQWK     VELOCITY   VERT        LAT        LON AGE\n4840D6 KLM1023       -    -            -      -          -          -   0\n"
+        concat!(
+            "now 0 aircraft 1\n",
+            "  ADDR CALLSIGN    ALT SQWK     VELOCITY   VERT        LAT        LON AGE\n",
+            "4840D6 KLM1023       -    -            -      -          -          -   0\n",
+        )
     );
     assert_eq!(rt;
         text(&shown.err),
@@ -98,10 +102,7 @@ fn nobody_is_shown_before_a_frame(rt: HostRuntime) {
     );
     let question: &[u8] = b"?";
     let asked = run_words(&rt, ["groundstation", "replay"].as_slice(), question);
-    assert_eq!(rt;
-        text(&asked.out),
-        "now 0 aircraft 0\n  ADDR CALLSIGN    ALT SQWK     VELOCITY   VERT        LAT        LON AGE\n"
-    );
+    assert_eq!(rt; text(&asked.out), TABLE_OF_NOBODY);
     assert_eq!(rt; asked.status, 0);
 }
 
@@ -145,7 +146,8 @@ fn a_failed_read_or_write_is_told_after_the_tally(rt: HostRuntime) {
     );
     assert_eq!(rt;
         text(&torn.err),
-        "lines 2 frames 1 ticks 0 shows 1 blank 0 modeac 0 faults 0 accepted 1 refused 0\ngroundstation: read failed\n"
+        "lines 2 frames 1 ticks 0 shows 1 blank 0 modeac 0 faults 0 accepted 1 refused 0\n\
+        groundstation: read failed\n"
     );
     assert_eq!(rt; torn.status, 1);
     let mut err = Vec::new(rt.alloc());
@@ -159,7 +161,8 @@ fn a_failed_read_or_write_is_told_after_the_tally(rt: HostRuntime) {
     );
     assert_eq!(rt;
         text(&err),
-        "lines 2 frames 1 ticks 0 shows 1 blank 0 modeac 0 faults 0 accepted 1 refused 0\ngroundstation: write failed\n"
+        "lines 2 frames 1 ticks 0 shows 1 blank 0 modeac 0 faults 0 accepted 1 refused 0\n\
+        groundstation: write failed\n"
     );
     assert_eq!(rt; status, 1);
 }
