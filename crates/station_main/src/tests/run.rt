@@ -15,11 +15,17 @@ const IDENTIFICATION: &str = "*8D4840D6202CC371C32CE0576098;\n";
 
 const VELOCITY: &str = "*8D485020994409940838175B284F;\n";
 
-const TABLE_OF_BOTH: &str =
-    "now 0 aircraft 2\n  ADDR CALLSIGN    ALT SQWK     VELOCITY   VERT        LAT        LON AGE\n4840D6 KLM1023       -    -            -      -          -          -   0\n485020 -             -    -      -8/-159   -832          -          -   0\n";
+const TABLE_OF_BOTH: &str = concat!(
+    "now 0 aircraft 2\n",
+    "  ADDR CALLSIGN    ALT SQWK     VELOCITY   VERT        LAT        LON AGE\n",
+    "4840D6 KLM1023       -    -            -      -          -          -   0\n",
+    "485020 -             -    -      -8/-159   -832          -          -   0\n",
+);
 
-const ONE_FRAME_EACH: &str =
-    "lines 1 frames 1 ticks 0 shows 0 blank 0 modeac 0 faults 0 accepted 1 refused 0\nlines 1 frames 1 ticks 0 shows 0 blank 0 modeac 0 faults 0 accepted 1 refused 0\n";
+const ONE_FRAME_EACH: &str = concat!(
+    "lines 1 frames 1 ticks 0 shows 0 blank 0 modeac 0 faults 0 accepted 1 refused 0\n",
+    "lines 1 frames 1 ticks 0 shows 0 blank 0 modeac 0 faults 0 accepted 1 refused 0\n",
+);
 
 // Two files in a folder of their own.
 #[derive(Drop)]
@@ -94,7 +100,8 @@ fn tallies_stand_in_the_order_of_the_paths(rt: HostRuntime) -> io::Result<()> {
     let ran = run_two(&rt, path_text(&files.first)?, path_text(&files.second)?);
     assert_eq!(rt;
         text(&ran.err),
-        "lines 5 frames 0 ticks 0 shows 0 blank 1 modeac 1 faults 3 accepted 0 refused 0\nlines 1 frames 1 ticks 0 shows 0 blank 0 modeac 0 faults 0 accepted 1 refused 0\n"
+        "lines 5 frames 0 ticks 0 shows 0 blank 1 modeac 1 faults 3 accepted 0 refused 0\n\
+        lines 1 frames 1 ticks 0 shows 0 blank 0 modeac 0 faults 0 accepted 1 refused 0\n"
     );
     assert_eq!(rt; ran.status, 0);
     fs::remove_dir_all(&rt, &files.folder)
@@ -131,7 +138,9 @@ fn a_failed_read_is_told_after_the_tally_of_its_path(rt: HostRuntime) -> io::Res
     let ran = run_two(&rt, path_text(&files.folder)?, path_text(&files.second)?);
     assert_eq!(rt;
         text(&ran.err),
-        "lines 0 frames 0 ticks 0 shows 0 blank 0 modeac 0 faults 0 accepted 0 refused 0\ngroundstation: read failed\nlines 1 frames 1 ticks 0 shows 0 blank 0 modeac 0 faults 0 accepted 1 refused 0\n"
+        "lines 0 frames 0 ticks 0 shows 0 blank 0 modeac 0 faults 0 accepted 0 refused 0\n\
+        groundstation: read failed\n\
+        lines 1 frames 1 ticks 0 shows 0 blank 0 modeac 0 faults 0 accepted 1 refused 0\n"
     );
     assert_eq!(rt; ran.status, 1);
     fs::remove_dir_all(&rt, &files.folder)

@@ -108,9 +108,11 @@ impl<'a, R: Files<File = File>> Files for Staged<'a, R> {
 pub struct Lasting {
     pub path: String,
     pub lines: PipeWriter,
+    // The path is there as long as this is.
     end: PipeReader,
 }
 
+/// A path that holds nothing yet.
 pub fn lasting_path<R: Files>(rt: &R, alloc: Global) -> io::Result<Lasting> {
     let (end, lines) = io::pipe(rt)?;
     let path = format!(in alloc; "/dev/fd/{}", end.as_raw_fd())?;
