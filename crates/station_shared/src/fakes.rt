@@ -1,13 +1,15 @@
 //! Sources and sinks for tests.
-ghost use Rattle.std.specs.Prelude.{◌≡◌, ◌≤◌, None};
+ghost use Rattle.std.specs.Prelude.{◌≡◌, ◌<◌, ◌≤◌, None};
 
 use crate::desk::Desk;
+use crate::places::Places;
 use crate::source::Source;
 use arrayvec::ArrayVec;
 use station_journal::Limits;
 use station_report::{Failed, Sink};
 use std::alloc::Global;
 use std::process::Abort;
+use std::sync::Wait;
 
 /// Gives bytes, at most so many in a read, and fails at one read.
 #[derive(Clone, Copy)]
@@ -107,6 +109,55 @@ impl Sink for Taker {
     }
 }
 
+/// Takes one byte a write. It fails once after so many bytes, at a write or at a flush, and takes bytes again.
+#[derive(Drop)]
+pub struct Stumbler {
+    pub bytes: ArrayVec<u8, 1024>,
+    pub fails_after: usize,
+    pub failures: u64,
+}
+
+impl Stumbler {
+    /// Fails once after this many bytes, fewer than 1,024.
+    pub fn new(fails_after: usize) -> Self {
+        Stumbler {
+            bytes: ArrayVec::new(),
+            fails_after,
+            failures: 0,
+        }
+    }
+
+    fn stumbles(&self) -> bool {
+        self.failures == 0 && self.bytes.len() == self.fails_after
+    }
+}
+
+impl Sink for Stumbler {
+    ghost taken = { λ _. None };
+
+    ghost failures = { λ s. s.failures };
+
+    fn write(&mut self, piece: &[u8]) -> Result<usize, Failed> {
+        let Some(byte) = piece.first() else {
+            return Ok(0);
+        };
+        if self.stumbles() || self.bytes.is_full() {
+            self.failures = self.failures.saturating_add(1);
+            return Err(Failed);
+        }
+        self.bytes.push(*byte);
+        Ok(1)
+    }
+
+    fn flush(&mut self) -> Result<(), Failed> {
+        if self.stumbles() {
+            self.failures = self.failures.saturating_add(1);
+            return Err(Failed);
+        }
+        Ok(())
+    }
+}
+
 /// A desk without entries. Where it wants memory, it is made once more.
 pub fn new_desk<const N: usize>(rt: &impl Abort, alloc: Global, limits: Limits) -> Desk<N>
     requires aircraft { limits.aircraft ≡ N }
@@ -115,6 +166,26 @@ pub fn new_desk<const N: usize>(rt: &impl Abort, alloc: Global, limits: Limits) 
     match Desk::new(alloc, limits) {
         Ok(desk) => desk,
         Err(_) => Desk::new(alloc, limits).expect(rt, "the second call has memory"),
+    }
+}
+
+/// Places for so many seats. Where they want memory, they are made once more.
+pub fn new_places<const N: usize, R: Wait + Abort>(rt: &R, alloc: Global, seats: u8) -> Places<N>
+    requires seats { 0 < seats }
+    requires small { N ≤ 4096 }
+    ensures { result.places ≡ seats }
+{
+    match Places::new(rt, alloc, seats) {
+        Ok(places) => places,
+        Err(_) => Places::new(rt, alloc, seats).expect(rt, "the second call has memory"),
+    }
+}
+
+/// A vector with room for so many, whose pushes up to there take no memory. Where it wants memory, it is made once more.
+pub fn room_for<T: Drop>(rt: &impl Abort, alloc: Global, count: usize) -> Vec<T> {
+    match Vec::with_capacity(alloc, count) {
+        Ok(room) => room,
+        Err(_) => Vec::with_capacity(alloc, count).expect(rt, "the second call has memory"),
     }
 }
 

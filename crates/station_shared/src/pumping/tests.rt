@@ -7,25 +7,26 @@ use crate::pumping::{PumpFault, pump};
 use crate::source::Source;
 use crate::tally::Tally;
 use modes_frame::Frame;
-use station_journal::{Entry, Journal, Limits};
+use station_journal::{Entry, Journal, Limits, Rows};
 use std::alloc::Global;
 use std::process::Abort;
 use std::sync::Wait;
 
-// Pumps the source through a desk without entries, by seat 0. A pump that wants memory is made once more.
-fn pumped<S: Source + Copy, R: Abort + Wait>(
-    rt: &R,
-    alloc: Global,
-    source: S,
-    turns: u32,
-) -> Result<Tally, PumpFault> {
-    match pump_once(rt, alloc, source, turns) {
-        Err(PumpFault::NoMemory(_)) => pump_once(rt, alloc, source, turns),
-        answer => answer,
-    }
-}
+const REFUSED_FRAME: Tally = Tally {
+    lines: 1,
+    frames: 1,
+    ticks: 0,
+    shows: 0,
+    blank: 0,
+    mode_ac: 0,
+    faults: 0,
+    accepted: 0,
+    refused: 1,
+};
 
-fn pump_once<S: Source + Copy, R: Abort + Wait>(
+// Pumps the source through a desk without entries, by seat 0. A pump that wants memory, at its first line, leaves the
+// desk without entries, and is made once more.
+fn pumped<S: Source + Copy, R: Abort + Wait>(
     rt: &R,
     alloc: Global,
     source: S,
@@ -36,16 +37,25 @@ fn pump_once<S: Source + Copy, R: Abort + Wait>(
         aircraft: 512,
     };
     let mut desk: Desk<512> = new_desk(rt, alloc, limits);
-    let mut from = source;
-    let answer = {
-        let mut feed = DeskFeed {
-            desk: &mut desk,
-            seat: 0,
-        };
-        pump(rt, &mut feed, &mut from, turns)
-    };
+    let mut answer = pump_once(rt, &mut desk, source, turns);
+    if let Err(PumpFault::NoMemory(counted)) = answer {
+        assert_eq!(rt; counted, REFUSED_FRAME);
+        assert_eq!(rt; (desk.journal().len(), Rows::len(&desk)), (0, 0));
+        answer = pump_once(rt, &mut desk, source, turns);
+    }
     let _journal = desk.end(rt);
     answer
+}
+
+fn pump_once<S: Source + Copy, R: Abort + Wait>(
+    rt: &R,
+    desk: &mut Desk<512>,
+    source: S,
+    turns: u32,
+) -> Result<Tally, PumpFault> {
+    let mut from = source;
+    let mut feed = DeskFeed { desk, seat: 0 };
+    pump(rt, &mut feed, &mut from, turns)
 }
 
 #[test]

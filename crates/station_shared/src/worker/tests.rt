@@ -1,7 +1,7 @@
 //! Receivers that hand in their lines at the same time.
 ghost use Rattle.std.specs.Prelude.{◌≡◌, None};
 
-use crate::fakes::Pieces;
+use crate::fakes::{Pieces, new_places, room_for};
 use crate::names::Total;
 use crate::places::Places;
 use crate::pumping::PumpFault;
@@ -43,7 +43,24 @@ const ONE_LINE: Tally = Tally {
     refused: 0,
 };
 
-/// Gives its bytes, and then the end once the word is set. It fails where the word isn't set after 10,000,000 yields.
+const REFUSED_LINE: Tally = Tally {
+    lines: 1,
+    frames: 1,
+    ticks: 0,
+    shows: 0,
+    blank: 0,
+    mode_ac: 0,
+    faults: 0,
+    accepted: 0,
+    refused: 1,
+};
+
+// The word is 0 until the watcher has seen both aircraft, or has given up.
+const BOTH_SEEN: u64 = 1;
+
+const GIVEN_UP: u64 = 2;
+
+/// Gives its bytes, and then the end once both aircraft were seen. It fails where they weren't after 10,000,000 yields.
 #[derive(Clone, Copy)]
 struct Awaiting<'a> {
     from: Pieces<'static>,
@@ -60,17 +77,18 @@ impl<'a> Source for Awaiting<'a> {
     ghost failures = { λ s. s.from.failures };
 
     fn read(&mut self, buffer: &mut [u8]) -> Result<usize, Failed> {
-        if self.from.rest.is_empty() && !becomes_set(self.word) {
+        if self.from.rest.is_empty() && !are_both_seen(self.word) {
             self.from.fails_at = self.from.reads.saturating_add(1);
         }
         self.from.read(buffer)
     }
 }
 
-fn becomes_set(word: &AtomicU64) -> bool {
+fn are_both_seen(word: &AtomicU64) -> bool {
     for _ in 0..10_000_000 {
-        if word.load(SeqCst) != 0 {
-            return true;
+        let seen = word.load(SeqCst);
+        if seen != 0 {
+            return seen == BOTH_SEEN;
         }
         yield_now();
     }
@@ -83,11 +101,12 @@ fn watch<L: Total>(mut seat: Seat<8, L>, word: &AtomicU64) -> Seat<8, L> {
         let (back, are_live) = look_for_both(seat);
         seat = back;
         if are_live {
-            word.store(1, SeqCst);
+            word.store(BOTH_SEEN, SeqCst);
             return seat;
         }
         yield_now();
     }
+    word.store(GIVEN_UP, SeqCst);
     seat
 }
 
@@ -102,7 +121,7 @@ fn look_for_both<L: Total>(seat: Seat<8, L>) -> (Seat<8, L>, bool) {
 }
 
 // A worker that hasn't answered.
-fn worker<S: Source, L: Total>(seat: Seat<8, L>, source: S) -> Worker<8, S, L> {
+fn worker<const N: usize, S: Source, L: Total>(seat: Seat<N, L>, source: S) -> Worker<N, S, L> {
     Worker {
         seat,
         source,
@@ -119,21 +138,88 @@ fn run_both<'a, L: Total + Send + Sync, R: Threads + Wait + Sync>(
     workers
 }
 
-fn two_that_meet<L: Total + Send + Sync, R: Threads + Wait + Abort + Sync>(
+// Whether the worker ended its source. Else it wanted memory at its frame, or it met nobody, since the other wanted
+// memory or had to wait for a thread. Its seat was accepted as often as the tally counts.
+fn has_ended<S: Source, L: Total>(rt: &impl Abort, worker: &Worker<8, S, L>) -> bool {
+    let (counted, has_ended) = match worker.answer {
+        Some(Ok(counted)) => (counted, true),
+        Some(Err(PumpFault::Read(counted))) => (counted, false),
+        Some(Err(PumpFault::NoMemory(counted))) => {
+            assert_eq!(rt; (counted, worker.seat.accepted()), (REFUSED_LINE, 0));
+            return false;
+        }
+        _ => panic!(rt; "another answer"),
+    };
+    assert_eq!(rt; (counted, worker.seat.accepted()), (ONE_LINE, 1));
+    has_ended
+}
+
+// Closes the station with all its seats, after a look by one of them. What is published and the journal hold what was
+// accepted, so many entries.
+fn close_all<const N: usize, L: Total, R: Wait + Abort>(
+    rt: &R,
+    station: Station<N, L>,
+    mut seats: Vec<Seat<N, L>>,
+) -> u64 {
+    let look = match seats.pop().expect(rt, "a seat").look() {
+        Ok(look) => look,
+        Err(_) => panic!(rt; "a reader is let in"),
+    };
+    let entries = look.entries();
+    let pushed = seats.push(look.done()).is_ok();
+    assert!(rt; pushed);
+    let closed = match station.close(rt, seats) {
+        Ok(closed) => closed,
+        Err(_) => panic!(rt; "not closed with all seats"),
+    };
+    let mut accepted = 0u64;
+    for count in closed.accepted.as_slice() {
+        accepted = accepted.saturating_add(*count);
+    }
+    assert_eq!(rt; (closed.journal.len(), accepted), (entries, entries));
+    entries
+}
+
+// Closes the station with the seat of the watcher and those of the workers. Tells whether both workers ended their
+// sources.
+fn have_ended<L: Total, R: Wait + Abort>(
+    rt: &R,
+    station: Station<8, L>,
+    mut seats: Vec<Seat<8, L>>,
+    workers: Vec<Worker<8, Awaiting<'_>, L>>,
+) -> bool {
+    let mut have_ended = true;
+    for worker in workers {
+        let has_ended = has_ended(rt, &worker);
+        have_ended = have_ended && has_ended;
+        let Worker { seat, .. } = worker;
+        let pushed = seats.push(seat).is_ok();
+        assert!(rt; pushed);
+    }
+    assert_eq!(rt; seats.len(), 3);
+    let entries = close_all(rt, station, seats);
+    assert!(rt; entries == 2 || !have_ended);
+    have_ended
+}
+
+// Two receivers, each of which ends its source once both aircraft were seen. False where something was refused.
+fn is_meeting<L: Total + Send + Sync, R: Threads + Wait + Abort + Sync>(
     rt: &R,
     alloc: Global,
     blank: Blank,
     places: Places<8>,
-) -> Result<(), Fail>
+) -> bool
     requires ledger { (blank.name ≡ L.name) × (blank.parts ≡ L.parts) }
     requires seats { (L.parts ≡ 3) × (L.seats ≡ 3) × (places.places ≡ 3) }
     requires history { places.history ≡ L.history }
     requires limits { L.limits ≡ record { entries = 16; aircraft = 8 } }
 {
-    let (station, mut seats) = Station::<8, L>::new(rt, alloc, LIMITS, 3, blank, places)?;
+    let Ok((station, mut seats)) = Station::<8, L>::new(rt, alloc, LIMITS, 3, blank, places) else {
+        return false;
+    };
     let word = AtomicU64::new(0);
     let watcher = seats.pop().expect(rt, "the third seat");
-    let mut workers = Vec::new(alloc);
+    let mut workers = room_for(rt, alloc, 2);
     for line in [VELOCITY, IDENTIFICATION] {
         let seat = seats.pop().expect(rt, "a seat of a receiver");
         let source = Awaiting {
@@ -143,24 +229,24 @@ fn two_that_meet<L: Total + Send + Sync, R: Threads + Wait + Abort + Sync>(
         let pushed = workers.push(worker(seat, source)).is_ok();
         assert!(rt; pushed);
     }
-    let (_watcher, workers) = join(
+    let (watcher, workers) = join(
         rt,
         || watch(watcher, &word),
         || run_both(rt, &station, workers),
     );
-    assert_eq!(rt; workers.len(), 2);
-    for worker in &workers {
-        assert_eq!(rt; worker.answer, Some(Ok(ONE_LINE)));
-        assert_eq!(rt; worker.seat.accepted(), 1);
-    }
-    station.end(rt);
-    Ok(())
+    let pushed = seats.push(watcher).is_ok();
+    assert!(rt; pushed);
+    have_ended(rt, station, seats, workers)
 }
 
 #[test]
-fn receivers_are_seen_while_both_still_read(rt: HostRuntime) -> Result<(), Fail> {
-    let places = Places::<8>::new(&rt, rt.alloc(), 3)?;
-    two_that_meet::<Brand, _>(&rt, rt.alloc(), Blank::new(3), places)
+fn receivers_are_seen_while_both_still_read(rt: HostRuntime) {
+    let places = new_places(&rt, rt.alloc(), 3);
+    if !is_meeting::<Brand, _>(&rt, rt.alloc(), Blank::new(3), places) {
+        let places = new_places(&rt, rt.alloc(), 3);
+        let have_met = is_meeting::<Brand, _>(&rt, rt.alloc(), Blank::new(3), places);
+        assert!(rt; have_met);
+    }
 }
 
 fn one_that_fails<L: Total + Send + Sync, R: Threads + Wait + Abort + Sync>(
@@ -200,4 +286,96 @@ fn one_that_fails<L: Total + Send + Sync, R: Threads + Wait + Abort + Sync>(
 fn failed_receiver_leaves_the_others(rt: HostRuntime) -> Result<(), Fail> {
     let places = Places::<8>::new(&rt, rt.alloc(), 2)?;
     one_that_fails::<Brand, _>(&rt, rt.alloc(), Blank::new(2), places)
+}
+
+// Runs two receivers whose lines are more than the station takes, and answers how many calls were accepted, how many
+// were refused, and how many entries the journal has.
+fn overfill<const N: usize, L: Total + Send + Sync, R: Threads + Wait + Abort + Sync>(
+    rt: &R,
+    alloc: Global,
+    station: Station<N, L>,
+    mut seats: Vec<Seat<N, L>>,
+    lines: [&'static [u8]; 2],
+) -> (u64, u64, u64) {
+    let mut workers = room_for(rt, alloc, 2);
+    for line in lines {
+        let seat = seats.pop().expect(rt, "a seat of a receiver");
+        let pushed = workers.push(worker(seat, Pieces::new(line))).is_ok();
+        assert!(rt; pushed);
+    }
+    run_receivers(rt, &station, workers.as_mut_slice(), 9);
+    let (mut accepted, mut refused) = (0u64, 0u64);
+    for worker in workers {
+        match worker.answer {
+            Some(Ok(counted)) => {
+                accepted = accepted.saturating_add(counted.accepted);
+                refused = refused.saturating_add(counted.refused);
+            }
+            _ => panic!(rt; "a source without a fault"),
+        }
+        let Worker { seat, .. } = worker;
+        let pushed = seats.push(seat).is_ok();
+        assert!(rt; pushed);
+    }
+    (accepted, refused, close_all(rt, station, seats))
+}
+
+const THREE_LINES: &'static [u8] =
+    b"*8D4840D6202CC371C32CE0576098;\n*8D40621D58C382D690C8AC2863A7;\n*8D485020994409940838175B284F;\n";
+
+const THREE_OTHER_LINES: &'static [u8] =
+    b"*8D40621D58C386435CC412692AD6;\n*8DA05F219B06B6AF189400CBC33F;\n*5D510AF9A8D8BC;\n";
+
+fn fill_the_journal<L: Total + Send + Sync, R: Threads + Wait + Abort + Sync>(
+    rt: &R,
+    alloc: Global,
+    blank: Blank,
+    places: Places<8>,
+) -> Result<(), Fail>
+    requires ledger { (blank.name ≡ L.name) × (blank.parts ≡ L.parts) }
+    requires seats { (L.parts ≡ 2) × (L.seats ≡ 2) × (places.places ≡ 2) }
+    requires history { places.history ≡ L.history }
+    requires limits { L.limits ≡ record { entries = 3; aircraft = 8 } }
+{
+    let limits = Limits {
+        entries: 3,
+        aircraft: 8,
+    };
+    let (station, seats) = Station::<8, L>::new(rt, alloc, limits, 2, blank, places)?;
+    let filled = overfill(rt, alloc, station, seats, [THREE_LINES, THREE_OTHER_LINES]);
+    assert_eq!(rt; filled, (3, 3, 3));
+    Ok(())
+}
+
+#[test]
+fn a_full_journal_takes_no_more_of_two_receivers(rt: HostRuntime) -> Result<(), Fail> {
+    let places = Places::<8>::new(&rt, rt.alloc(), 2)?;
+    fill_the_journal::<Brand, _>(&rt, rt.alloc(), Blank::new(2), places)
+}
+
+fn fill_the_table<L: Total + Send + Sync, R: Threads + Wait + Abort + Sync>(
+    rt: &R,
+    alloc: Global,
+    blank: Blank,
+    places: Places<1>,
+) -> Result<(), Fail>
+    requires ledger { (blank.name ≡ L.name) × (blank.parts ≡ L.parts) }
+    requires seats { (L.parts ≡ 2) × (L.seats ≡ 2) × (places.places ≡ 2) }
+    requires history { places.history ≡ L.history }
+    requires limits { L.limits ≡ record { entries = 16; aircraft = 1 } }
+{
+    let limits = Limits {
+        entries: 16,
+        aircraft: 1,
+    };
+    let (station, seats) = Station::<1, L>::new(rt, alloc, limits, 2, blank, places)?;
+    let filled = overfill(rt, alloc, station, seats, [IDENTIFICATION, VELOCITY]);
+    assert_eq!(rt; filled, (1, 1, 1));
+    Ok(())
+}
+
+#[test]
+fn a_full_table_takes_no_more_of_two_receivers(rt: HostRuntime) -> Result<(), Fail> {
+    let places = Places::<1>::new(&rt, rt.alloc(), 2)?;
+    fill_the_table::<Brand, _>(&rt, rt.alloc(), Blank::new(2), places)
 }
