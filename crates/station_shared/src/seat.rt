@@ -1,7 +1,8 @@
 //! A seat at a station, and receipts of accepted calls.
 ghost use Rattle.std.specs.Prelude.{◌≡◌, ◌+◌, ◌<◌, ◌≤◌, ◌↔◌, IsTrue, false, length, MatchResult};
 ghost use mathlib.Core.List.{IsPrefix};
-ghost use Rattle.station_shared.specs.Seats.{Told, Looks, count_of};
+ghost use Rattle.station_journal.specs.Log.{IsLegal};
+ghost use Rattle.station_shared.specs.Seats.{Told, Looks, count_of, log_of};
 ghost use Rattle.station_shared.specs.Shown.{IsOfSheet, sheet_of};
 
 use crate::history::Front;
@@ -10,32 +11,43 @@ use crate::names::Total;
 use crate::rule::{Looking, Place, Published, Sees};
 use crate::shown::{Mark, Shown};
 use crossbeam_utils::rule::Protocol;
-use std::marker::Model;
+use std::marker::{Model, PhantomData};
 use std::sync::ledger::Share;
 
-/// A promise that an accepted entry stands in the journal of its station. Contracts see the journal up to it.
-#[derive(Drop)]
-pub struct Receipt {
+/// A promise that an accepted entry stands in the journal of its station. Contracts see the journal up to it, which is
+/// legal.
+pub struct Receipt<L: Total> {
     pub(crate) front: Front,
+    // The station that gave it.
+    pub(crate) station: PhantomData<L>,
 }
 
-impl Model for Receipt {
-    ghost use Rattle.std.specs.Prelude.{◌<◌, length};
+impl<L: Total> Model for Receipt<L> {
+    ghost use Rattle.std.specs.Prelude.{◌≡◌, ◌<◌, length};
+    ghost use Rattle.station_journal.specs.Log.{IsLegal};
     ghost use Rattle.station_shared.specs.History.{Known};
+    ghost use Rattle.station_shared.specs.Seats.{log_of};
 
     ghost Value = { Known };
 
     ghost view = { λ r. r.front };
 
-    ghost invariant = { λ r. 0 < length r.front.entries };
+    ghost invariant = { λ r. (0 < length r.front.entries)
+        × (r.front.name ≡ L.history)
+        × IsLegal (log_of L.limits r.front.entries) };
 }
 
-impl Receipt {
-    pub(crate) fn new(front: Front) -> Receipt
-        requires { 0 < length front.entries }
+impl<L: Total> Receipt<L> {
+    pub(crate) fn new(front: Front) -> Receipt<L>
+        requires some { 0 < length front.entries }
+        requires history { front.name ≡ L.history }
+        requires legal { IsLegal (log_of L.limits front.entries) }
         ensures { result ≡ front }
     {
-        Receipt { front }
+        Receipt {
+            front,
+            station: PhantomData,
+        }
     }
 
     /// The place of the entry in the journal, counted from 0.
@@ -43,6 +55,15 @@ impl Receipt {
         ensures { result + 1 ≡ length self.now.entries }
     {
         self.front.count() - 1
+    }
+}
+
+impl<L: Total> Drop for Receipt<L> {
+    fn drop(self) {
+        let Receipt {
+            front: _,
+            station: _,
+        } = self;
     }
 }
 
@@ -66,7 +87,8 @@ where
 {
     ghost use Rattle.std.specs.Prelude.{◌≡◌, ◌≤◌};
     ghost use Rattle.left_right.specs.Sides.{view as view_of};
-    ghost use Rattle.station_shared.specs.Seats.{Seated, count_of};
+    ghost use Rattle.station_journal.specs.Log.{IsLegal};
+    ghost use Rattle.station_shared.specs.Seats.{Seated, count_of, log_of};
     ghost use Rattle.station_shared.specs.Shown.{IsOf};
 
     ghost Value = { Seated };
@@ -81,7 +103,8 @@ where
         × (s.share.amount ≡ s.accepted)
         × IsOf L.history L.limits (view_of s.place.place)
         × (s.front.name ≡ L.history)
-        × (s.accepted ≤ count_of s.number s.front.entries) };
+        × (s.accepted ≤ count_of s.number s.front.entries)
+        × IsLegal (log_of L.limits s.front.entries) };
 }
 
 // Whether the published table lacks entries of this beginning. It lacks none that a place had seen before it was let in.
@@ -102,18 +125,19 @@ impl<const N: usize, L: Total> Seat<N, L> {
         self.number
     }
 
-    /// How many of its calls were accepted. What it has seen holds at least as many entries of its number.
+    /// How many of its calls were accepted. What it has seen is legal, and holds at least as many entries of its number.
     pub fn accepted(&self) -> u64
         ensures value { result ≡ self.now.accepted }
         ensures seen { result ≤ count_of self.now.number self.now.seen }
+        ensures legal { IsLegal (log_of L.limits self.now.seen) }
     {
         self.accepted
     }
 
     /// Takes in what a receipt of the same station tells: from now on the seat has seen the receipt's entry.
-    pub fn learn(&mut self, receipt: &Receipt)
-        requires { receipt.now.name ≡ L.history }
-        ensures { Told self.old self.new receipt.now.entries }
+    pub fn learn(&mut self, receipt: &Receipt<L>)
+        ensures told { Told self.old self.new receipt.now.entries }
+        ensures legal { IsLegal (log_of L.limits self.new.seen) }
     {
         let Seat { front, .. } = self;
         *front = front.longer(&receipt.front);
