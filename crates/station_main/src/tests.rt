@@ -1,5 +1,4 @@
 mod outputs;
-mod report;
 mod run;
 mod staged;
 mod through_time;
