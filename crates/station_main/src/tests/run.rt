@@ -1,10 +1,11 @@
 // The job `run`, over files.
-use super::{Closed, Ran, run_words, text};
+use super::{Closed, NO_MEMORY, Ran, run_words, text};
 use crate::program::program;
 use std::alloc::AllocError;
 use std::fs::File;
 use std::io::ErrorKind;
 use std::path::PathBuf;
+use std::process::Abort;
 use std::rt::Files;
 use std::sync::Wait;
 use std::thread::Threads;
@@ -27,6 +28,32 @@ const ONE_FRAME_EACH: &str = concat!(
     "lines 1 frames 1 ticks 0 shows 0 blank 0 modeac 0 faults 0 accepted 1 refused 0\n",
 );
 
+const NO_THREAD: &str = "groundstation: thread not started\n";
+
+const FIRST_WITHOUT_MEMORY: &str = concat!(
+    "lines 1 frames 1 ticks 0 shows 0 blank 0 modeac 0 faults 0 accepted 0 refused 1\n",
+    "groundstation: no memory\n",
+    "lines 1 frames 1 ticks 0 shows 0 blank 0 modeac 0 faults 0 accepted 1 refused 0\n",
+);
+
+const SECOND_WITHOUT_MEMORY: &str = concat!(
+    "lines 1 frames 1 ticks 0 shows 0 blank 0 modeac 0 faults 0 accepted 1 refused 0\n",
+    "lines 1 frames 1 ticks 0 shows 0 blank 0 modeac 0 faults 0 accepted 0 refused 1\n",
+    "groundstation: no memory\n",
+);
+
+const TABLE_OF_FIRST: &str = concat!(
+    "now 0 aircraft 1\n",
+    "  ADDR CALLSIGN    ALT SQWK     VELOCITY   VERT        LAT        LON AGE\n",
+    "4840D6 KLM1023       -    -            -      -          -          -   0\n",
+);
+
+const TABLE_OF_SECOND: &str = concat!(
+    "now 0 aircraft 1\n",
+    "  ADDR CALLSIGN    ALT SQWK     VELOCITY   VERT        LAT        LON AGE\n",
+    "485020 -             -    -      -8/-159   -832          -          -   0\n",
+);
+
 // Two files in a folder of their own.
 #[derive(Drop)]
 struct TwoFiles {
@@ -47,21 +74,47 @@ fn new_folder<R: Files + AllocGlobal + env::Env>(rt: &R) -> io::Result<PathBuf> 
     Err(io::Error::from(ErrorKind::AlreadyExists))
 }
 
+// The paths of the two files.
+fn two_paths<R: Files + AllocGlobal>(
+    rt: &R,
+    folder: &PathBuf,
+    first_text: &str,
+    second_text: &str,
+) -> io::Result<(PathBuf, PathBuf)> {
+    let first = folder.as_path().join(rt.alloc(), "first")?;
+    let second = folder.as_path().join(rt.alloc(), "second")?;
+    fs::write(rt, &first, first_text)?;
+    fs::write(rt, &second, second_text)?;
+    Ok((first, second))
+}
+
+// Where the folder or a file is refused, it is made once more.
 fn two_files<R: Files + AllocGlobal + env::Env>(
     rt: &R,
     first_text: &str,
     second_text: &str,
 ) -> io::Result<TwoFiles> {
-    let folder = new_folder(rt)?;
-    let first = folder.as_path().join(rt.alloc(), "first")?;
-    let second = folder.as_path().join(rt.alloc(), "second")?;
-    fs::write(rt, &first, first_text)?;
-    fs::write(rt, &second, second_text)?;
+    let folder = match new_folder(rt) {
+        Ok(folder) => folder,
+        Err(_) => new_folder(rt)?,
+    };
+    let (first, second) = match two_paths(rt, &folder, first_text, second_text) {
+        Ok(paths) => paths,
+        Err(_) => two_paths(rt, &folder, first_text, second_text)?,
+    };
     Ok(TwoFiles {
         folder,
         first,
         second,
     })
+}
+
+// Where the folder stays, it is removed once more.
+fn remove<R: Files + AllocGlobal>(rt: &R, files: &TwoFiles) -> io::Result<()> {
+    match fs::remove_dir_all(rt, &files.folder) {
+        Ok(()) => Ok(()),
+        Err(_) => fs::remove_dir_all(rt, &files.folder),
+    }
 }
 
 fn path_text(path: &PathBuf) -> Result<&str, AllocError> {
@@ -71,7 +124,7 @@ fn path_text(path: &PathBuf) -> Result<&str, AllocError> {
     }
 }
 
-fn run_two<R: Threads + Wait + Clock + Files<File = File> + Sync + AllocGlobal>(
+fn run_two<R: Threads + Wait + Clock + Files<File = File> + Sync + AllocGlobal + Abort>(
     rt: &R,
     first: &str,
     second: &str,
@@ -84,14 +137,34 @@ fn run_two<R: Threads + Wait + Clock + Files<File = File> + Sync + AllocGlobal>(
     )
 }
 
+// What was shown where the program was refused memory or a thread: nothing where no path was read, and else the other
+// path's aircraft.
+fn shown_where_refused(told: &str) -> Option<&'static str> {
+    if told == NO_MEMORY || told == NO_THREAD {
+        Some("")
+    } else if told == FIRST_WITHOUT_MEMORY {
+        Some(TABLE_OF_SECOND)
+    } else if told == SECOND_WITHOUT_MEMORY {
+        Some(TABLE_OF_FIRST)
+    } else {
+        None
+    }
+}
+
 #[test]
 fn two_files_are_shown_in_one_table(rt: HostRuntime) -> io::Result<()> {
     let files = two_files(&rt, IDENTIFICATION, VELOCITY)?;
-    let ran = run_two(&rt, path_text(&files.first)?, path_text(&files.second)?);
+    let (first, second) = (path_text(&files.first)?, path_text(&files.second)?);
+    let mut ran = run_two(&rt, first, second);
+    if let Some(shown) = shown_where_refused(text(&ran.err)) {
+        assert_eq!(rt; text(&ran.out), shown);
+        assert_eq!(rt; ran.status, 1);
+        ran = run_two(&rt, first, second);
+    }
     assert_eq!(rt; text(&ran.out), TABLE_OF_BOTH);
     assert_eq!(rt; text(&ran.err), ONE_FRAME_EACH);
     assert_eq!(rt; ran.status, 0);
-    fs::remove_dir_all(&rt, &files.folder)
+    remove(&rt, &files)
 }
 
 #[test]
