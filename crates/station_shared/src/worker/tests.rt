@@ -20,7 +20,7 @@ use std::sync::atomic::AtomicU64;
 use std::sync::atomic::Ordering::SeqCst;
 use std::sync::ledger::Blank;
 use std::test::*;
-use std::thread::{Threads, join, yield_now};
+use std::thread::{Threads, yield_now};
 
 const LIMITS: Limits = Limits {
     entries: 16,
@@ -55,19 +55,56 @@ const REFUSED_LINE: Tally = Tally {
     refused: 1,
 };
 
-// The word is 0 until the watcher has seen both aircraft, or has given up.
-const BOTH_SEEN: u64 = 1;
+/// Waits until another receiver's aircraft is live, and answers whether it is.
+trait Watch: Sized {
+    fn watch(self) -> (Self, bool);
+}
 
-const GIVEN_UP: u64 = 2;
+// Looks by a seat that is told of nothing, until 485020 is live, at most 10,000,000 times.
+impl<L: Total> Watch for Seat<8, L> {
+    fn watch(self) -> (Self, bool) {
+        let mut seat = self;
+        for _ in 0..10_000_000 {
+            let (back, is_live) = look_for(seat, 0x485020);
+            seat = back;
+            if is_live {
+                return (seat, true);
+            }
+            yield_now();
+        }
+        (seat, false)
+    }
+}
 
-/// Gives its bytes, and then the end once both aircraft were seen. It fails where they weren't after 10,000,000 yields.
-#[derive(Clone, Copy)]
-struct Awaiting<'a> {
+fn look_for<L: Total>(seat: Seat<8, L>, address: u32) -> (Seat<8, L>, bool) {
+    match seat.look() {
+        Ok(look) => {
+            let is_live = look.get(address).is_some();
+            (look.done(), is_live)
+        }
+        Err(seat) => (seat, false),
+    }
+}
+
+/// Gives its bytes, and then the end once its watcher has seen the other's aircraft or, without one, the word is set.
+#[derive(Drop)]
+struct Meeting<'a, W> {
     from: Pieces<'static>,
+    watcher: &'a mut Option<W>,
     word: &'a AtomicU64,
 }
 
-impl<'a> Source for Awaiting<'a> {
+impl<'a, W> Meeting<'a, W> {
+    fn new(line: &'static [u8], watcher: &'a mut Option<W>, word: &'a AtomicU64) -> Self {
+        Meeting {
+            from: Pieces::new(line),
+            watcher,
+            word,
+        }
+    }
+}
+
+impl<'a, W: Watch + Drop> Source for Meeting<'a, W> {
     ghost left = { λ _. None };
 
     ghost reads = { λ s. s.from.reads };
@@ -77,50 +114,37 @@ impl<'a> Source for Awaiting<'a> {
     ghost failures = { λ s. s.from.failures };
 
     fn read(&mut self, buffer: &mut [u8]) -> Result<usize, Failed> {
-        if self.from.rest.is_empty() && !are_both_seen(self.word) {
+        if self.from.rest.is_empty() && !have_met(self.watcher, self.word) {
             self.from.fails_at = self.from.reads.saturating_add(1);
         }
         self.from.read(buffer)
     }
 }
 
-fn are_both_seen(word: &AtomicU64) -> bool {
+fn have_met<W: Watch + Drop>(watcher: &mut Option<W>, word: &AtomicU64) -> bool {
+    match watcher.take() {
+        Some(watching) => {
+            let (back, is_live) = watching.watch();
+            *watcher = Some(back);
+            if is_live {
+                word.store(1, SeqCst);
+            }
+            is_live
+        }
+        None => becomes_set(word),
+    }
+}
+
+fn becomes_set(word: &AtomicU64) -> bool {
     for _ in 0..10_000_000 {
-        let seen = word.load(SeqCst);
-        if seen != 0 {
-            return seen == BOTH_SEEN;
+        if word.load(SeqCst) != 0 {
+            return true;
         }
         yield_now();
     }
     false
 }
 
-// Looks by a seat that is told of nothing, until both aircraft are live, and then sets the word.
-fn watch<L: Total>(mut seat: Seat<8, L>, word: &AtomicU64) -> Seat<8, L> {
-    for _ in 0..10_000_000 {
-        let (back, are_live) = look_for_both(seat);
-        seat = back;
-        if are_live {
-            word.store(BOTH_SEEN, SeqCst);
-            return seat;
-        }
-        yield_now();
-    }
-    word.store(GIVEN_UP, SeqCst);
-    seat
-}
-
-fn look_for_both<L: Total>(seat: Seat<8, L>) -> (Seat<8, L>, bool) {
-    match seat.look() {
-        Ok(look) => {
-            let are_live = look.get(0x4840D6).is_some() && look.get(0x485020).is_some();
-            (look.done(), are_live)
-        }
-        Err(seat) => (seat, false),
-    }
-}
-
-// A worker that hasn't answered.
 fn worker<const N: usize, S: Source, L: Total>(seat: Seat<N, L>, source: S) -> Worker<N, S, L> {
     Worker {
         seat,
@@ -129,13 +153,12 @@ fn worker<const N: usize, S: Source, L: Total>(seat: Seat<N, L>, source: S) -> W
     }
 }
 
-fn run_both<'a, L: Total + Send + Sync, R: Threads + Wait + Sync>(
+fn run_both<W: Watch + Send + Drop, L: Total + Send + Sync, R: Threads + Wait + Sync>(
     rt: &R,
     station: &Station<8, L>,
-    mut workers: Vec<Worker<8, Awaiting<'a>, L>>,
-) -> Vec<Worker<8, Awaiting<'a>, L>> {
-    run_receivers(rt, station, workers.as_mut_slice(), 9);
-    workers
+    workers: &mut [Worker<8, Meeting<'_, W>, L>],
+) {
+    run_receivers(rt, station, workers, 9);
 }
 
 // Whether the worker ended its source. Else it wanted memory at its frame, or it met nobody, since the other wanted
@@ -154,8 +177,7 @@ fn has_ended<S: Source, L: Total>(rt: &impl Abort, worker: &Worker<8, S, L>) -> 
     has_ended
 }
 
-// Closes the station with all its seats, after a look by one of them. What is published and the journal hold what was
-// accepted, so many entries.
+// Closes the station with all its seats. What is published and the journal hold what was accepted, so many entries.
 fn close_all<const N: usize, L: Total, R: Wait + Abort>(
     rt: &R,
     station: Station<N, L>,
@@ -180,13 +202,11 @@ fn close_all<const N: usize, L: Total, R: Wait + Abort>(
     entries
 }
 
-// Closes the station with the seat of the watcher and those of the workers. Tells whether both workers ended their
-// sources.
-fn have_ended<L: Total, R: Wait + Abort>(
-    rt: &R,
-    station: Station<8, L>,
-    mut seats: Vec<Seat<8, L>>,
-    workers: Vec<Worker<8, Awaiting<'_>, L>>,
+// Takes the seats back from the workers. Tells whether both ended their sources.
+fn have_ended<W: Watch + Drop, L: Total>(
+    rt: &impl Abort,
+    seats: &mut Vec<Seat<8, L>>,
+    workers: Vec<Worker<8, Meeting<'_, W>, L>>,
 ) -> bool {
     let mut have_ended = true;
     for worker in workers {
@@ -196,13 +216,11 @@ fn have_ended<L: Total, R: Wait + Abort>(
         let pushed = seats.push(seat).is_ok();
         assert!(rt; pushed);
     }
-    assert_eq!(rt; seats.len(), 3);
-    let entries = close_all(rt, station, seats);
-    assert!(rt; entries == 2 || !have_ended);
     have_ended
 }
 
-// Two receivers, each of which ends its source once both aircraft were seen. False where something was refused.
+// Two receivers, of which each ends its source once the other's aircraft is live. The first's source looks, by the
+// third seat. False where something was refused.
 fn is_meeting<L: Total + Send + Sync, R: Threads + Wait + Abort + Sync>(
     rt: &R,
     alloc: Global,
@@ -218,25 +236,26 @@ fn is_meeting<L: Total + Send + Sync, R: Threads + Wait + Abort + Sync>(
         return false;
     };
     let word = AtomicU64::new(0);
-    let watcher = seats.pop().expect(rt, "the third seat");
+    let (mut looking, mut waiting) = (seats.pop(), None);
     let mut workers = room_for(rt, alloc, 2);
-    for line in [VELOCITY, IDENTIFICATION] {
-        let seat = seats.pop().expect(rt, "a seat of a receiver");
-        let source = Awaiting {
-            from: Pieces::new(line),
-            word: &word,
-        };
-        let pushed = workers.push(worker(seat, source)).is_ok();
-        assert!(rt; pushed);
-    }
-    let (watcher, workers) = join(
-        rt,
-        || watch(watcher, &word),
-        || run_both(rt, &station, workers),
-    );
-    let pushed = seats.push(watcher).is_ok();
+    let first = seats.pop().expect(rt, "the first receiver's seat");
+    let source = Meeting::new(IDENTIFICATION, &mut looking, &word);
+    let pushed = workers.push(worker(first, source)).is_ok();
     assert!(rt; pushed);
-    have_ended(rt, station, seats, workers)
+    let second = seats.pop().expect(rt, "the second receiver's seat");
+    let source = Meeting::new(VELOCITY, &mut waiting, &word);
+    let pushed = workers.push(worker(second, source)).is_ok();
+    assert!(rt; pushed);
+    run_both(rt, &station, workers.as_mut_slice());
+    let have_ended = have_ended(rt, &mut seats, workers);
+    let pushed = seats
+        .push(looking.expect(rt, "the seat that looks"))
+        .is_ok();
+    assert!(rt; pushed);
+    assert_eq!(rt; seats.len(), 3);
+    let entries = close_all(rt, station, seats);
+    assert!(rt; entries == 2 || !have_ended);
+    have_ended
 }
 
 #[test]
@@ -288,8 +307,7 @@ fn failed_receiver_leaves_the_others(rt: HostRuntime) -> Result<(), Fail> {
     one_that_fails::<Brand, _>(&rt, rt.alloc(), Blank::new(2), places)
 }
 
-// Runs two receivers whose lines are more than the station takes, and answers how many calls were accepted, how many
-// were refused, and how many entries the journal has.
+// Runs two receivers with too many lines: how many calls were accepted and refused, and how many entries are there.
 fn overfill<const N: usize, L: Total + Send + Sync, R: Threads + Wait + Abort + Sync>(
     rt: &R,
     alloc: Global,
