@@ -1,14 +1,16 @@
 -- The value of a book, and what an entry makes of it.
-use Rattle.std.specs.Prelude.{ℕ, ◌+◌, Bool, false, not, ◌&&◌, nat_lt, nat_le, is_some, if◌then◌else◌, List, [], Option, Some, Result, Ok, Err, length, map}
+use Rattle.std.specs.Prelude.{ℕ, ◌+◌, Bool, false, not, ◌&&◌, nat_lt, nat_le, is_some, if◌then◌else◌, List, [], ◌++◌, Option, Some, Result, Ok, Err, length, map, take, drop}
 use Rattle.modes_frame.specs.declared.claims.Claim.{Claim}
 use Rattle.modes_frame.specs.declared.claims.CheckFault.{CheckFault}
 use Rattle.station_journal.specs.declared.Aircraft.{Aircraft}
 use Rattle.station_journal.specs.declared.Entry.{Entry}
 use Rattle.station_journal.specs.declared.Refusal.{Refusal}
-use Rattle.station_journal.specs.declared.Refusal.TheVariants.{Unknown, BookFull, NotLater}
+use Rattle.station_journal.specs.declared.Refusal.TheVariants.{Unknown, BookFull, NotLater, Repeated}
 use Rattle.station_journal.specs.Log.{most_entries}
-use Rattle.station_journal.specs.Past.{or_older}
+use Rattle.station_journal.specs.Past.{Frame, or_older}
+use Rattle.station_journal.specs.Repeats.{is_one_of, with_heard}
 use Rattle.station_journal.specs.Verdict.{refuse_if, fault_refusal}
+use Rattle.station_book.specs.declared.steps.Sighting.{Sighting}
 use Rattle.station_book.specs.declared.steps.Step.{Step}
 use Rattle.station_book.specs.declared.steps.Step.TheVariants.{Tick, Heard}
 use Rattle.station_book.specs.declared.tracks.Track.{Track}
@@ -17,26 +19,35 @@ use Rattle.station_book.specs.declared.steps.Change.TheVariants as change
 use Rattle.station_book.specs.Steps.{step_of, claim_in}
 use Rattle.station_book.specs.Tracks.{find_track, swept, with_sighting, has_place, with_track, track_row}
 
--- the clock, how many entries were taken, and what is kept of each live aircraft
+-- the clock, how many entries were taken, what is kept of each live aircraft, and the first frames heard since the
+-- newest tick
 pub record State : Type 0 where
   pub moment : ℕ
   pub entries : ℕ
   pub tracks : List Track
+  pub first_frames : List Frame
 
 -- a book without entries, whose clock is at the base
 abbrev pub starting : ℕ → State
-starting base = record { moment = base; entries = 0; tracks = [] }
+starting base = record { moment = base; entries = 0; tracks = []; first_frames = [] }
 
 -- the rows that the book shows
 abbrev pub rows : State → List Aircraft
 rows book = map (track_row book.moment) book.tracks
 
--- the book's refusal of a claim: the first that applies of its fault, Unknown and BookFull
-abbrev pub book_claim_refusal : ℕ → State → Result Claim CheckFault → Option Refusal
-book_claim_refusal n book (Err fault) = Some (fault_refusal fault)
-book_claim_refusal n book (Ok claim) =
+-- the book's refusal of a claim, whose frame repeats one or doesn't: the first that applies of its fault, Unknown,
+-- Repeated and BookFull
+abbrev pub book_claim_refusal : ℕ → State → Bool → Result Claim CheckFault → Option Refusal
+book_claim_refusal n book repeated (Err fault) = Some (fault_refusal fault)
+book_claim_refusal n book repeated (Ok claim) =
     or_older (refuse_if (if claim.overlaid then not (is_some (find_track claim.address book.tracks)) else false) (Unknown claim.address))
-    (refuse_if (if is_some (find_track claim.address book.tracks) then false else nat_le n (length book.tracks)) BookFull)
+    (or_older (refuse_if repeated Repeated)
+    (refuse_if (if is_some (find_track claim.address book.tracks) then false else nat_le n (length book.tracks)) BookFull))
+
+-- the frame that was decoded is one of the first
+abbrev pub repeats : State → Result Sighting CheckFault → Bool
+repeats book (Err fault) = false
+repeats book (Ok sighting) = is_one_of book.first_frames sighting.frame
 
 -- its refusal of a tick
 abbrev pub book_tick_refusal : State → ℕ → Option Refusal
@@ -45,17 +56,26 @@ book_tick_refusal book at = refuse_if (nat_le at book.moment) (NotLater book.mom
 -- its refusal of a decoded entry
 abbrev pub step_refusal : ℕ → State → Step → Option Refusal
 step_refusal n book (Tick at) = book_tick_refusal book at
-step_refusal n book (Heard sighting) = book_claim_refusal n book (claim_in sighting)
+step_refusal n book (Heard sighting) = book_claim_refusal n book (repeats book sighting) (claim_in sighting)
 
 -- its refusal of an entry
 abbrev pub book_refusal : ℕ → State → Entry → Option Refusal
 book_refusal n book entry = step_refusal n book (step_of entry)
 
+-- the first frames, with that of a sighting
+abbrev pub with_frame_of : Result Sighting CheckFault → List Frame → List Frame
+with_frame_of (Err fault) frames = frames
+with_frame_of (Ok sighting) frames = with_heard sighting.frame frames
+
 -- the book with one decoded entry more
 abbrev pub applied_step : State → Step → State
-applied_step book (Tick at) = record { moment = at; entries = book.entries + 1; tracks = swept at book.tracks }
-applied_step book (Heard sighting) =
-    record { moment = book.moment; entries = book.entries + 1; tracks = with_sighting book.moment sighting book.tracks }
+applied_step book (Tick at) = record { moment = at; entries = book.entries + 1; tracks = swept at book.tracks; first_frames = [] }
+applied_step book (Heard sighting) = record {
+  moment = book.moment;
+  entries = book.entries + 1;
+  tracks = with_sighting book.moment sighting book.tracks;
+  first_frames = with_frame_of sighting book.first_frames;
+}
 
 -- the book with one entry more
 abbrev pub applied : State → Entry → State
@@ -80,8 +100,18 @@ offered_step n book step =
 abbrev pub offered : ℕ → State → Entry → State
 offered n book entry = offered_step n book (step_of entry)
 
--- the book brought up to one that is an entry ahead: its clock and count, and of its tracks what the entry changed
+-- the first frames, with the one more that others have who are a frame ahead
+abbrev pub with_frame_ahead : List Frame → List Frame → List Frame
+with_frame_ahead ahead frames = frames ++ take 1 (drop (length frames) ahead)
+
+-- the book brought up to one that is an entry ahead: its clock and count, and what the entry changed of its tracks and its
+-- first frames
 abbrev pub caught_up : ℕ → State → Change → State → State
-caught_up n ahead change.Clock book = record { moment = ahead.moment; entries = ahead.entries; tracks = swept ahead.moment book.tracks }
-caught_up n ahead (change.Track a) book =
-    record { moment = ahead.moment; entries = ahead.entries; tracks = with_track n (find_track a ahead.tracks) book.tracks }
+caught_up n ahead change.Clock book =
+    record { moment = ahead.moment; entries = ahead.entries; tracks = swept ahead.moment book.tracks; first_frames = [] }
+caught_up n ahead (change.Track a) book = record {
+  moment = ahead.moment;
+  entries = ahead.entries;
+  tracks = with_track n (find_track a ahead.tracks) book.tracks;
+  first_frames = with_frame_ahead ahead.first_frames book.first_frames;
+}

@@ -1,5 +1,6 @@
 pub mod Past
 pub mod Table
+pub mod Repeats
 pub mod Verdict
 pub mod Log
 pub mod Found

@@ -2,7 +2,7 @@
 use Rattle.std.specs.Prelude.{◌≡◌, ℕ, Bool, true, false, List, [], ◌∷◌, Result, Ok, Err, length}
 use Rattle.station_journal.specs.declared.Entry.TheVariants.{Heard}
 use Rattle.station_journal.specs.declared.Refusal.{Refusal}
-use Rattle.station_journal.specs.declared.Refusal.TheVariants.{Unsupported, BadParity, Unassigned, Unknown, JournalFull, BookFull, NoMemory, NotLater}
+use Rattle.station_journal.specs.declared.Refusal.TheVariants.{Unsupported, BadParity, Unassigned, Unknown, JournalFull, BookFull, NoMemory, NotLater, Repeated}
 use Rattle.station_journal.specs.Log.{Log, Steps}
 
 -- steps of a feed for these frames in order, with these answers, and no other step
@@ -23,6 +23,7 @@ is_reply (Err JournalFull) = true
 is_reply (Err BookFull) = true
 is_reply (Err NoMemory) = false
 is_reply (Err (NotLater now)) = true
+is_reply (Err Repeated) = true
 
 -- one step of a journal for a frame that a seat heard, whose answer tells no index
 abbrev pub FeedSteps : Log → ℕ → List ℕ → Result (Unit {0}) Refusal → Log → Type 0
