@@ -2,6 +2,7 @@ pub mod Fresh
 pub mod SearchLemmas
 pub mod RisingLemmas
 pub mod FoundLemmas
+pub mod RepeatLemmas
 pub mod LegalLemmas
 pub mod NewestLemmas
 pub mod TableLemmas
