@@ -4,4 +4,5 @@ pub mod Repeats
 pub mod Verdict
 pub mod Log
 pub mod Found
+pub mod Looked
 pub mod Newest

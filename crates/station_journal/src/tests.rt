@@ -5,6 +5,7 @@ ghost use Rattle.station_journal.specs.Log.{most_entries};
 
 mod known;
 mod positions;
+mod repeats;
 
 use crate::tests::known::{
     AIRSPEED, ALL_CALL, COMM_B_ALTITUDE, COMM_B_IDENTITY, EVEN, FORMAT_1, IDENTIFICATION, IDENTITY,
@@ -127,7 +128,7 @@ const IN_ORDER: Script = &[
     (Hear(IDENTIFICATION), Ok(0)),
     (Hear(ALL_CALL), Err(Refusal::JournalFull)),
     (Hear(SPEED), Err(Refusal::JournalFull)),
-    (Hear(IDENTIFICATION), Err(Refusal::JournalFull)),
+    (Hear(IDENTIFICATION), Err(Refusal::Repeated)),
     (Hear(IDENTITY), Err(Refusal::Unknown(0x510AF9))),
     (Tick(5), Err(Refusal::JournalFull)),
     (Tick(0), Err(Refusal::NotLater(0))),
@@ -153,20 +154,30 @@ fn refusals_in_their_order(rt: HostRuntime) -> Result<(), Fail> {
     Ok(())
 }
 
-const FULL_TABLE: Script = &[
+const REPLY_AT_A_FULL_TABLE: Script = &[
     (Hear(IDENTIFICATION), Ok(0)),
     (Hear(ALL_CALL), Err(Refusal::BookFull)),
-    (Hear(SPEED), Err(Refusal::BookFull)),
-    (Hear(IDENTIFICATION), Ok(1)),
+    (Hear(IDENTIFICATION), Err(Refusal::Repeated)),
+    (Hear(SHORT_AIR), Ok(1)),
     (Tick(60_001), Ok(2)),
     (Hear(ALL_CALL), Ok(3)),
 ];
 
+const SQUITTER_AT_A_FULL_TABLE: Script = &[
+    (Hear(IDENTIFICATION), Ok(0)),
+    (Hear(SPEED), Err(Refusal::BookFull)),
+    (Hear(IDENTIFICATION), Err(Refusal::Repeated)),
+    (Tick(60_001), Ok(1)),
+    (Hear(SPEED), Ok(2)),
+];
+
 #[test]
 fn a_full_table_takes_another_aircraft_when_one_is_gone(rt: HostRuntime) -> Result<(), Fail> {
-    let journal = played(&rt, rt.alloc(), ONE_AIRCRAFT, FULL_TABLE)?;
-    assert_eq!(rt; journal.aircraft(0x4840D6), None);
-    assert_eq!(rt; Rows::len(&journal), 1);
+    for script in [REPLY_AT_A_FULL_TABLE, SQUITTER_AT_A_FULL_TABLE] {
+        let journal = played(&rt, rt.alloc(), ONE_AIRCRAFT, script)?;
+        assert_eq!(rt; journal.aircraft(0x4840D6), None);
+        assert_eq!(rt; Rows::len(&journal), 1);
+    }
     Ok(())
 }
 
@@ -326,27 +337,5 @@ fn ticks_and_ages(rt: HostRuntime) -> Result<(), Fail> {
     let journal = played(&rt, rt.alloc(), MANY, LAST_TICK)?;
     assert_eq!(rt; Rows::len(&journal), 0);
     assert_eq!(rt; journal.now(), u64::MAX);
-    Ok(())
-}
-
-#[test]
-fn a_frame_heard_by_two_seats_stands_twice(rt: HostRuntime) -> Result<(), Fail> {
-    let mut journal = after(&rt, rt.alloc(), &[Tick(1), Hear(IDENTIFICATION)])?;
-    let heard = frame(IDENTIFICATION)?;
-    let told = match journal.feed(1, heard) {
-        Err(Refusal::NoMemory) => journal.feed(1, heard),
-        told => told,
-    };
-    assert_eq!(rt; told, Ok(2));
-    let first = Entry::Heard {
-        seat: 0,
-        frame: heard,
-    };
-    let second = Entry::Heard {
-        seat: 1,
-        frame: heard,
-    };
-    assert_eq!(rt; journal.get(1), Some(first));
-    assert_eq!(rt; journal.get(2), Some(second));
     Ok(())
 }
