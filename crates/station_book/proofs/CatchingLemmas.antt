@@ -1,13 +1,17 @@
 -- A book that takes over what an entry changed is the one that took the entry.
-use Rattle.std.proofs.Common.{◌≡◌, ℕ, true, List, Option, Some, IfSome, Ok, Err, refl, ◌∙◌, subst, ap, arith}
+use Rattle.std.proofs.Common.{◌≡◌, ℕ, Bool, true, false, if◌then◌else◌, List, [], ◌∷◌, ◌++◌, length, Option, Some, IfSome, Ok, Err, refl, ◌∙◌, subst, arith}
+use Rattle.std.specs.Prelude.{nat_lt}
 use Rattle.std.proofs.lemmas.Bool.Decides.{nat_tests}
+use Rattle.std.proofs.lemmas.List.{append-nil, drop-append-le, drop_all}
 use Rattle.station_book.specs.declared.steps.Step.{Step}
 use Rattle.station_book.specs.declared.steps.Step.TheVariants.{Tick, Heard}
 use Rattle.station_book.specs.declared.steps.Change.{Change}
+use Rattle.station_journal.specs.Past.{Frame}
+use Rattle.station_journal.specs.Repeats.{most_looked_at, with_heard}
 use Rattle.station_book.specs.declared.tracks.Track.{Track}
 use Rattle.modes_fields.specs.Carried.{fields_of}
 use Rattle.station_book.specs.Steps.{change_of}
-use Rattle.station_book.specs.State.{State, applied_step, caught_up, fits}
+use Rattle.station_book.specs.State.{State, applied_step, caught_up, fits, with_frame_ahead}
 use Rattle.station_book.specs.Tracks.{find_track, put_track, updated, track_or_blank, with_track, has_place}
 use Rattle.station_book.proofs.TracksLemmas.{find_put_as, found_address}
 
@@ -18,13 +22,21 @@ copied n a track tracks named place =
     let found : find_track a (put_track track tracks) ≡ Some track = find_put_as a a track tracks named ∙ grind (arith, nat_tests) in
     rw (found, named, place) refl
 
+-- so is a frame that was taken, or none where there were as many as are looked at
+frame_copied : (frame : Frame) (frames : List Frame) → with_frame_ahead (with_heard frame frames) frames ≡ with_heard frame frames
+frame_copied frame frames = by_room (nat_lt (length frames) most_looked_at) refl
+  where
+    by_room : (room : Bool) → nat_lt (length frames) most_looked_at ≡ room → with_frame_ahead (if room then frames ++ frame ∷ [] else frames) frames ≡ (if room then frames ++ frame ∷ [] else frames)
+    by_room true is = rw (drop-append-le (length frames) frames (frame ∷ []) (omega arith), drop_all (length frames) frames (omega arith)) refl
+    by_room false is = rw (drop_all (length frames) frames (omega arith)) (append-nil frames)
+
 by_step : (n : ℕ) (book : State) (step : Step) → fits n book step ≡ true →
     IfSome (change_of step) (λ change. caught_up n (applied_step book step) change book ≡ applied_step book step)
 by_step n book (Tick at) fit = refl
 by_step n book (Heard (Ok sighting)) fit =
-    ap (λ (tracks : List Track). record { moment = book.moment; entries = (applied_step book (Heard (Ok sighting))).entries; tracks = tracks })
-    (copied n sighting.claim.address (updated book.moment (fields_of sighting.frame) (track_or_blank sighting.claim.address book.tracks)) book.tracks
-    (found_address sighting.claim.address book.tracks) fit)
+    let a = sighting.claim.address in
+    let tracks = copied n a (updated book.moment (fields_of sighting.frame) (track_or_blank a book.tracks)) book.tracks (found_address a book.tracks) fit in
+    rw (tracks, frame_copied sighting.frame book.first_frames) refl
 by_step n book (Heard (Err fault)) fit = tt
 
 -- the book that takes over a change is the one that took the step

@@ -13,14 +13,13 @@ use Rattle.station_book.specs.State.{State, applied, offered, rows, fits, book_r
 use Rattle.station_book.specs.Matching.{MatchesPast, Matches, Shows, book_of_past, book_after}
 use Rattle.station_book.proofs.MatchingLemmas.{matches_starting, matches_applied, matches_push}
 use Rattle.station_book.proofs.TableLemmas.{rows_are_table}
-use Rattle.station_book.proofs.VerdictLemmas.{same_claim_refusal, same_tick_refusal, same_refusal, fits_from_accepts, fits_from, fits_back, accepted_with_room}
+use Rattle.station_book.proofs.VerdictLemmas.{same_tick_refusal, same_refusal, fits_from_accepts, fits_from, fits_back, accepted_with_room}
 
 pub shows_from_match : (n base : ℕ) (book : State) (entries : List Entry) → Matches n base book entries → Shows n base book entries
 shows_from_match n base book entries m = record {
   table = rows_are_table n base (reverse entries) book m;
   moment = m.moment;
   count = m.entries ∙ length-reverse entries;
-  claim = same_claim_refusal n base (reverse entries) book m;
   tick = same_tick_refusal n base (reverse entries) book m;
   entry = same_refusal n base (reverse entries) book m;
 }

@@ -7,4 +7,5 @@ pub mod TableLemmas
 pub mod VerdictLemmas
 pub mod LawLemmas
 pub mod OfferLemmas
+pub mod DigestLemmas
 pub mod CatchingLemmas

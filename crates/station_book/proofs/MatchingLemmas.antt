@@ -1,5 +1,5 @@
 -- A book that matches a past matches it with one more entry that fits.
-use Rattle.std.proofs.Common.{◌≡◌, ℕ, ◌-◌, ◌<◌, Bool, true, false, if◌then◌else◌, List, [], ◌∷◌, ◌++◌, Option, Some, None, Result, Ok, Err, refl, subst, arith}
+use Rattle.std.proofs.Common.{◌≡◌, ℕ, ◌-◌, ◌<◌, Bool, true, false, if◌then◌else◌, List, [], ◌∷◌, ◌++◌, Option, Some, None, Result, Ok, Err, refl, sym, subst, arith}
 use mathlib.Core.List.{reverse}
 use Rattle.std.specs.Prelude.{nat_le, ◌==◌, unwrap_or}
 use Rattle.std.proofs.lemmas.Bool.{eqb-true}
@@ -19,6 +19,7 @@ use Rattle.station_book.specs.Steps.{with_frame}
 use Rattle.station_book.specs.Tracks.{blank, updated, find_track, with_sighting}
 use Rattle.station_book.specs.State.{State, applied, starting}
 use Rattle.station_book.specs.Matching.{ClaimFits, Fits, Sound, Tracks, TracksAt, MatchesPast, Matches}
+use Rattle.station_journal.proofs.RepeatLemmas.{first_heard_next}
 use Rattle.station_book.proofs.OneAircraft.{kept_by_tick, swept_by_tick, absent_after_tick, unchanged_by_other, heard_of_own}
 use Rattle.station_book.proofs.TracksLemmas.{keep_if, find_put_as, find_filter, rising_put, rising_filter}
 
@@ -30,7 +31,7 @@ timed_from_sound n base (Heard seat frame ∷ past) sound = timed_from_sound n b
 
 -- a book without entries matches the empty past
 pub matches_starting : (n base : ℕ) → MatchesPast n base (starting base) []
-matches_starting n base = record { sound = tt; moment = refl; entries = refl; rising = tt; each = λ a. refl }
+matches_starting n base = record { sound = tt; moment = refl; entries = refl; rising = tt; each = λ a. refl; first_frames = refl }
 
 module _ (n base : ℕ) (past : List Entry) where
   -- what is kept of one aircraft after a tick
@@ -49,6 +50,7 @@ module _ (n base : ℕ) (past : List Entry) where
     entries = omega (arith, m.entries);
     rising = rising_filter (λ track. nat_le (at - track.heard) 60000) book.tracks m.rising;
     each = λ a. rw (find_filter a (λ track. nat_le (at - track.heard) 60000) book.tracks m.rising) (after_tick seat at a (find_track a book.tracks) (timed_from_sound n base past m.sound) later (m.each a));
+    first_frames = refl;
   }
 
   -- the track of an address has that address
@@ -84,6 +86,7 @@ module _ (n base : ℕ) (past : List Entry) where
     entries = omega (arith, m.entries);
     rising = rw is (rising_put _ book.tracks m.rising);
     each = λ b. rw (is, m.moment) (after_frame seat frame claim book.tracks is m.each b);
+    first_frames = rw (is, m.first_frames) (sym (first_heard_next seat frame past));
   }
 
   -- one more entry that fits

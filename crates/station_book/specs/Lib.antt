@@ -1,4 +1,5 @@
 pub mod Steps
 pub mod Tracks
+pub mod Digests
 pub mod State
 pub mod Matching

@@ -1,5 +1,5 @@
 -- When a book and a list of entries match: each aircraft apart, and then the whole.
-use Rattle.std.specs.Prelude.{◌≡◌, ℕ, Bool, ◌<◌, ◌≤◌, true, false, List, [], ◌∷◌, Option, Some, None, Result, Ok, Err, length, reverse}
+use Rattle.std.specs.Prelude.{◌≡◌, ℕ, ◌<◌, ◌≤◌, true, false, List, [], ◌∷◌, Option, Some, None, Result, Ok, Err, length, reverse}
 use Rattle.modes_frame.specs.declared.claims.Claim.{Claim}
 use Rattle.modes_frame.specs.declared.claims.CheckFault.{CheckFault}
 use Rattle.modes_frame.specs.Claims.{claim_of}
@@ -9,10 +9,10 @@ use Rattle.station_journal.specs.declared.Stamped.{Stamped}
 use Rattle.station_journal.specs.Past.{clock, live, fresh, newest, newest_fix, sighting_of, callsign_of, even_place_of, odd_place_of}
 use Rattle.station_journal.specs.Table.{altitude_of, squawk_of, velocity_of, vertical_of, live_addresses, table}
 use Rattle.station_journal.specs.Repeats.{first_heard}
-use Rattle.station_journal.specs.Verdict.{claim_refusal, tick_refusal, refusal}
+use Rattle.station_journal.specs.Verdict.{tick_refusal, refusal}
 use Rattle.station_book.specs.declared.tracks.Track.{Track}
 use Rattle.station_book.specs.Tracks.{find_track, Rising}
-use Rattle.station_book.specs.State.{State, rows, starting, applied, book_claim_refusal, book_tick_refusal, book_refusal}
+use Rattle.station_book.specs.State.{State, rows, starting, applied, book_tick_refusal, book_refusal}
 
 -- the claim is of an address that is live, or finds fewer than n live
 abbrev pub ClaimFits : ℕ → ℕ → List Entry → Result Claim CheckFault → Type 0
@@ -70,7 +70,6 @@ pub record Shows (n base : ℕ) (book : State) (entries : List Entry) : Type 0 w
   pub table : rows book ≡ table base (reverse entries)
   pub moment : book.moment ≡ clock base (reverse entries)
   pub count : book.entries ≡ length entries
-  pub claim : (repeated : Bool) (claim : Result Claim CheckFault) → book_claim_refusal n book repeated claim ≡ claim_refusal false repeated n base (reverse entries) claim
   pub tick : (at : ℕ) → book_tick_refusal book at ≡ tick_refusal false base (reverse entries) at
   pub entry : (entry : Entry) → book_refusal n book entry ≡ refusal false n base (reverse entries) entry
 

@@ -2,6 +2,7 @@
 //! what a search of all of them finds.
 #![tactic(auto)]
 
+mod first_frames;
 pub mod laws;
 pub mod running;
 pub mod steps;

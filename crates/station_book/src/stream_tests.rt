@@ -154,6 +154,8 @@ fn give_change(rt: &impl Abort, shown: &mut Book<6>, spare: &mut Book<6>, entry:
     }
     assert_eq!(rt; spare.entries(), shown.entries());
     assert_eq!(rt; spare.now(), shown.now());
+    let step = Step::of(entry);
+    assert_eq!(rt; spare.verdict_of(&step), shown.verdict_of(&step));
     for address in 0x406200..0x406207 {
         assert_eq!(rt; spare.get(address), shown.get(address));
     }

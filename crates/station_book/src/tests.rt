@@ -1,5 +1,7 @@
 //! Known frames, given to a journal and to a book: both answer and show the same after each.
 
+mod repeats;
+
 use crate::{Book, Step};
 use modes_cpr::{Degrees, Position};
 use modes_frame::Frame;
@@ -270,15 +272,14 @@ fn a_full_book_frees_a_place_at_a_tick(rt: HostRuntime) -> Result<(), Fail> {
     let alloc = rt.alloc();
     let calls = [Hear(KLM1023), Hear(ALL_CALL), Hear(KLM1023)];
     let book: Book<1> = compare(&rt, alloc, &calls)?;
-    assert_eq!(rt; book.entries(), 2);
-    assert_eq!(rt;
-        book.verdict_of(&Step::of(&entry(Hear(ALL_CALL))?)),
-        Err(Refusal::BookFull)
-    );
+    assert_eq!(rt; book.entries(), 1);
+    assert_eq!(rt; book.verdict(&frame(ALL_CALL)?), Err(Refusal::BookFull));
+    assert_eq!(rt; book.verdict(&frame(KLM1023)?), Err(Refusal::Repeated));
     let calls = [
         Hear(KLM1023),
         Hear(ALL_CALL),
         Hear(KLM1023),
+        Hear(SHORT_AIR),
         Tick(60_001),
         Hear(ALL_CALL),
     ];
@@ -367,14 +368,16 @@ const SAME_LOW_BITS: &[u8] = &[0x5D, 0x48, 0x48, 0xD6, 0x88, 0x18, 0x0F];
 
 const BELOW: &[u8] = &[0x5D, 0x40, 0x00, 0x00, 0xEE, 0x1F, 0x40];
 
-// Heard twice, 4840D6 stands first; 400000 then comes before it, and 4848D6 has its hint.
+// Heard again after a tick, 4840D6 stands first; 400000 then comes before it, and 4848D6 has its hint.
 #[test]
 fn hints_that_are_out_of_date(rt: HostRuntime) -> Result<(), Fail> {
     let calls = [
         Hear(KLM1023),
+        Tick(1),
         Hear(KLM1023),
         Hear(BELOW),
         Hear(SAME_LOW_BITS),
+        Tick(2),
         Hear(SAME_LOW_BITS),
         Hear(KLM1023),
     ];

@@ -1,0 +1,164 @@
+//! The first frames heard since the newest tick.
+
+ghost use Rattle.std.specs.Prelude.{◌≡◌, ◌&&◌, [], length, nat_lt, get_or};
+ghost use Rattle.station_journal.specs.Repeats.{is_one_of, same_frame, with_heard};
+ghost use Rattle.station_book.specs.Digests.{digest_of};
+ghost use Rattle.station_book.specs.State.{with_frame_ahead};
+
+use arrayvec::ArrayVec;
+use modes_frame::Frame;
+use std::marker::Model;
+
+/// How many frames are looked at for a repeat.
+const MOST: usize = 256;
+
+/// How many hints are kept, one for each value of a digest's low bits.
+const HINTS: usize = 8192;
+
+/// The first frames, at most 256. Contracts see them as a list.
+#[derive(Drop)]
+pub struct FirstFrames {
+    // The digests of the frames, apart from them: what is scanned is small.
+    digests: ArrayVec<u32, MOST>,
+    frames: ArrayVec<KeptFrame, MOST>,
+    // For each value of a digest's low bits: 0 where no frame has it, and else the place of one that
+    // has it, or 1 for place 0. Most frames are new, and find 0.
+    hints: [u8; HINTS],
+}
+
+impl Model for FirstFrames {
+    ghost use Rattle.std.specs.Prelude.{◌≡◌, ℕ, List, map};
+    ghost use Rattle.station_book.specs.Digests.{digest_of, Hinted};
+
+    ghost Value = { List (List ℕ) };
+
+    ghost view = { λ f. f.frames.items };
+
+    ghost invariant = { λ f. record {
+      digests : f.digests.items ≡ map digest_of f.frames.items;
+      hints : Hinted f.hints f.frames.items;
+    } };
+}
+
+impl FirstFrames {
+    /// No frames.
+    pub fn new() -> Self
+        ensures { result ≡ [] }
+    {
+        FirstFrames {
+            digests: ArrayVec::new(),
+            frames: ArrayVec::new(),
+            hints: [0; HINTS],
+        }
+    }
+
+    /// Whether the frame is one of them.
+    pub fn contains(&self, frame: &Frame) -> bool
+        ensures { result ≡ is_one_of self.now frame.now }
+    {
+        let digest = digest(frame);
+        let hint = self.hints[digest as usize % HINTS];
+        hint != 0 && (self.stands_at(usize::from(hint), frame) || self.stands_among(digest, frame))
+    }
+
+    // Whether the frame stands at the place.
+    fn stands_at(&self, place: usize, frame: &Frame) -> bool
+        ensures { result ≡ (nat_lt place (length self.now) &&
+            same_frame frame.now (get_or self.now place [])) }
+    {
+        if place < self.frames.len() {
+            let there = &self.frames[place];
+            return frame.bytes() == there.frame.bytes();
+        }
+        false
+    }
+
+    // Whether the frame, which has this digest, stands anywhere.
+    #[inline(never)]
+    fn stands_among(&self, digest: u32, frame: &Frame) -> bool
+        requires { digest ≡ digest_of frame.now }
+        ensures { result ≡ is_one_of self.now frame.now }
+    {
+        for (place, other) in self.digests.as_slice().iter().enumerate() {
+            if *other == digest && self.stands_at(place, frame) {
+                return true;
+            }
+        }
+        false
+    }
+
+    /// Takes the frame, while there are fewer than 256.
+    pub fn hear(&mut self, frame: &Frame)
+        ensures { self.new ≡ with_heard frame.now self.old }
+    {
+        let place = self.frames.len();
+        if place < MOST {
+            let digest = digest(frame);
+            self.hints[digest as usize % HINTS] = (place as u8).max(1);
+            self.digests.push(digest);
+            self.frames.push(KeptFrame { frame: *frame });
+        }
+    }
+
+    /// Takes over the one more frame of others that are ahead.
+    pub fn catch_up(&mut self, ahead: &FirstFrames)
+        ensures { self.new ≡ with_frame_ahead ahead.now self.old }
+    {
+        let place = self.frames.len();
+        if place < ahead.frames.len() {
+            let next = &ahead.frames[place];
+            self.hear(&next.frame);
+        }
+    }
+
+    /// Forgets all frames.
+    pub fn clear(&mut self)
+        ensures { self.new ≡ [] }
+    {
+        forget(&mut self.hints, self.digests.as_slice());
+        self.digests.clear();
+        self.frames.clear();
+    }
+}
+
+/// A frame that is kept. The one by default has seven bytes of zeros.
+#[derive(Clone, Copy)]
+struct KeptFrame {
+    frame: Frame,
+}
+
+impl Model for KeptFrame {
+    ghost use Rattle.std.specs.Prelude.{ℕ, List};
+
+    ghost Value = { List ℕ };
+
+    ghost view = { λ k. k.frame };
+
+    ghost inverse = { λ bytes. record { frame = bytes } };
+}
+
+impl Default for KeptFrame {
+    fn default() -> Self {
+        KeptFrame {
+            frame: Frame::from_bytes(&[0; 7]).unwrap(),
+        }
+    }
+}
+
+// The number in the last three bytes of the frame, where its parity stands.
+fn digest(frame: &Frame) -> u32
+    ensures { result ≡ digest_of frame.now }
+{
+    let bytes = frame.bytes();
+    let count = bytes.len() - 3;
+    u32::from(bytes[count]) * 0x1_0000
+        + u32::from(bytes[count + 1]) * 0x100
+        + u32::from(bytes[count + 2])
+}
+
+// Makes the hints of these digests 0.
+fn forget(hints: &mut [u8; HINTS], digests: &[u32]) {
+    for digest in digests {
+        hints[*digest as usize % HINTS] = 0;
+    }
+}
