@@ -13,7 +13,7 @@ use Rattle.modes_frame.specs.declared.line.Line.TheVariants.{Frame, ModeAc, Blan
 use Rattle.modes_frame.specs.declared.line.LineFault.{LineFault}
 use Rattle.modes_frame.specs.Reading.{reading_of}
 use Rattle.station_journal.specs.declared.Refusal.{Refusal}
-use Rattle.station_journal.specs.declared.Refusal.TheVariants.{Unsupported, BadParity, Unassigned, Unknown, JournalFull, BookFull, NoMemory, NotLater}
+use Rattle.station_journal.specs.declared.Refusal.TheVariants.{Unsupported, BadParity, Unassigned, Unknown, JournalFull, BookFull, NoMemory, NotLater, Repeated}
 use Rattle.station_shared.specs.Source.{one_more, counted_up}
 use Rattle.station_shared.specs.Calls.{heard, heard_line, frame_in, frames_of}
 use Rattle.station_shared.specs.Command.{of_line}
@@ -83,6 +83,7 @@ module _ {F : Type 0} (gives : F → List ℕ → Result (Unit {0}) Refusal → 
       want (Err BookFull) e = cc
       want (Err NoMemory) e = refl
       want (Err (NotLater now)) e = cc
+      want (Err Repeated) e = cc
 
   pub Pumps-frame : (line : Cut) (frame : List ℕ) (before after : F) (s t : Tally) (r : Result (Unit {0}) AllocError) → PumpsFrame gives before after frame s t r → heard line ≡ Ok (Received (Frame frame))
       → Pumps gives (record { feed = before; tally = s }) (line ∷ []) r (record { feed = after; tally = t })

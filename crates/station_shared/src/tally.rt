@@ -20,7 +20,7 @@ pub struct Tally {
     pub faults: u64,
     /// Frames and ticks that were accepted.
     pub accepted: u64,
-    /// Frames and ticks that were refused.
+    /// Frames and ticks that were refused, frames that repeat one heard since the newest tick among them.
     pub refused: u64,
     pub ghost by_kind: { lines ≡ frames + ticks + shows + blank + mode_ac + faults },
     pub ghost by_answer: { accepted + refused ≡ frames + ticks },

@@ -28,6 +28,16 @@ const ONE_FRAME_EACH: &str = concat!(
     "lines 1 frames 1 ticks 0 shows 0 blank 0 modeac 0 faults 0 accepted 1 refused 0\n",
 );
 
+const FIRST_ACCEPTED: &str = concat!(
+    "lines 1 frames 1 ticks 0 shows 0 blank 0 modeac 0 faults 0 accepted 1 refused 0\n",
+    "lines 1 frames 1 ticks 0 shows 0 blank 0 modeac 0 faults 0 accepted 0 refused 1\n",
+);
+
+const SECOND_ACCEPTED: &str = concat!(
+    "lines 1 frames 1 ticks 0 shows 0 blank 0 modeac 0 faults 0 accepted 0 refused 1\n",
+    "lines 1 frames 1 ticks 0 shows 0 blank 0 modeac 0 faults 0 accepted 1 refused 0\n",
+);
+
 const NO_THREAD: &str = "groundstation: thread not started\n";
 
 const FIRST_WITHOUT_MEMORY: &str = concat!(
@@ -165,6 +175,18 @@ fn two_files_are_shown_in_one_table(rt: HostRuntime) -> io::Result<()> {
     assert_eq!(rt; text(&ran.err), ONE_FRAME_EACH);
     assert_eq!(rt; ran.status, 0);
     remove(&rt, &files)
+}
+
+// Whichever of two paths hands in their frame first, the other's is refused.
+#[test]
+fn a_frame_of_two_paths_is_accepted_once(rt: HostRuntime) -> io::Result<()> {
+    let files = two_files(&rt, IDENTIFICATION, IDENTIFICATION)?;
+    let ran = run_two(&rt, path_text(&files.first)?, path_text(&files.second)?);
+    assert_eq!(rt; text(&ran.out), TABLE_OF_FIRST);
+    let told = text(&ran.err);
+    assert!(rt; told == FIRST_ACCEPTED || told == SECOND_ACCEPTED);
+    assert_eq!(rt; ran.status, 0);
+    fs::remove_dir_all(&rt, &files.folder)
 }
 
 #[test]

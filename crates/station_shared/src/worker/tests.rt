@@ -1,6 +1,8 @@
 //! Receivers that hand in their lines at the same time.
 ghost use Rattle.std.specs.Prelude.{◌≡◌, None};
 
+mod refused;
+
 use crate::fakes::{Pieces, new_places, room_for};
 use crate::names::Total;
 use crate::places::Places;
@@ -283,9 +285,9 @@ fn one_that_fails<L: Total + Send + Sync, R: Threads + Wait + Abort + Sync>(
     let mut workers = Vec::new(alloc);
     run_receivers(rt, &station, workers.as_mut_slice(), 9);
     assert_eq!(rt; workers.len(), 0);
-    for fails_at in [2, 0] {
+    for (line, fails_at) in [(IDENTIFICATION, 2), (VELOCITY, 0)] {
         let seat = seats.pop().expect(rt, "a seat of a receiver");
-        let mut source = Pieces::new(IDENTIFICATION);
+        let mut source = Pieces::new(line);
         source.fails_at = fails_at;
         let pushed = workers.push(worker(seat, source)).is_ok();
         assert!(rt; pushed);
@@ -305,95 +307,4 @@ fn one_that_fails<L: Total + Send + Sync, R: Threads + Wait + Abort + Sync>(
 fn failed_receiver_leaves_the_others(rt: HostRuntime) -> Result<(), Fail> {
     let places = Places::<8>::new(&rt, rt.alloc(), 2)?;
     one_that_fails::<Brand, _>(&rt, rt.alloc(), Blank::new(2), places)
-}
-
-// Runs two receivers with too many lines: how many calls were accepted and refused, and how many entries are there.
-fn overfill<const N: usize, L: Total + Send + Sync, R: Threads + Wait + Abort + Sync>(
-    rt: &R,
-    alloc: Global,
-    station: Station<N, L>,
-    mut seats: Vec<Seat<N, L>>,
-    lines: [&'static [u8]; 2],
-) -> (u64, u64, u64) {
-    let mut workers = room_for(rt, alloc, 2);
-    for line in lines {
-        let seat = seats.pop().expect(rt, "a seat of a receiver");
-        let pushed = workers.push(worker(seat, Pieces::new(line))).is_ok();
-        assert!(rt; pushed);
-    }
-    run_receivers(rt, &station, workers.as_mut_slice(), 9);
-    let (mut accepted, mut refused) = (0u64, 0u64);
-    for worker in workers {
-        match worker.answer {
-            Some(Ok(counted)) => {
-                accepted = accepted.saturating_add(counted.accepted);
-                refused = refused.saturating_add(counted.refused);
-            }
-            _ => panic!(rt; "a source without a fault"),
-        }
-        let Worker { seat, .. } = worker;
-        let pushed = seats.push(seat).is_ok();
-        assert!(rt; pushed);
-    }
-    (accepted, refused, close_all(rt, station, seats))
-}
-
-const THREE_LINES: &'static [u8] =
-    b"*8D4840D6202CC371C32CE0576098;\n*8D40621D58C382D690C8AC2863A7;\n*8D485020994409940838175B284F;\n";
-
-const THREE_OTHER_LINES: &'static [u8] =
-    b"*8D40621D58C386435CC412692AD6;\n*8DA05F219B06B6AF189400CBC33F;\n*5D510AF9A8D8BC;\n";
-
-fn fill_the_journal<L: Total + Send + Sync, R: Threads + Wait + Abort + Sync>(
-    rt: &R,
-    alloc: Global,
-    blank: Blank,
-    places: Places<8>,
-) -> Result<(), Fail>
-    requires ledger { (blank.name ≡ L.name) × (blank.parts ≡ L.parts) }
-    requires seats { (L.parts ≡ 2) × (L.seats ≡ 2) × (places.places ≡ 2) }
-    requires history { places.history ≡ L.history }
-    requires limits { L.limits ≡ record { entries = 3; aircraft = 8 } }
-{
-    let limits = Limits {
-        entries: 3,
-        aircraft: 8,
-    };
-    let (station, seats) = Station::<8, L>::new(rt, alloc, limits, 2, blank, places)?;
-    let filled = overfill(rt, alloc, station, seats, [THREE_LINES, THREE_OTHER_LINES]);
-    assert_eq!(rt; filled, (3, 3, 3));
-    Ok(())
-}
-
-#[test]
-fn a_full_journal_takes_no_more_of_two_receivers(rt: HostRuntime) -> Result<(), Fail> {
-    let places = Places::<8>::new(&rt, rt.alloc(), 2)?;
-    fill_the_journal::<Brand, _>(&rt, rt.alloc(), Blank::new(2), places)
-}
-
-fn fill_the_table<L: Total + Send + Sync, R: Threads + Wait + Abort + Sync>(
-    rt: &R,
-    alloc: Global,
-    blank: Blank,
-    places: Places<1>,
-) -> Result<(), Fail>
-    requires ledger { (blank.name ≡ L.name) × (blank.parts ≡ L.parts) }
-    requires seats { (L.parts ≡ 2) × (L.seats ≡ 2) × (places.places ≡ 2) }
-    requires history { places.history ≡ L.history }
-    requires limits { L.limits ≡ record { entries = 16; aircraft = 1 } }
-{
-    let limits = Limits {
-        entries: 16,
-        aircraft: 1,
-    };
-    let (station, seats) = Station::<1, L>::new(rt, alloc, limits, 2, blank, places)?;
-    let filled = overfill(rt, alloc, station, seats, [IDENTIFICATION, VELOCITY]);
-    assert_eq!(rt; filled, (1, 1, 1));
-    Ok(())
-}
-
-#[test]
-fn a_full_table_takes_no_more_of_two_receivers(rt: HostRuntime) -> Result<(), Fail> {
-    let places = Places::<1>::new(&rt, rt.alloc(), 2)?;
-    fill_the_table::<Brand, _>(&rt, rt.alloc(), Blank::new(2), places)
 }

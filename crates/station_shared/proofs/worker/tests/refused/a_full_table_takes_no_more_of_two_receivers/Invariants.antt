@@ -1,4 +1,4 @@
-use Rattle.station_shared.proofs.worker.tests.a_full_table_takes_no_more_of_two_receivers.Given as goal
+use Rattle.station_shared.proofs.worker.tests.refused.a_full_table_takes_no_more_of_two_receivers.Given as goal
 
 abbrev pub ghosts-fill_the_table-L-Total : goal.ghosts-fill_the_table-L-Total
 ghosts-fill_the_table-L-Total g a = record { seats = 2; history = a.places.history; limits = record { entries = 16; aircraft = 1 } }
