@@ -218,13 +218,57 @@ fn words_are_refused(rt: HostRuntime) {
     );
 }
 
+// The lines for which help is asked fit a terminal of 80 columns.
+fn is_narrow(text: &str) -> bool {
+    for line in text.split('\n') {
+        if line.len() > 80 {
+            return false;
+        }
+    }
+    true
+}
+
 #[test]
 fn help_is_written_to_standard_output(rt: HostRuntime) {
     let nothing: &[u8] = b"";
-    let help = run_words(&rt, ["groundstation", "run", "--help"].as_slice(), nothing);
-    assert!(rt; help.status == 0 && help.err.is_empty());
+    let help = run_words(&rt, ["groundstation", "--help"].as_slice(), nothing);
+    assert!(rt; help.status == 0 && help.err.is_empty() && is_narrow(text(&help.out)));
     assert_eq!(rt;
         text(&help.out),
-        "Reads files or named pipes side by side, and writes one table of them all now and then\n\nUsage: groundstation run --every <MS> <PATH>...\n\nArguments:\n  <PATH>...  1 to 8 files or named pipes, each read by a receiver of its own\n\nOptions:\n      --every <MS>  Milliseconds from one table to the next, 1 to 3600000\n  -h, --help        Print help\n"
+        "Decodes Mode S frames and keeps a table of aircraft\n\n\
+        Usage: groundstation <COMMAND>\n\n\
+        Commands:\n  \
+        replay  Reads standard input, and writes the table at each line that is ?\n  \
+        run     Reads 1 to 8 paths side by side, and writes one table every MS\n  \
+        help    Print this message or the help of the given subcommand(s)\n\n\
+        Options:\n  \
+        -h, --help  Print help\n\n\
+        Examples:\n  \
+        groundstation replay < examples/klm1023.avr\n  \
+        groundstation run --every 1000 <(nc 127.0.0.1 30002 < /dev/null)\n\n\
+        'groundstation help run' says more of that word. The formats of lines and tables\n\
+        are in docs/FORMATS.md; columns, counts and faults in README.md.\n"
     );
+}
+
+const RUN_HELP: &str = concat!(
+    "Reads 1 to 8 paths side by side, and writes one table every MS\n\n",
+    "Usage: groundstation run --every <MS> <PATH>...\n\n",
+    "Arguments:\n",
+    "  <PATH>...  1 to 8 files or named pipes, each read by a receiver of its own\n\n",
+    "Options:\n",
+    "      --every <MS>  Milliseconds from one table to the next, 1 to 3600000\n",
+    "  -h, --help        Print help\n\n",
+    "Lines of a path, one of each kind:\n",
+);
+
+#[test]
+fn each_subcommand_tells_its_lines(rt: HostRuntime) {
+    let nothing: &[u8] = b"";
+    let run = run_words(&rt, ["groundstation", "run", "--help"].as_slice(), nothing);
+    assert!(rt; run.status == 0 && run.err.is_empty() && is_narrow(text(&run.out)));
+    assert!(rt; text(&run.out).starts_with(RUN_HELP));
+    let replay = run_words(&rt, ["groundstation", "replay", "-h"].as_slice(), nothing);
+    assert!(rt; replay.status == 0 && replay.err.is_empty() && is_narrow(text(&replay.out)));
+    assert!(rt; text(&replay.out).ends_with("Formats: docs/FORMATS.md.\n"));
 }

@@ -57,6 +57,47 @@ impl From<clap::Error> for WordsFault {
 
 const MOST_PATHS: usize = 8;
 
+const AFTER_HELP: &str = concat!(
+    "Examples:\n",
+    "  groundstation replay < examples/klm1023.avr\n",
+    "  groundstation run --every 1000 <(nc 127.0.0.1 30002 < /dev/null)\n",
+    "\n",
+    "'groundstation help run' says more of that word. The formats of lines and tables\n",
+    "are in docs/FORMATS.md; columns, counts and faults in README.md.",
+);
+
+const AFTER_REPLAY_HELP: &str = concat!(
+    "Lines of the input, one of each kind:\n",
+    "  *8D4840D6202CC371C32CE0576098;              frame, 14 or 28 hexadecimal digits\n",
+    "  @0123456789AB8D4840D6202CC371C32CE0576098;  frame behind a receiver's counter\n",
+    "  *0000;                                      heartbeat, passed over\n",
+    "  +61000                                      sets the clock, in milliseconds\n",
+    "  ?                                           writes the table\n",
+    "\n",
+    "Examples:\n",
+    "  groundstation replay < examples/traffic.avr\n",
+    "  (cat examples/klm1023.avr; echo +60000; echo '?') | groundstation replay\n",
+    "\n",
+    "Without + lines nothing ages. At the end of the input a line of counts goes to\n",
+    "standard error. For live receivers there is 'groundstation run'.\n",
+    "Formats: docs/FORMATS.md.",
+);
+
+const AFTER_RUN_HELP: &str = concat!(
+    "Lines of a path, one of each kind:\n",
+    "  *8D4840D6202CC371C32CE0576098;              frame, 14 or 28 hexadecimal digits\n",
+    "  @0123456789AB8D4840D6202CC371C32CE0576098;  frame behind a receiver's counter\n",
+    "  *0000;                                      heartbeat, passed over\n",
+    "\n",
+    "Examples, of a receiver that serves such lines, as dump1090 and readsb do:\n",
+    "  groundstation run --every 1000 <(nc 127.0.0.1 30002 < /dev/null)\n",
+    "  nc 127.0.0.1 30002 < /dev/null | groundstation run --every 1000 /dev/stdin\n",
+    "\n",
+    "The clock is the time since the start. When every path has ended, the last table\n",
+    "is written, and a line of counts for each path goes to standard error.\n",
+    "Formats: docs/FORMATS.md. Receivers that drop: README.md.",
+);
+
 /// Reads the words of a command line, of which the first is the program's name: the subcommand, and for `run` the
 /// values of `--every` and PATH, as `clap` reads them. Words that the command line takes are refused for want of
 /// memory alone.
@@ -105,6 +146,7 @@ fn station_command<'a>(alloc: Global) -> Result<Command<'a>, AllocError>
 {
     let top = Command::new(alloc, "groundstation")
         .about("Decodes Mode S frames and keeps a table of aircraft")
+        .after_help(AFTER_HELP)
         .subcommand_required(true);
     let with_replay = top.subcommand(replay_command(alloc))?;
     let run = run_command(alloc)?;
@@ -114,9 +156,9 @@ fn station_command<'a>(alloc: Global) -> Result<Command<'a>, AllocError>
 fn replay_command<'a>(alloc: Global) -> Command<'a>
     ensures { IsMade replay result }
 {
-    Command::new(alloc, "replay").about(
-        "Reads lines from standard input, and writes the table at each line that is ?",
-    )
+    Command::new(alloc, "replay")
+        .about("Reads standard input, and writes the table at each line that is ?")
+        .after_help(AFTER_REPLAY_HELP)
 }
 
 fn run_command<'a>(alloc: Global) -> Result<Command<'a>, AllocError>
@@ -124,9 +166,9 @@ fn run_command<'a>(alloc: Global) -> Result<Command<'a>, AllocError>
 {
     let every = every_arg(alloc);
     let path = path_arg(alloc);
-    let bare = Command::new(alloc, "run").about(
-        "Reads files or named pipes side by side, and writes one table of them all now and then",
-    );
+    let bare = Command::new(alloc, "run")
+        .about("Reads 1 to 8 paths side by side, and writes one table every MS")
+        .after_help(AFTER_RUN_HELP);
     let with_every = bare.arg(every)?;
     with_every.arg(path)
 }
