@@ -1,6 +1,7 @@
 -- A book that takes over what an entry changed is the one that took the entry.
 use Rattle.std.proofs.Common.{◌≡◌, ℕ, Bool, true, false, if◌then◌else◌, List, [], ◌∷◌, ◌++◌, length, Option, Some, IfSome, Ok, Err, refl, ◌∙◌, subst, arith}
-use Rattle.std.specs.Prelude.{nat_lt}
+use Rattle.std.specs.Prelude.{nat_lt, not, ◌&&◌}
+use Rattle.modes_frame.specs.Claims.{is_unassigned}
 use Rattle.std.proofs.lemmas.Bool.Decides.{nat_tests}
 use Rattle.std.proofs.lemmas.List.{append-nil, drop-append-le, drop_all}
 use Rattle.station_book.specs.declared.steps.Step.{Step}
@@ -14,6 +15,10 @@ use Rattle.station_book.specs.Steps.{change_of}
 use Rattle.station_book.specs.State.{State, applied_step, caught_up, fits, with_frame_ahead}
 use Rattle.station_book.specs.Tracks.{find_track, put_track, updated, track_or_blank, with_track, has_place}
 use Rattle.station_book.proofs.TracksLemmas.{find_put_as, found_address}
+
+place_from_fit : (unassigned place : Bool) → not unassigned && place ≡ true → place ≡ true
+place_from_fit true place fit = cc
+place_from_fit false place fit = fit
 
 -- a track that was put is copied
 copied : (n a : ℕ) (track : Track) (tracks : List Track) → track.address ≡ a → has_place n a tracks ≡ true →
@@ -35,7 +40,8 @@ by_step : (n : ℕ) (book : State) (step : Step) → fits n book step ≡ true �
 by_step n book (Tick at) fit = refl
 by_step n book (Heard (Ok sighting)) fit =
     let a = sighting.claim.address in
-    let tracks = copied n a (updated book.moment (fields_of sighting.frame) (track_or_blank a book.tracks)) book.tracks (found_address a book.tracks) fit in
+    let place = place_from_fit (is_unassigned a) _ fit in
+    let tracks = copied n a (updated book.moment (fields_of sighting.frame) (track_or_blank a book.tracks)) book.tracks (found_address a book.tracks) place in
     rw (tracks, frame_copied sighting.frame book.first_frames) refl
 by_step n book (Heard (Err fault)) fit = tt
 

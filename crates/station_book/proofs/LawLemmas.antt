@@ -5,15 +5,15 @@ use Rattle.std.proofs.lemmas.Bool.Decides.{nat_tests}
 use mathlib.Core.List.{reverse}
 use Rattle.std.proofs.lemmas.List.{length-reverse}
 use Rattle.station_journal.specs.declared.Entry.{Entry}
-use Rattle.station_journal.specs.declared.Limits.{Limits}
 use Rattle.station_journal.specs.Log.{Log, IsLegal, table_of, clock_of, past_of, refusal_of, most_entries}
-use Rattle.station_journal.specs.Verdict.{Legal, is_full}
+use Rattle.station_journal.specs.Resume.{Sound}
+use Rattle.station_journal.proofs.SoundLemmas.{sound_legal}
 use Rattle.station_book.specs.Steps.{step_of}
-use Rattle.station_book.specs.State.{State, applied, offered, rows, fits, book_refusal}
+use Rattle.station_book.specs.State.{State, applied, offered, rows, fits}
 use Rattle.station_book.specs.Matching.{MatchesPast, Matches, Shows, book_of_past, book_after}
 use Rattle.station_book.proofs.MatchingLemmas.{matches_starting, matches_applied, matches_push}
 use Rattle.station_book.proofs.TableLemmas.{rows_are_table}
-use Rattle.station_book.proofs.VerdictLemmas.{same_tick_refusal, same_refusal, fits_from_accepts, fits_from, fits_back, accepted_with_room}
+use Rattle.station_book.proofs.VerdictLemmas.{same_tick_refusal, same_refusal, fits_from_accepts, fits_from, fits_back}
 
 pub shows_from_match : (n base : ℕ) (book : State) (entries : List Entry) → Matches n base book entries → Shows n base book entries
 shows_from_match n base book entries m = record {
@@ -26,30 +26,31 @@ shows_from_match n base book entries m = record {
 
 pub match_after_accepted : (log : Log) (book : State) (entry : Entry) → refusal_of log entry ≡ None → Matches log.limits.aircraft log.base book log.entries → Matches log.limits.aircraft log.base (applied book entry) (log.entries ++ entry ∷ [])
 match_after_accepted log book entry accepted m =
-    matches_push log.limits.aircraft log.base log.entries entry book (fits_from_accepts log.limits log.base (past_of log) entry accepted) m
+    matches_push log.limits.aircraft log.base log.entries entry book (fits_from_accepts log.limits log.base (past_of log) entry m.sound accepted) m
 
 pub match_after_fit : (n base : ℕ) (book : State) (journal : List Entry) (entry : Entry) → fits n book (step_of entry) ≡ true → Matches n base book journal → Matches n base (applied book entry) (journal ++ entry ∷ [])
 match_after_fit n base book journal entry fit m = matches_push n base journal entry book (fits_back n base (reverse journal) book m entry fit) m
 
 pub accepted_fits_book : (log : Log) (book : State) (entry : Entry) → refusal_of log entry ≡ None → Matches log.limits.aircraft log.base book log.entries → fits log.limits.aircraft book (step_of entry) ≡ true
 accepted_fits_book log book entry accepted m =
-    fits_from log.limits.aircraft log.base (past_of log) book m entry (fits_from_accepts log.limits log.base (past_of log) entry accepted)
+    fits_from log.limits.aircraft log.base (past_of log) book m entry (fits_from_accepts log.limits log.base (past_of log) entry m.sound accepted)
 
 pub offer_is_taken : (log : Log) (book : State) (entry : Entry) → refusal_of log entry ≡ None → length log.entries < most_entries → Matches log.limits.aircraft log.base book log.entries → offered log.limits.aircraft book entry ≡ applied book entry
 offer_is_taken log book entry accepted few m =
-    let free : book_refusal log.limits.aircraft book entry ≡ None = same_refusal log.limits.aircraft log.base (past_of log) book m entry ∙ accepted_with_room (is_full log.limits (past_of log)) log.limits.aircraft log.base (past_of log) entry accepted in
+    let fit : fits log.limits.aircraft book (step_of entry) ≡ true = accepted_fits_book log book entry accepted m in
     let count : book.entries ≡ length log.entries = m.entries ∙ length-reverse log.entries in
     let test : nat_lt book.entries most_entries ≡ true = rw count (grind (arith, nat_tests)) in
-    rw (free, test) refl
+    rw (fit, test) refl
 
 pub match_after_offer : (log : Log) (book : State) (entry : Entry) → refusal_of log entry ≡ None → length log.entries < most_entries → Matches log.limits.aircraft log.base book log.entries → Matches log.limits.aircraft log.base (offered log.limits.aircraft book entry) (log.entries ++ entry ∷ [])
 match_after_offer log book entry accepted few m = rw (offer_is_taken log book entry accepted few m) (match_after_accepted log book entry accepted m)
 
-matches_legal : (limits : Limits) (base : ℕ) (past : List Entry) → Legal limits base past → MatchesPast limits.aircraft base (book_of_past base past) past
-matches_legal limits base [] legal = matches_starting limits.aircraft base
-matches_legal limits base (entry ∷ past) legal = matches_applied limits.aircraft base past entry (book_of_past base past) (fits_from_accepts limits base past entry legal.0) (matches_legal limits base past legal.1)
+-- after the entries of a sound list the book matches it
+pub matches_sound : (n base : ℕ) (past : List Entry) → Sound n base past → MatchesPast n base (book_of_past base past) past
+matches_sound n base [] sound = matches_starting n base
+matches_sound n base (entry ∷ past) sound = matches_applied n base past entry (book_of_past base past) sound.0 (matches_sound n base past sound.1)
 
 pub book_equals_search : (log : Log) → IsLegal log → (rows (book_after log.base log.entries) ≡ table_of log) × ((book_after log.base log.entries).moment ≡ clock_of log) × ((book_after log.base log.entries).entries ≡ length log.entries)
 book_equals_search log legal =
-    let m = matches_legal log.limits log.base (past_of log) legal in
+    let m = matches_sound log.limits.aircraft log.base (past_of log) (sound_legal log.limits log.base log.resumed (past_of log) legal) in
     (rows_are_table log.limits.aircraft log.base (past_of log) (book_after log.base log.entries) m, m.moment, m.entries ∙ length-reverse log.entries)

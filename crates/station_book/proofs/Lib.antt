@@ -1,6 +1,7 @@
 pub mod OneAircraft
 pub mod TracksLemmas
 pub mod RankLemmas
+pub mod FillLemmas
 pub mod HeardLemmas
 pub mod MatchingLemmas
 pub mod TableLemmas

@@ -18,7 +18,8 @@ use Rattle.station_book.specs.declared.tracks.Track.{Track}
 use Rattle.station_book.specs.Steps.{with_frame}
 use Rattle.station_book.specs.Tracks.{blank, updated, find_track, with_sighting}
 use Rattle.station_book.specs.State.{State, applied, starting}
-use Rattle.station_book.specs.Matching.{ClaimFits, Fits, Sound, Tracks, TracksAt, MatchesPast, Matches}
+use Rattle.station_book.specs.Matching.{Tracks, TracksAt, MatchesPast, Matches}
+use Rattle.station_journal.specs.Resume.{ClaimFits, Fits, Sound}
 use Rattle.station_journal.proofs.RepeatLemmas.{first_heard_next}
 use Rattle.station_book.proofs.OneAircraft.{kept_by_tick, swept_by_tick, absent_after_tick, unchanged_by_other, heard_of_own}
 use Rattle.station_book.proofs.TracksLemmas.{keep_if, find_put_as, find_filter, rising_put, rising_filter}

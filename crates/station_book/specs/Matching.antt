@@ -1,33 +1,15 @@
 -- When a book and a list of entries match: each aircraft apart, and then the whole.
-use Rattle.std.specs.Prelude.{◌≡◌, ℕ, ◌<◌, ◌≤◌, true, false, List, [], ◌∷◌, Option, Some, None, Result, Ok, Err, length, reverse}
-use Rattle.modes_frame.specs.declared.claims.Claim.{Claim}
-use Rattle.modes_frame.specs.declared.claims.CheckFault.{CheckFault}
-use Rattle.modes_frame.specs.Claims.{claim_of}
+use Rattle.std.specs.Prelude.{◌≡◌, ℕ, ◌≤◌, true, false, List, [], ◌∷◌, Option, Some, None, length, reverse}
 use Rattle.station_journal.specs.declared.Entry.{Entry}
-use Rattle.station_journal.specs.declared.Entry.TheVariants.{Tick, Heard}
 use Rattle.station_journal.specs.declared.Stamped.{Stamped}
 use Rattle.station_journal.specs.Past.{clock, live, fresh, newest, newest_fix, sighting_of, callsign_of, even_place_of, odd_place_of}
-use Rattle.station_journal.specs.Table.{altitude_of, squawk_of, velocity_of, vertical_of, live_addresses, table}
+use Rattle.station_journal.specs.Table.{altitude_of, squawk_of, velocity_of, vertical_of, table}
 use Rattle.station_journal.specs.Repeats.{first_heard}
+use Rattle.station_journal.specs.Resume.{Sound}
 use Rattle.station_journal.specs.Verdict.{tick_refusal, refusal}
 use Rattle.station_book.specs.declared.tracks.Track.{Track}
 use Rattle.station_book.specs.Tracks.{find_track, Rising}
 use Rattle.station_book.specs.State.{State, rows, starting, applied, book_tick_refusal, book_refusal}
-
--- the claim is of an address that is live, or finds fewer than n live
-abbrev pub ClaimFits : ℕ → ℕ → List Entry → Result Claim CheckFault → Type 0
-ClaimFits n base past (Ok claim) = live base past claim.address ≡ false → length (live_addresses base past) < n
-ClaimFits n base past (Err fault) = ⊥
-
--- the entry may follow the past, whoever is known
-abbrev pub Fits : ℕ → ℕ → List Entry → Entry → Type 0
-Fits n base past (Tick seat at) = clock base past < at
-Fits n base past (Heard seat frame) = ClaimFits n base past (claim_of frame)
-
--- each entry fits what came before it
-abbrev pub Sound : ℕ → ℕ → List Entry → Type 0
-Sound n base [] = Unit {0}
-Sound n base (entry ∷ past) = Fits n base past entry × Sound n base past
 
 -- from now on both values show the same, by this limit of age
 abbrev pub AgreeFrom : {V : Type 0} → ℕ → ℕ → Option (Stamped V) → Option (Stamped V) → Type 0

@@ -2,6 +2,7 @@
 use Rattle.std.specs.Prelude.{ℕ, ◌+◌, Bool, false, not, ◌&&◌, nat_lt, nat_le, is_some, if◌then◌else◌, List, [], ◌++◌, Option, Some, Result, Ok, Err, length, map, take, drop}
 use Rattle.modes_frame.specs.declared.claims.Claim.{Claim}
 use Rattle.modes_frame.specs.declared.claims.CheckFault.{CheckFault}
+use Rattle.modes_frame.specs.Claims.{is_unassigned}
 use Rattle.station_journal.specs.declared.Aircraft.{Aircraft}
 use Rattle.station_journal.specs.declared.Entry.{Entry}
 use Rattle.station_journal.specs.declared.Refusal.{Refusal}
@@ -83,7 +84,7 @@ applied book entry = applied_step book (step_of entry)
 
 -- the claim is of an aircraft that is kept or finds a place
 abbrev pub claim_fits : ℕ → State → Result Claim CheckFault → Bool
-claim_fits n book (Ok claim) = has_place n claim.address book.tracks
+claim_fits n book (Ok claim) = not (is_unassigned claim.address) && has_place n claim.address book.tracks
 claim_fits n book (Err fault) = false
 
 -- the decoded entry fits the book: what may be applied
@@ -94,7 +95,7 @@ fits n book (Heard sighting) = claim_fits n book (claim_in sighting)
 -- what is offered is applied where the book refuses nothing and counts fewer than the most entries, and else changes nothing
 abbrev pub offered_step : ℕ → State → Step → State
 offered_step n book step =
-    if not (is_some (step_refusal n book step)) && nat_lt book.entries most_entries then applied_step book step else book
+    if fits n book step && nat_lt book.entries most_entries then applied_step book step else book
 
 -- the same, of an entry
 abbrev pub offered : ℕ → State → Entry → State

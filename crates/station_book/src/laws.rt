@@ -7,7 +7,7 @@ ghost use Rattle.station_journal.specs.Log.{Log, IsLegal, table_of, clock_of, re
 ghost use Rattle.station_book.specs.declared.steps.Step.{Step};
 ghost use Rattle.station_book.specs.declared.steps.Change.{Change};
 ghost use Rattle.station_book.specs.Steps.{step_of, change_of};
-ghost use Rattle.station_book.specs.State.{State, starting, applied, applied_step, offered, fits, rows, caught_up};
+ghost use Rattle.station_book.specs.State.{State, starting, applied, applied_step, offered, fits, rows, caught_up, book_refusal};
 ghost use Rattle.station_book.specs.Matching.{Matches, Shows, book_after};
 
 /// A book without entries matches the list without entries, whatever the base of its clock.
@@ -27,6 +27,13 @@ pub fn an_accepted_entry_fits()
     ensures { (log : Log) (book : State) (entry : Entry) → refusal_of log entry ≡ None →
         Matches log.limits.aircraft log.base book log.entries →
         fits log.limits.aircraft book (step_of entry) ≡ true }
+{}
+
+/// What a book that matches accepts fits it.
+pub fn an_entry_that_is_not_refused_fits()
+    ensures { (n : ℕ) (base : ℕ) (book : State) (entries : List Entry) (entry : Entry) →
+        Matches n base book entries → book_refusal n book entry ≡ None →
+        fits n book (step_of entry) ≡ true }
 {}
 
 /// An accepted entry leaves a match.

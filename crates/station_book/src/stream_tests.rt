@@ -109,10 +109,13 @@ fn once(journal: &mut Journal, entry: &Entry) -> Result<(), Refusal> {
 
 // Gives the entry to both. A call that answers want of memory is made once more.
 fn give(rt: &impl Abort, journal: &mut Journal, book: &mut Book<6>, entry: &Entry) {
-    if once(journal, entry) == Err(Refusal::NoMemory) {
-        let _again = once(journal, entry);
+    let told = match once(journal, entry) {
+        Err(Refusal::NoMemory) => once(journal, entry),
+        told => told,
+    };
+    if told.is_ok() {
+        book.offer(entry);
     }
-    book.offer(entry);
     assert_eq!(rt; book.entries(), journal.len());
 }
 

@@ -7,3 +7,11 @@ pub mod LegalLemmas
 pub mod NewestLemmas
 pub mod TableLemmas
 pub mod RowLemmas
+pub mod RecentLemmas
+pub mod RecentSound
+pub mod ResumeLemmas
+pub mod AlikeLemmas
+pub mod SoundLemmas
+pub mod StandsLemmas
+pub mod LegalLogs
+pub mod FollowLemmas

@@ -3,6 +3,8 @@ pub mod Table
 pub mod Repeats
 pub mod Verdict
 pub mod Log
+pub mod Follow
 pub mod Found
 pub mod Looked
 pub mod Newest
+pub mod Resume

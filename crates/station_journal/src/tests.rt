@@ -6,6 +6,7 @@ ghost use Rattle.station_journal.specs.Log.{most_entries};
 mod known;
 mod positions;
 mod repeats;
+mod resumed;
 
 use crate::tests::known::{
     AIRSPEED, ALL_CALL, COMM_B_ALTITUDE, COMM_B_IDENTITY, EVEN, FORMAT_1, IDENTIFICATION, IDENTITY,

@@ -10,7 +10,7 @@ use Rattle.station_shared.specs.History.{Known}
 
 -- the journal of a station under these limits, which began without entries
 abbrev pub log_of : Limits → List Entry → Log
-log_of limits entries = record { base = 0; limits = limits; entries = entries }
+log_of limits entries = record { base = 0; limits = limits; resumed = 0; entries = entries }
 
 -- the number of the seat whose entry it is
 abbrev pub seat_of : Entry → ℕ

@@ -1,0 +1,62 @@
+//! Entries that fit, and lists of them that a book takes whole.
+
+use crate::tests::Call::{Hear, Tick};
+use crate::tests::{ALL_CALL, EVEN, KLM1023, SHORT_AIR, entry};
+use crate::{Book, Step};
+use station_journal::{Refusal, Rows};
+use std::test::Fail;
+
+// A frame of the address 000000, and one whose parity doesn't hold.
+const NOBODY: &[u8] = &[0; 7];
+
+const SPOILED: &[u8] = &[
+    0x8D, 0x48, 0x40, 0xD6, 0x20, 0x2C, 0xC3, 0x71, 0xC3, 0x2C, 0xE0, 0x57, 0x60, 0x99,
+];
+
+#[test]
+fn what_does_not_fit_leaves_a_book_as_it_was(rt: HostRuntime) -> Result<(), Fail> {
+    let mut book = Book::<4>::starting(7);
+    for call in [Tick(7), Hear(NOBODY), Hear(SPOILED)] {
+        let entry = entry(call)?;
+        assert!(rt; !book.fits(&entry));
+        book.offer(&entry);
+        book.offer_step(&Step::of(&entry));
+    }
+    assert_eq!(rt; book.entries(), 0);
+    assert_eq!(rt; book.now(), 7);
+    assert_eq!(rt; book.len(), 0);
+    Ok(())
+}
+
+#[test]
+fn an_overlaid_frame_fits_whoever_is_live(rt: HostRuntime) -> Result<(), Fail> {
+    let mut book = Book::<1>::new();
+    let reply = entry(Hear(SHORT_AIR))?;
+    assert_eq!(rt;
+        book.verdict_of(&Step::of(&reply)),
+        Err(Refusal::Unknown(0x4840D6))
+    );
+    assert!(rt; book.fits(&reply));
+    book.offer(&reply);
+    assert_eq!(rt; book.len(), 1);
+    assert!(rt; book.fits(&entry(Hear(KLM1023))?), "it is live");
+    assert!(rt; !book.fits(&entry(Hear(ALL_CALL))?), "the book is full");
+    Ok(())
+}
+
+#[test]
+fn a_list_is_taken_up_to_the_first_that_does_not_fit(rt: HostRuntime) -> Result<(), Fail> {
+    let mut book = Book::<1>::starting(5);
+    let (heard, other) = (entry(Hear(KLM1023))?, entry(Hear(EVEN))?);
+    let fitting = [heard, entry(Tick(60_006))?, other, other];
+    assert_eq!(rt; book.take_all(5, &fitting), Ok(()));
+    assert_eq!(rt; (book.entries(), book.now(), book.len()), (4, 60_006, 1));
+    assert!(rt; book.get(0x40621D).is_some());
+    let early = Book::<1>::starting(5).take_all(5, &[entry(Tick(5))?]);
+    assert_eq!(rt; early, Err(0));
+    let full = Book::<1>::starting(5).take_all(5, &[heard, other]);
+    assert_eq!(rt; full, Err(1));
+    let spoiled = [entry(Tick(6))?, heard, entry(Hear(SPOILED))?];
+    assert_eq!(rt; Book::<1>::starting(5).take_all(5, &spoiled), Err(2));
+    Ok(())
+}
