@@ -1,18 +1,17 @@
--- Rounds of the reporter, one more at the end.
+-- Showings of the reporter, one more at the end.
 use Rattle.std.proofs.Common.{rules, ◌≡◌, ◌∙◌, ◌⊎◌, inl, inr, ℕ, ◌≤◌, ◌<◌, Bool, true, false, List, [], ◌∷◌, ◌++◌, Option, Some, None, Result, Ok, Err, IsOk, is_ok, IfSome, refl, sym, ap, subst, append_assoc, append-nil, cond, map}
 use Rattle.std.proofs.lemmas.Bool.{lt-ltb, le-ltb}
 use Rattle.std.specs.Prelude.{is_err, IfOk, IfErr, nat_lt}
 use Rattle.std.specs.Io.KnownBytes.{Appends, Keeps}
 use Rattle.std.proofs.KnownBytes.{Appends-nil, Appends-trans, Appends-kept}
-use Rattle.station_journal.specs.declared.Limits.{Limits}
 use Rattle.station_journal.specs.declared.Entry.TheVariants.{Tick}
 use Rattle.station_journal.specs.declared.Refusal.{Refusal}
 use Rattle.station_report.specs.Sink.{TakesAll, counted}
 use Rattle.station_report.specs.declared.sinks.WriteFault.{WriteFault}
-use Rattle.station_shared.specs.Seats.{Seated, Accepted, Refused, Looks}
+use Rattle.station_shared.specs.Seats.{Seated, Start, Accepted, Refused, Looks}
 use Rattle.station_shared.specs.History.{Known}
 use Rattle.station_main.specs.Output.{Printed}
-use Rattle.station_main.specs.Reporter.{IsRound, Reports, Round, Rounds, Ticks, due_moments, looks_of, next_moment, seat_after}
+use Rattle.station_main.specs.Reporter.{IsShowing, Reports, Showing, Showings, Ticks, due_moments, looks_of, next_moment, seat_after}
 use Rattle.station_main.specs.Tables.{Prints, PassesOver, PrintsAtMost, TakesTexts, shown, texts, failures_after}
 
 -- ---- moments
@@ -37,42 +36,42 @@ due_after-append every due (now ∷ moments) more =
     ≡ due_after every (cond early (due_after every due moments) (due_after every (next_moment every now) moments)) more)
     [ true ↦ due_after-append every due moments more | false ↦ due_after-append every (next_moment every now) moments more ]
 
--- ---- rounds
+-- ---- showings
 
-Rounds_snoc : (limits : Limits) (old mid : Seated) (rounds : List Round) (round : Round) → Rounds limits old rounds mid → IsRound limits mid round
-    → Rounds limits old (rounds ++ round ∷ []) (seat_after round)
-Rounds_snoc limits old mid [] round walk is = (subst (λ s. IsRound limits s round) walk is, refl)
-Rounds_snoc limits old mid (r ∷ rs) round walk is = (walk.0, Rounds_snoc limits (seat_after r) mid rs round walk.1 is)
+Showings_snoc : (station : Start) (old mid : Seated) (showings : List Showing) (showing : Showing) → Showings station old showings mid → IsShowing station mid showing
+    → Showings station old (showings ++ showing ∷ []) (seat_after showing)
+Showings_snoc station old mid [] showing walk is = (subst (λ s. IsShowing station s showing) walk is, refl)
+Showings_snoc station old mid (r ∷ rs) showing walk is = (walk.0, Showings_snoc station (seat_after r) mid rs showing walk.1 is)
 
-moments_snoc : (rounds : List Round) (round : Round) → map (λ (r : Round). r.at) (rounds ++ round ∷ []) ≡ map (λ (r : Round). r.at) rounds ++ round.at ∷ []
-moments_snoc [] round = refl
-moments_snoc (r ∷ rs) round = ap (λ (ms : List ℕ). r.at ∷ ms) (moments_snoc rs round)
+moments_snoc : (showings : List Showing) (showing : Showing) → map (λ (r : Showing). r.at) (showings ++ showing ∷ []) ≡ map (λ (r : Showing). r.at) showings ++ showing.at ∷ []
+moments_snoc [] showing = refl
+moments_snoc (r ∷ rs) showing = ap (λ (ms : List ℕ). r.at ∷ ms) (moments_snoc rs showing)
 
-looks_snoc : (rounds : List Round) (round : Round) → looks_of (rounds ++ round ∷ []) ≡ looks_of rounds ++ round.look ∷ []
-looks_snoc [] round = refl
-looks_snoc (r ∷ rs) round = ap (λ (ls : List (Option Seated)). r.look ∷ ls) (looks_snoc rs round)
+looks_snoc : (showings : List Showing) (showing : Showing) → looks_of (showings ++ showing ∷ []) ≡ looks_of showings ++ showing.look ∷ []
+looks_snoc [] showing = refl
+looks_snoc (r ∷ rs) showing = ap (λ (ls : List (Option Seated)). r.look ∷ ls) (looks_snoc rs showing)
 
-texts_snoc : (limits : Limits) (looks : List (Option Seated)) (look : Option Seated) → texts limits (looks ++ look ∷ []) ≡ texts limits looks ++ shown limits look
-texts_snoc limits [] look = append-nil (shown limits look)
-texts_snoc limits (l ∷ ls) look = ap (λ t. shown limits l ++ t) (texts_snoc limits ls look) ∙ sym (append_assoc (shown limits l) (texts limits ls) (shown limits look))
+texts_snoc : (station : Start) (looks : List (Option Seated)) (look : Option Seated) → texts station (looks ++ look ∷ []) ≡ texts station looks ++ shown station look
+texts_snoc station [] look = append-nil (shown station look)
+texts_snoc station (l ∷ ls) look = ap (λ t. shown station l ++ t) (texts_snoc station ls look) ∙ sym (append_assoc (shown station l) (texts station ls) (shown station look))
 
 -- one more table, by what its printing tells
-pub record PrintsOne (limits : Limits) (looks : List (Option Seated)) (old new : Seated) (before after : Printed) (failed_before : ℕ) (result : Result (Unit {0}) WriteFault) : Type 0 where
+pub record PrintsOne (station : Start) (looks : List (Option Seated)) (old new : Seated) (before after : Printed) (failed_before : ℕ) (result : Result (Unit {0}) WriteFault) : Type 0 where
   pub look : Option Seated
-  pub looked : (look ≡ None) × (new ≡ old) ⊎ (look ≡ Some new) × Looks limits old new
-  pub takes : TakesTexts limits (looks ++ look ∷ []) before.taken after.taken (is_err result)
+  pub looked : (look ≡ None) × (new ≡ old) ⊎ (look ≡ Some new) × Looks station old new
+  pub takes : TakesTexts station (looks ++ look ∷ []) before.taken after.taken (is_err result)
   pub failures : after.failures ≡ failures_after (is_err result) failed_before
 
-printed : (limits : Limits) (looks : List (Option Seated)) (old new : Seated) (start before after : Printed) (result : Result (Unit {0}) WriteFault)
-    → Appends start.taken before.taken (texts limits looks) → before.failures ≡ start.failures → Prints limits old new before after result
-    → PrintsOne limits looks old new start after start.failures result
-printed limits looks old new start before after (Ok done) so_far same prints = record {
+printed : (station : Start) (looks : List (Option Seated)) (old new : Seated) (start before after : Printed) (result : Result (Unit {0}) WriteFault)
+    → Appends start.taken before.taken (texts station looks) → before.failures ≡ start.failures → Prints station old new before after result
+    → PrintsOne station looks old new start after start.failures result
+printed station looks old new start before after (Ok done) so_far same prints = record {
   look = Some new;
   looked = inr (refl, prints.looks);
-  takes = subst (Appends start.taken after.taken) (sym (texts_snoc limits looks (Some new))) (Appends-trans start.taken before.taken after.taken _ _ so_far prints.takes.bytes);
+  takes = subst (Appends start.taken after.taken) (sym (texts_snoc station looks (Some new))) (Appends-trans start.taken before.taken after.taken _ _ so_far prints.takes.bytes);
   failures = prints.takes.failures ∙ same;
 }
-printed limits looks old new start before after (Err fault) so_far same prints = record {
+printed station looks old new start before after (Err fault) so_far same prints = record {
   look = Some new;
   looked = inr (refl, prints.looks);
   takes = record {
@@ -87,50 +86,50 @@ printed limits looks old new start before after (Err fault) so_far same prints =
   failures = prints.takes.failures ∙ ap (λ n. counted false n) same;
 }
 
-passed : (limits : Limits) (looks : List (Option Seated)) (old new : Seated) (start before after : Printed) (result : Result (Unit {0}) WriteFault)
-    → Appends start.taken before.taken (texts limits looks) → before.failures ≡ start.failures → PassesOver old new before after result
-    → PrintsOne limits looks old new start after start.failures result
-passed limits looks old new start before after (Ok done) so_far same passes = record {
+passed : (station : Start) (looks : List (Option Seated)) (old new : Seated) (start before after : Printed) (result : Result (Unit {0}) WriteFault)
+    → Appends start.taken before.taken (texts station looks) → before.failures ≡ start.failures → PassesOver old new before after result
+    → PrintsOne station looks old new start after start.failures result
+passed station looks old new start before after (Ok done) so_far same passes = record {
   look = None;
   looked = inl (refl, passes.same_seat);
-  takes = subst (λ (p : Printed). Appends start.taken p.taken (texts limits (looks ++ None ∷ []))) (sym passes.same_sink)
-      (subst (Appends start.taken before.taken) (sym (texts_snoc limits looks None ∙ append-nil (texts limits looks))) so_far);
+  takes = subst (λ (p : Printed). Appends start.taken p.taken (texts station (looks ++ None ∷ []))) (sym passes.same_sink)
+      (subst (Appends start.taken before.taken) (sym (texts_snoc station looks None ∙ append-nil (texts station looks))) so_far);
   failures = ap (λ (p : Printed). p.failures) passes.same_sink ∙ same;
 }
-passed limits looks old new start before after (Err fault) so_far same passes = absurd (search rules)
+passed station looks old new start before after (Err fault) so_far same passes = absurd (search rules)
 
-pub printed_at_most : (limits : Limits) (looks : List (Option Seated)) (old new : Seated) (start before after : Printed) (result : Result (Unit {0}) WriteFault)
-    → Appends start.taken before.taken (texts limits looks) → before.failures ≡ start.failures → PrintsAtMost limits old new before after result
-    → PrintsOne limits looks old new start after start.failures result
-printed_at_most limits looks old new start before after result so_far same (inl prints) = printed limits looks old new start before after result so_far same prints
-printed_at_most limits looks old new start before after result so_far same (inr passes) = passed limits looks old new start before after result so_far same passes
+pub printed_at_most : (station : Start) (looks : List (Option Seated)) (old new : Seated) (start before after : Printed) (result : Result (Unit {0}) WriteFault)
+    → Appends start.taken before.taken (texts station looks) → before.failures ≡ start.failures → PrintsAtMost station old new before after result
+    → PrintsOne station looks old new start after start.failures result
+printed_at_most station looks old new start before after result so_far same (inl prints) = printed station looks old new start before after result so_far same prints
+printed_at_most station looks old new start before after result so_far same (inr passes) = passed station looks old new start before after result so_far same passes
 
--- the rounds so far, by the moments that a clock gave since it had given the first ones; a table is due at a moment
-pub record ReportsTo (limits : Limits) (every moment : ℕ) (given given_now : Option (List ℕ)) (old new : Seated) (before after : Printed) (has_failed : Bool) : Type 0 where
+-- the showings so far, by the moments that a clock gave since it had given the first ones; a table is due at a moment
+pub record ReportsTo (station : Start) (every last moment : ℕ) (given given_now : Option (List ℕ)) (old new : Seated) (before after : Printed) (has_failed : Bool) : Type 0 where
   pub moments : List ℕ
   pub are_given : Appends given given_now moments
-  pub due : moment ≡ due_after every every moments
-  pub reports : Reports limits every moments old new before after has_failed
+  pub due : moment ≡ due_after every (next_moment every last) moments
+  pub reports : Reports station every last moments old new before after has_failed
 
-pub no_moment : (limits : Limits) (every : ℕ) (seat : Seated) (sink : Printed) → Reports limits every [] seat seat sink sink false
-no_moment limits every seat sink = record { rounds = []; keeps = record { due = refl; walk = refl }; takes = Appends-nil sink.taken; failures = refl }
+pub no_moment : (station : Start) (every last : ℕ) (seat : Seated) (sink : Printed) → Reports station every last [] seat seat sink sink false
+no_moment station every last seat sink = record { showings = []; keeps = record { due = refl; walk = refl }; takes = Appends-nil sink.taken; failures = refl }
 
 -- nothing is done at a moment at which no table is due
-pub one_more_sleep : (limits : Limits) (every moment now : ℕ) (given given_before given_now : Option (List ℕ)) (old new : Seated) (before after : Printed) (has_failed : Bool)
-    → ReportsTo limits every moment given given_before old new before after has_failed → Appends given_before given_now (now ∷ []) → now < moment
-    → ReportsTo limits every moment given given_now old new before after has_failed
-one_more_sleep limits every moment now given given_before given_now old new before after has_failed so_far gives early =
-    let is_early : nat_lt now (due_after every every so_far.moments) ≡ true = subst (λ m. nat_lt now m ≡ true) so_far.due (lt-ltb now moment early) in
+pub one_more_sleep : (station : Start) (every last moment now : ℕ) (given given_before given_now : Option (List ℕ)) (old new : Seated) (before after : Printed) (has_failed : Bool)
+    → ReportsTo station every last moment given given_before old new before after has_failed → Appends given_before given_now (now ∷ []) → now < moment
+    → ReportsTo station every last moment given given_now old new before after has_failed
+one_more_sleep station every last moment now given given_before given_now old new before after has_failed so_far gives early =
+    let is_early : nat_lt now (due_after every (next_moment every last) so_far.moments) ≡ true = subst (λ m. nat_lt now m ≡ true) so_far.due (lt-ltb now moment early) in
     record {
       moments = so_far.moments ++ now ∷ [];
       are_given = Appends-trans given given_before given_now _ _ so_far.are_given gives;
-      due = so_far.due ∙ sym (due_after-append every every so_far.moments (now ∷ []) ∙ ap (λ b. cond b (due_after every every so_far.moments) (next_moment every now)) is_early);
+      due = so_far.due ∙ sym (due_after-append every (next_moment every last) so_far.moments (now ∷ []) ∙ ap (λ b. cond b (due_after every (next_moment every last) so_far.moments) (next_moment every now)) is_early);
       reports = record {
-        rounds = so_far.reports.rounds;
+        showings = so_far.reports.showings;
         keeps = record {
-          due = so_far.reports.keeps.due ∙ sym (due_moments-append every every so_far.moments (now ∷ [])
-              ∙ ap (λ b. due_moments every every so_far.moments ++ cond b [] (now ∷ [])) is_early
-              ∙ append-nil (due_moments every every so_far.moments));
+          due = so_far.reports.keeps.due ∙ sym (due_moments-append every (next_moment every last) so_far.moments (now ∷ [])
+              ∙ ap (λ b. due_moments every (next_moment every last) so_far.moments ++ cond b [] (now ∷ [])) is_early
+              ∙ append-nil (due_moments every (next_moment every last) so_far.moments));
           walk = so_far.reports.keeps.walk;
         };
         takes = so_far.reports.takes;
@@ -138,12 +137,12 @@ one_more_sleep limits every moment now given given_before given_now old new befo
       };
     }
 
-end_of : (limits : Limits) (ticked new : Seated) (at : ℕ) (look : Option Seated) → (look ≡ None) × (new ≡ ticked) ⊎ (look ≡ Some new) × Looks limits ticked new
+end_of : (station : Start) (ticked new : Seated) (at : ℕ) (look : Option Seated) → (look ≡ None) × (new ≡ ticked) ⊎ (look ≡ Some new) × Looks station ticked new
     → seat_after (record { at = at; ticked = ticked; look = look }) ≡ new
-end_of limits ticked new at None (inl p) = sym p.1
-end_of limits ticked new at None (inr p) = absurd (search rules)
-end_of limits ticked new at (Some look) (inl p) = absurd (search rules)
-end_of limits ticked new at (Some look) (inr p) = cc
+end_of station ticked new at None (inl p) = sym p.1
+end_of station ticked new at None (inr p) = absurd (search rules)
+end_of station ticked new at (Some look) (inl p) = absurd (search rules)
+end_of station ticked new at (Some look) (inr p) = cc
 
 -- one more table that was written and flushed
 pub flushed : {E F : Type 0} (a b c : Option (List ℕ)) (k m n : ℕ) (all : List ℕ) (written : Result (Unit {0}) E) (result : Result (Unit {0}) F) → IsOk written → TakesAll a b k m all written
@@ -155,39 +154,39 @@ flushed a b c k m n all (Ok done) (Err fault) ok takes kept failed = record {
   failures = failed ∙ ap (λ n. counted false n) takes.failures;
 }
 
-looked_is : (limits : Limits) (ticked new : Seated) (look : Option Seated) → (look ≡ None) × (new ≡ ticked) ⊎ (look ≡ Some new) × Looks limits ticked new → IfSome look (λ l. Looks limits ticked l)
-looked_is limits ticked new None p = tt
-looked_is limits ticked new (Some l) (inl p) = absurd (search rules)
-looked_is limits ticked new (Some l) (inr p) = let same : new ≡ l = cc in subst (λ s. Looks limits ticked s) same p.1
+looked_is : (station : Start) (ticked new : Seated) (look : Option Seated) → (look ≡ None) × (new ≡ ticked) ⊎ (look ≡ Some new) × Looks station ticked new → IfSome look (λ l. Looks station ticked l)
+looked_is station ticked new None p = tt
+looked_is station ticked new (Some l) (inl p) = absurd (search rules)
+looked_is station ticked new (Some l) (inr p) = let same : new ≡ l = cc in subst (λ s. Looks station ticked s) same p.1
 
-pub ticks_of : {N : Type 0} (limits : Limits) (old new : Seated) (at : ℕ) (name : Known → N) (n : N) (r : Result Known Refusal)
-    → IfOk r (λ (receipt : Known). (name receipt ≡ n) × Accepted limits old new (Tick old.number at) receipt) → IfErr r (λ (refusal : Refusal). Refused limits old new (Tick old.number at) refusal)
-    → Ticks limits old at new
-ticks_of limits old new at name n (Ok receipt) accepted refused = inl (receipt, accepted.1)
-ticks_of limits old new at name n (Err refusal) accepted refused = inr (refusal, refused)
+pub ticks_of : {N : Type 0} (station : Start) (old new : Seated) (at : ℕ) (name : Known → N) (n : N) (r : Result Known Refusal)
+    → IfOk r (λ (receipt : Known). (name receipt ≡ n) × Accepted station old new (Tick old.number at) receipt) → IfErr r (λ (refusal : Refusal). Refused station old new (Tick old.number at) refusal)
+    → Ticks station old at new
+ticks_of station old new at name n (Ok receipt) accepted refused = inl (receipt, accepted.1)
+ticks_of station old new at name n (Err refusal) accepted refused = inr (refusal, refused)
 
-pub one_more_round : (limits : Limits) (every moment now : ℕ) (given given_before given_now : Option (List ℕ)) (old mid ticked new : Seated) (start before after : Printed) (result : Result (Unit {0}) WriteFault)
-    → ReportsTo limits every moment given given_before old mid start before false → Appends given_before given_now (now ∷ []) → moment ≤ now
-    → Ticks limits mid now ticked → PrintsAtMost limits ticked new before after result
-    → ReportsTo limits every (next_moment every now) given given_now old new start after (is_err result)
-one_more_round limits every moment now given given_before given_now old mid ticked new start before after result so_far gives late ticks prints =
-    let is_late : nat_lt now (due_after every every so_far.moments) ≡ false = subst (λ m. nat_lt now m ≡ false) so_far.due (le-ltb now moment late) in
-    let p = printed_at_most limits (looks_of so_far.reports.rounds) ticked new start before after result so_far.reports.takes so_far.reports.failures prints in
-    let round : Round = record { at = now; ticked = ticked; look = p.look } in
-    let is : IsRound limits mid round = record { ticks = ticks; looks = looked_is limits ticked new p.look p.looked } in
+pub one_more_showing : (station : Start) (every last moment now : ℕ) (given given_before given_now : Option (List ℕ)) (old mid ticked new : Seated) (start before after : Printed) (result : Result (Unit {0}) WriteFault)
+    → ReportsTo station every last moment given given_before old mid start before false → Appends given_before given_now (now ∷ []) → moment ≤ now
+    → Ticks station mid now ticked → PrintsAtMost station ticked new before after result
+    → ReportsTo station every last (next_moment every now) given given_now old new start after (is_err result)
+one_more_showing station every last moment now given given_before given_now old mid ticked new start before after result so_far gives late ticks prints =
+    let is_late : nat_lt now (due_after every (next_moment every last) so_far.moments) ≡ false = subst (λ m. nat_lt now m ≡ false) so_far.due (le-ltb now moment late) in
+    let p = printed_at_most station (looks_of so_far.reports.showings) ticked new start before after result so_far.reports.takes so_far.reports.failures prints in
+    let showing : Showing = record { at = now; ticked = ticked; look = p.look } in
+    let is : IsShowing station mid showing = record { ticks = ticks; looks = looked_is station ticked new p.look p.looked } in
     record {
       moments = so_far.moments ++ now ∷ [];
       are_given = Appends-trans given given_before given_now _ _ so_far.are_given gives;
-      due = sym (due_after-append every every so_far.moments (now ∷ []) ∙ ap (λ b. cond b (due_after every every so_far.moments) (next_moment every now)) is_late);
+      due = sym (due_after-append every (next_moment every last) so_far.moments (now ∷ []) ∙ ap (λ b. cond b (due_after every (next_moment every last) so_far.moments) (next_moment every now)) is_late);
       reports = record {
-        rounds = so_far.reports.rounds ++ round ∷ [];
+        showings = so_far.reports.showings ++ showing ∷ [];
         keeps = record {
-          due = moments_snoc so_far.reports.rounds round ∙ ap (λ ms. ms ++ now ∷ []) so_far.reports.keeps.due
-              ∙ sym (due_moments-append every every so_far.moments (now ∷ []) ∙ ap (λ b. due_moments every every so_far.moments ++ cond b [] (now ∷ [])) is_late);
-          walk = subst (Rounds limits old (so_far.reports.rounds ++ round ∷ [])) (end_of limits ticked new now p.look p.looked)
-              (Rounds_snoc limits old mid so_far.reports.rounds round so_far.reports.keeps.walk is);
+          due = moments_snoc so_far.reports.showings showing ∙ ap (λ ms. ms ++ now ∷ []) so_far.reports.keeps.due
+              ∙ sym (due_moments-append every (next_moment every last) so_far.moments (now ∷ []) ∙ ap (λ b. due_moments every (next_moment every last) so_far.moments ++ cond b [] (now ∷ [])) is_late);
+          walk = subst (Showings station old (so_far.reports.showings ++ showing ∷ [])) (end_of station ticked new now p.look p.looked)
+              (Showings_snoc station old mid so_far.reports.showings showing so_far.reports.keeps.walk is);
         };
-        takes = subst (λ ls. TakesTexts limits ls start.taken after.taken (is_err result)) (sym (looks_snoc so_far.reports.rounds round)) p.takes;
+        takes = subst (λ ls. TakesTexts station ls start.taken after.taken (is_err result)) (sym (looks_snoc so_far.reports.showings showing)) p.takes;
         failures = p.failures;
       };
     }

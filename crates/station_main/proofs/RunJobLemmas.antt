@@ -1,12 +1,12 @@
 -- What the job `run` leaves.
-use Rattle.std.proofs.Common.{rules, ◌≡◌, ◌∙◌, ◌⊎◌, inl, inr, ℕ, ◌+◌, Bool, true, false, List, [], ◌∷◌, ◌++◌, Option, Some, None, Result, Ok, Err, zero, suc, length-append, refl, sym, ap, subst, append-nil, take, drop, length, arith}
+use Rattle.std.proofs.Common.{rules, ◌≡◌, ◌∙◌, ◌⊎◌, inl, inr, ℕ, Bool, true, false, List, [], ◌∷◌, ◌++◌, Option, Some, None, Result, Ok, Err, zero, suc, length-append, refl, sym, ap, subst, append-nil, take, drop, length, arith}
 use Rattle.std.specs.Prelude.{is_err, fold, map, max}
 use Rattle.std.specs.Io.KnownBytes.{Keeps, append_known}
 use Rattle.std.proofs.Math.Seq.{take-append_seam}
 use Rattle.std.proofs.lemmas.List.Folds.{fold-map}
-use Rattle.station_journal.specs.declared.Limits.{Limits}
+use Rattle.station_journal.specs.declared.Entry.{Entry}
 use Rattle.station_report.specs.declared.sinks.WriteFault.{WriteFault}
-use Rattle.station_shared.specs.Seats.{Seated, Looks, newcomer, newcomers}
+use Rattle.station_shared.specs.Seats.{Seated, Start, Looks, newcomer, newcomers}
 use Rattle.station_main.specs.Status.{answer_status, fault_status}
 use Rattle.station_main.specs.Output.{Printed}
 use Rattle.station_main.specs.Reporter.{ReportsByAClock, looks_of}
@@ -27,39 +27,39 @@ kept_nil (Some x) (Some y) k = append-nil y ∙ k
 
 -- ---- the whole run
 
-one_look : (limits : Limits) (mid new : Seated) (look : Option Seated) → (look ≡ None) × (new ≡ mid) ⊎ (look ≡ Some new) × Looks limits mid new → LastLook limits mid false (look ∷ [])
-one_look limits mid new None p = (None, refl, tt)
-one_look limits mid new (Some l) (inl p) = absurd (search rules)
-one_look limits mid new (Some l) (inr p) = let same : new ≡ l = cc in (Some l, refl, subst (λ s. Looks limits mid s) same p.1)
+one_look : (station : Start) (mid new : Seated) (look : Option Seated) → (look ≡ None) × (new ≡ mid) ⊎ (look ≡ Some new) × Looks station mid new → LastLook station mid new false (look ∷ [])
+one_look station mid new None (inl p) = (None, refl, sym p.1, tt)
+one_look station mid new None (inr p) = absurd (search rules)
+one_look station mid new (Some l) (inl p) = absurd (search rules)
+one_look station mid new (Some l) (inr p) = let same : new ≡ l = cc in (Some l, refl, sym same, subst (λ s. Looks station mid s) same p.1)
 
-pub leaves : (limits : Limits) (every : ℕ) (first mid : Seated) (start before : Printed) (after : Option (List ℕ)) (failed_before has_failed : Bool)
-    → ReportsByAClock limits every first mid start before failed_before → PrintsLast limits mid before failed_before after has_failed → Leaves limits every start.taken after has_failed
-leaves limits every first mid start before after true has_failed reports prints = record {
-  first = first;
+pub leaves : (station : Start) (every last_tick : ℕ) (first mid closing : Seated) (start before : Printed) (after : Option (List ℕ)) (failed_before has_failed : Bool)
+    → ReportsByAClock station every last_tick first mid start before failed_before → PrintsLast station mid closing before failed_before after has_failed
+    → Leaves station every last_tick first closing start.taken after has_failed
+leaves station every last_tick first mid closing start before after true has_failed reports prints = record {
   mid = mid;
   moments = reports.0;
-  rounds = reports.1.rounds;
+  showings = reports.1.showings;
   keeps = reports.1.keeps;
   failed_before = true;
   last = [];
-  looks = refl;
+  looks = (refl, prints.0);
   between = before.taken;
   write_failed = true;
-  takes = subst (λ ls. TakesTexts limits ls start.taken before.taken true) (sym (append-nil (looks_of reports.1.rounds))) reports.1.takes;
-  gives = prints.0;
-  told = λ _. prints.1;
+  takes = subst (λ ls. TakesTexts station ls start.taken before.taken true) (sym (append-nil (looks_of reports.1.showings))) reports.1.takes;
+  gives = prints.1;
+  told = λ _. prints.2;
 }
-leaves limits every first mid start before after false has_failed reports prints =
-    let p = printed_at_most limits (looks_of reports.1.rounds) mid prints.new start before prints.sink prints.result reports.1.takes reports.1.failures prints.prints in
+leaves station every last_tick first mid closing start before after false has_failed reports prints =
+    let p = printed_at_most station (looks_of reports.1.showings) mid closing start before prints.sink prints.result reports.1.takes reports.1.failures prints.prints in
     record {
-      first = first;
       mid = mid;
       moments = reports.0;
-      rounds = reports.1.rounds;
+      showings = reports.1.showings;
       keeps = reports.1.keeps;
       failed_before = false;
       last = p.look ∷ [];
-      looks = one_look limits mid prints.new p.look p.looked;
+      looks = one_look station mid closing p.look p.looked;
       between = prints.sink.taken;
       write_failed = is_err prints.result;
       takes = p.takes;
@@ -71,9 +71,9 @@ pub well_told : (result : Result (Unit {0}) WriteFault) (done : Unit {0}) (has_f
 well_told (Ok d) done has_failed e failed = absurd (search rules)
 well_told (Err fault) done has_failed e failed = absurd (search rules)
 
-pub length_newcomers : (n : ℕ) → length (newcomers n) ≡ n
-length_newcomers zero = refl
-length_newcomers (suc n) = omega (arith, length-append (newcomers n) (newcomer n ∷ []), length_newcomers n)
+pub length_newcomers : (entries : List Entry) (n : ℕ) → length (newcomers entries n) ≡ n
+length_newcomers entries zero = refl
+length_newcomers entries (suc n) = omega (arith, length-append (newcomers entries n) (newcomer entries n ∷ []), length_newcomers entries n)
 
 -- the worst of the answers, told one after another
 pub statuses : {W T E : Type 0} (answer : W → Option (Result T E)) (ws : List W) (status : ℕ) (has_failed : Bool) → status ≡ max (fold (λ worst w. max worst (answer_status (answer w))) 0 ws) (fault_status has_failed)

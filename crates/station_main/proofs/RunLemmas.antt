@@ -17,23 +17,29 @@ use Rattle.clap.specs.Lexer.{without_minus}
 use Rattle.std.specs.Str.Parse.{IsNumeral, digits_value, starts_with_minus, without_leading_plus}
 use Rattle.clap.proofs.ValueTestLemmas.{accepts-Accepts}
 use Rattle.clap.proofs.WalkLemmas.{both}
-use Rattle.clap.specs.Walk.{row_text, Row, Rule, Text, answers_to, at_row, has_row, used, used_as, finished, settled, walk, walk_from, more_values, nothing_held, with_default, rows_after, without}
+use Rattle.clap.specs.Walk.{default_rows, one_of, row_text, Row, Rule, Text, answers_to, at_row, has_row, used, used_as, finished, settled, walk, walk_from, more_values, nothing_held, with_default, rows_after, without}
 use Rattle.clap.specs.Words.{subcommand_of}
 use Rattle.clap.specs.declared.builder.action.ArgAction.TheVariants.{Set}
 use Rattle.clap.specs.declared.builder.value_parser.Reading.{Reading}
 use Rattle.clap.specs.declared.builder.value_parser.Reading.TheVariants.{WithoutMinus, AsWritten}
 use Rattle.clap.specs.declared.builder.value_parser.ValueParser.TheVariants.{Signed}
-use Rattle.clap.specs.declared.parser.matches.ValueSource.TheVariants.{CommandLine}
+use Rattle.clap.specs.declared.parser.matches.ValueSource.{ValueSource}
+use Rattle.clap.specs.declared.parser.matches.ValueSource.TheVariants.{CommandLine, DefaultValue}
 use Rattle.clap.proofs.OnLiterals.{clap_on_literals}
-use Rattle.station_main.specs.Command.{IsGiven, every, number, path, replay, run, station}
+use Rattle.station_main.specs.Command.{IsGiven, every, number, path, replay, rounds, run, station}
 use Rattle.station_main.proofs.WalkedLemmas.{Keeps, both_none, not_none, settles, walks}
 
 -- ---- rows
 
--- the row of `--every` or of PATH, as a use leaves it that is refused for nothing
+-- the row of an option whose value is a number from 1 to `most`
+abbrev pub IsNumber : Text → ℕ → Row → Type 0
+IsNumber id most r = (r.id ≡ id) × (r.reading ≡ WithoutMinus) × ((v : Text) × (r.values ≡ v ∷ []) × (is_signed_in (pos 1) (pos most) v ≡ true))
+
+-- the row of `--every`, `--rounds` or PATH, as a use or a default leaves it that is refused for nothing
 abbrev pub Good : Row → Type 0
-Good r = ((r.id ≡ codes "every") × (r.reading ≡ WithoutMinus) × ((v : Text) × (r.values ≡ v ∷ []) × (is_signed_in (pos 1) (pos 3600000) v ≡ true)))
-    ⊎ ((r.id ≡ codes "path") × (1 ≤ length r.values) × (length r.values ≤ 8))
+Good r = IsNumber (codes "every") 3600000 r
+    ⊎ (IsNumber (codes "rounds") 1000 r
+    ⊎ ((r.id ≡ codes "path") × (1 ≤ length r.values) × (length r.values ≤ 8)))
 
 abbrev pub Fine : List Row → Type 0
 Fine [] = ⊤
@@ -73,16 +79,16 @@ append_nil : (rows : List Row) → rows ++ [] ≡ rows
 append_nil [] = refl
 append_nil (r ∷ rs) = ap (λ t. r ∷ t) (append_nil rs)
 
-row_for : Text → Reading → List Text → Row
-row_for id how values = record { id = id; values = values; count = None; source = Some CommandLine; reading = how }
+row_for : ValueSource → Text → Reading → List Text → Row
+row_for from id how values = record { id = id; values = values; count = None; source = Some from; reading = how }
 
 set_adds : (id : Text) (how : Reading) (values : List Text) (rows : List Row) → has_row id rows ≡ false
-    → used_as Set id how values rows ≡ rows ++ row_for id how values ∷ []
+    → used_as Set id how values rows ≡ rows ++ row_for CommandLine id how values ∷ []
 unfolding row_for
 set_adds id how values rows none =
     let bare : without id rows ≡ rows = absent id (λ _. []) [] rows none ∙ append_nil rows in
     let none_there : has_row id (without id rows) ≡ false = ap (has_row id) bare ∙ none in
-    absent id (more_values CommandLine values) (row_for id how values ∷ []) (without id rows) none_there ∙ ap (λ t. t ++ row_for id how values ∷ []) bare
+    absent id (more_values CommandLine values) (row_for CommandLine id how values ∷ []) (without id rows) none_there ∙ ap (λ t. t ++ row_for CommandLine id how values ∷ []) bare
 
 -- ---- uses
 
@@ -96,6 +102,9 @@ accepted false k e = absurd (not_none _ _ e)
 
 abbrev pub every_rule : Rule
 every_rule = with_index 1 (filled every)
+
+abbrev pub rounds_rule : Rule
+rounds_rule = with_index 1 (filled rounds)
 
 abbrev pub path_rule : Rule
 path_rule = with_index 1 (filled path)
@@ -114,18 +123,27 @@ none_given false rest e = e
 exactly_one : (n : ℕ) → range_kinds 1 1 n ≡ [] → 1 ≡ n
 exactly_one n e = exactly_by (1 == n) n refl (none_given (n == 0) (if 1 == n then [] else kind.WrongNumberOfValues ∷ []) e)
 
-keeps_every : (values : List Text) (rows : List Row) → use_fault false every_rule values rows ≡ [] → Fine rows → Fine (used every_rule values rows)
+keeps_number : (id : Text) (most : ℕ) → ((r : Row) → IsNumber id most r → Good r) → (v : Text) (vs : List Text) (rows : List Row)
+    → or_else (range_kinds 1 1 (length (v ∷ vs))) (or_else (repeat_fault false id rows) (values_kinds false (Signed (pos 1) (pos most)) (v ∷ vs))) ≡ []
+    → Fine rows → Fine (used_as Set id WithoutMinus (v ∷ vs) rows)
 unfolding row_for
-keeps_every [] rows e f = absurd (not_none _ _ e)
-keeps_every (v ∷ []) rows e f =
-    let parts = both_none (repeat_fault false (codes "every") rows) (values_kinds false (Signed (pos 1) (pos 3600000)) (v ∷ [])) e in
-    let none = not_repeated (has_row (codes "every") rows) parts.0 in
-    let passes = accepted (is_signed_in (pos 1) (pos 3600000) v) _ (both_none (value_kinds false (Signed (pos 1) (pos 3600000)) v) [] parts.1).0 in
-    subst Fine (sym (set_adds (codes "every") WithoutMinus (v ∷ []) rows none)) (fine_snoc rows (row_for (codes "every") WithoutMinus (v ∷ [])) f (inl (refl, refl, (v, refl, passes))))
-keeps_every (v ∷ w ∷ vs) rows e f =
-    let counted = both_none (range_kinds 1 1 (length (v ∷ w ∷ vs))) (set_fault false every_rule (v ∷ w ∷ vs) rows) e in
+keeps_number id most good v [] rows e f =
+    let parts = both_none (repeat_fault false id rows) (values_kinds false (Signed (pos 1) (pos most)) (v ∷ [])) e in
+    let none = not_repeated (has_row id rows) parts.0 in
+    let passes = accepted (is_signed_in (pos 1) (pos most) v) _ (both_none (value_kinds false (Signed (pos 1) (pos most)) v) [] parts.1).0 in
+    subst Fine (sym (set_adds id WithoutMinus (v ∷ []) rows none)) (fine_snoc rows (row_for CommandLine id WithoutMinus (v ∷ [])) f (good (row_for CommandLine id WithoutMinus (v ∷ [])) (refl, refl, (v, refl, passes))))
+keeps_number id most good v (w ∷ vs) rows e f =
+    let counted = both_none (range_kinds 1 1 (length (v ∷ w ∷ vs))) (or_else (repeat_fault false id rows) (values_kinds false (Signed (pos 1) (pos most)) (v ∷ w ∷ vs))) e in
     let one = exactly_one (length (v ∷ w ∷ vs)) counted.0 in
     absurd (omega (arith, one))
+
+keeps_every : (values : List Text) (rows : List Row) → use_fault false every_rule values rows ≡ [] → Fine rows → Fine (used every_rule values rows)
+keeps_every [] rows e f = absurd (not_none _ _ e)
+keeps_every (v ∷ vs) rows e f = keeps_number (codes "every") 3600000 (λ r number. inl number) v vs rows e f
+
+keeps_rounds : (values : List Text) (rows : List Row) → use_fault false rounds_rule values rows ≡ [] → Fine rows → Fine (used rounds_rule values rows)
+keeps_rounds [] rows e f = absurd (not_none _ _ e)
+keeps_rounds (v ∷ vs) rows e f = keeps_number (codes "rounds") 1000 (λ r number. inr (inl number)) v vs rows e f
 
 at_most : (b : Bool) (n : ℕ) → nat_lt 8 n ≡ b → (if b then kind.TooManyValues ∷ [] else []) ≡ [] → n ≤ 8
 at_most true n is e = absurd (not_none _ _ e)
@@ -148,7 +166,7 @@ keeps_path (v ∷ vs) rows e f =
     let few = at_most_eight (length (v ∷ vs)) counted.0 in
     let parts = both_none (repeat_fault false (codes "path") rows) (values_fault path_rule (v ∷ vs)) counted.1 in
     let none = not_repeated (has_row (codes "path") rows) parts.0 in
-    subst Fine (sym (set_adds (codes "path") AsWritten (v ∷ vs) rows none)) (fine_snoc rows (row_for (codes "path") AsWritten (v ∷ vs)) f (inr (refl, omega arith, few)))
+    subst Fine (sym (set_adds (codes "path") AsWritten (v ∷ vs) rows none)) (fine_snoc rows (row_for CommandLine (codes "path") AsWritten (v ∷ vs)) f (inr (inr (refl, omega arith, few))))
 
 keeps_help : (values : List Text) (rows : List Row) → use_fault false help_flag values rows ≡ [] → Fine rows → Fine (used help_flag values rows)
 keeps_help values rows e f = absurd (not_none _ _ (both_none (range_kinds 0 0 (length values)) (kind.DisplayHelp ∷ []) e).1)
@@ -166,13 +184,14 @@ among test [] a e = absurd (none_some a e)
 among test (x ∷ xs) a e = among_step (test x) x (find test xs) xs a e (among test xs a)
 
 abbrev run_rules : List Rule
-run_rules = every_rule ∷ path_rule ∷ help_flag ∷ []
+run_rules = every_rule ∷ rounds_rule ∷ path_rule ∷ help_flag ∷ []
 
 keeps_among : (a : Rule) (values : List Text) (rows : List Row) → Among a run_rules → use_fault false a values rows ≡ [] → Fine rows → Fine (used a values rows)
 keeps_among a values rows (inl same) e f = subst (λ b. Fine (used b values rows)) same (keeps_every values rows (subst (λ b. use_fault false b values rows ≡ []) (sym same) e) f)
-keeps_among a values rows (inr (inl same)) e f = subst (λ b. Fine (used b values rows)) same (keeps_path values rows (subst (λ b. use_fault false b values rows ≡ []) (sym same) e) f)
-keeps_among a values rows (inr (inr (inl same))) e f = subst (λ b. Fine (used b values rows)) same (keeps_help values rows (subst (λ b. use_fault false b values rows ≡ []) (sym same) e) f)
-keeps_among a values rows (inr (inr (inr none))) e f = absurd none
+keeps_among a values rows (inr (inl same)) e f = subst (λ b. Fine (used b values rows)) same (keeps_rounds values rows (subst (λ b. use_fault false b values rows ≡ []) (sym same) e) f)
+keeps_among a values rows (inr (inr (inl same))) e f = subst (λ b. Fine (used b values rows)) same (keeps_path values rows (subst (λ b. use_fault false b values rows ≡ []) (sym same) e) f)
+keeps_among a values rows (inr (inr (inr (inl same)))) e f = subst (λ b. Fine (used b values rows)) same (keeps_help values rows (subst (λ b. use_fault false b values rows ≡ []) (sym same) e) f)
+keeps_among a values rows (inr (inr (inr (inr none)))) e f = absurd none
 
 -- ---- the words of `run`
 
@@ -186,12 +205,32 @@ either_way : (b : Bool) (rows : List Row) → (if b then rows else rows) ≡ row
 either_way true rows = refl
 either_way false rows = refl
 
-finished_is : (rows : List Row) → fold with_default rows run_rules ≡ rows
+last_step : (b c : Bool) → c ≡ true → (b || c) ≡ true
+last_step true c e = refl
+last_step false c e = e
+
+has_last : (id : Text) (rows : List Row) (r : Row) → bytes_eq r.id id ≡ true → has_row id (rows ++ r ∷ []) ≡ true
+has_last id [] r e = ap (λ b. b || false) e
+has_last id (x ∷ xs) r e = last_step (bytes_eq x.id id) _ (has_last id xs r e)
+
+-- `--rounds` has a row, by its default where it wasn't given
+rounds_default : (b : Bool) (rows : List Row) → has_row (codes "rounds") rows ≡ b → Fine rows
+    → (let after = if b then rows else default_rows (codes "rounds") WithoutMinus (codes "1" ∷ []) rows in
+    Fine after × (has_row (codes "rounds") after ≡ true))
+unfolding row_for
+rounds_default true rows is f = (f, is)
+rounds_default false rows is f =
+    let row = row_for DefaultValue (codes "rounds") WithoutMinus (codes "1" ∷ []) in
+    let added = absent (codes "rounds") (more_values DefaultValue (codes "1" ∷ [])) (row ∷ []) rows is in
+    (subst Fine (sym added) (fine_snoc rows row f (inr (inl (refl, refl, (codes "1", refl, refl))))), ap (has_row (codes "rounds")) added ∙ has_last (codes "rounds") rows row refl)
+
+finished_is : (rows : List Row) → fold with_default rows run_rules ≡ with_default rows rounds_rule
 finished_is rows =
+    let after = with_default rows rounds_rule in
     let first = either_way (has_row (codes "every") rows) rows in
-    let second = either_way (has_row (codes "path") rows) rows in
-    let third = either_way (has_row (codes "help") rows) rows in
-    ap (λ t. fold with_default t (path_rule ∷ help_flag ∷ [])) first ∙ ap (λ t. fold with_default t (help_flag ∷ [])) second ∙ third
+    let third = either_way (has_row (codes "path") after) after in
+    let last = either_way (has_row (codes "help") after) after in
+    ap (λ t. fold with_default t (rounds_rule ∷ path_rule ∷ help_flag ∷ [])) first ∙ ap (λ t. fold with_default t (help_flag ∷ [])) third ∙ last
 
 both_given : (b c : Bool) (k : ErrorKind) → (if not b || (not c || false) then k ∷ [] else []) ≡ [] → (b ≡ true) × (c ≡ true)
 both_given true true k e = (refl, refl)
@@ -202,10 +241,10 @@ there : (o : Option Row) → option_map_or (λ r. explicit_source r.source) o fa
 there None e = absurd (search rules)
 there (Some r) e = (r, refl)
 
-abbrev HasBoth : List Row → Type 0
-HasBoth rows = Fine rows × (is_given (codes "every") rows ≡ true) × (is_given (codes "path") rows ≡ true)
+abbrev HasAll : List Row → Type 0
+HasAll rows = Fine rows × (is_given (codes "every") rows ≡ true) × (has_row (codes "rounds") rows ≡ true) × (is_given (codes "path") rows ≡ true)
 
-run_level : (words : List Text) → level_fault run_shape [] nothing_held words false [] ≡ [] → HasBoth (rows_after run_shape.rules [] words)
+run_level : (words : List Text) → level_fault run_shape [] nothing_held words false [] ≡ [] → HasAll (rows_after run_shape.rules [] words)
 run_level words e =
     let end = (walk run_shape.rules [] nothing_held words).held in
     let walked_on = both_none (walk_fault run_shape [] (walk_from nothing_held) words) (or_else (settle_fault run_shape.rules false end) (or_else (defaults_fault (settled run_shape.rules end).rows run_shape.rules) (check_fault run_shape (finished run_shape.rules end) false))) e in
@@ -213,10 +252,12 @@ run_level words e =
     let checked = both_none (defaults_fault (settled run_shape.rules end).rows run_shape.rules) (check_fault run_shape (finished run_shape.rules end) false) ended.1 in
     let fine_end = walks run_shape Fine keeps_run [] (walk_from nothing_held) words walked_on.0 tt in
     let fine_settled = settles run_shape Fine keeps_run end ended.0 fine_end in
-    let fine = subst Fine (sym (finished_is (settled run_shape.rules end).rows)) fine_settled in
+    let settled_is = (settled run_shape.rules end).rows in
+    let by_default = rounds_default (has_row (codes "rounds") settled_is) settled_is refl fine_settled in
+    let fine = subst Fine (sym (finished_is settled_is)) by_default.0 in
     let rows = finished run_shape.rules end in
     let given = both_given (is_given (codes "every") rows) (is_given (codes "path") rows) kind.MissingRequiredArgument checked.1 in
-    (fine, given.0, given.1)
+    (fine, given.0, ap (has_row (codes "rounds")) (finished_is settled_is) ∙ by_default.1, given.1)
 
 -- ---- from the whole line down to `run`
 
@@ -243,11 +284,11 @@ abbrev pub replay_shape : Shape
 replay_shape = built_leaf (inherited (with_leaf_noted (marked_built station.top)) replay.top)
 
 run_among : (s : Shape) (words : List Text) (rows : List Row) → Among s (replay_shape ∷ run_shape ∷ built_leaf help_shape ∷ []) → s.name ≡ codes "run"
-    → level_fault s [] nothing_held words false [] ≡ [] → rows_after s.rules [] words ≡ rows → HasBoth rows
+    → level_fault s [] nothing_held words false [] ≡ [] → rows_after s.rules [] words ≡ rows → HasAll rows
 run_among s words rows (inl same) name_is passes rows_are = let bad : 6 ≡ 3 = ap (λ (t : Text). length t) (ap (λ (t : Shape). t.name) same ∙ name_is) in absurd (omega (arith, bad))
 run_among s words rows (inr (inl same)) name_is passes rows_are =
     let level = subst (λ t. level_fault t [] nothing_held words false [] ≡ []) (sym same) passes in
-    subst HasBoth (ap (λ t. rows_after t.rules [] words) same ∙ rows_are) (run_level words level)
+    subst HasAll (ap (λ t. rows_after t.rules [] words) same ∙ rows_are) (run_level words level)
 run_among s words rows (inr (inr (inl same))) name_is passes rows_are = let bad : 4 ≡ 3 = ap (λ (t : Text). length t) (ap (λ (t : Shape). t.name) same ∙ name_is) in absurd (omega (arith, bad))
 run_among s words rows (inr (inr (inr none))) name_is passes rows_are = absurd none
 
@@ -255,8 +296,8 @@ pub shapes_are : (built station).subs ≡ replay_shape ∷ run_shape ∷ built_l
 unfolding clap_on_literals
 shapes_are = refl
 
-has_both : (words : List Text) (rows : List Row) → subcommand_of station words ≡ Some (codes "run", rows) → fault_of station words ≡ [] → HasBoth rows
-has_both words rows named passes =
+has_all : (words : List Text) (rows : List Row) → subcommand_of station words ≡ Some (codes "run", rows) → fault_of station words ≡ [] → HasAll rows
+has_all words rows named passes =
     let a = built station in
     let stop = (walk a.top.rules (names_of a) nothing_held (argument_words station words)).stopped in
     let below = (both_none (entered_fault a stop) _ (both_none (walk_fault a.top (names_of a) (walk_from nothing_held) (argument_words station words)) _ passes).1).0 in
@@ -269,15 +310,15 @@ not_below : (n : ℕ) → int_le (pos 1) (neg_ℤ (pos n)) ≡ true → ⊥
 not_below zero e = absurd (search rules)
 not_below (suc n) e = absurd (search rules)
 
-signed_facts : (b : Bool) (v : Text)
+signed_facts : (b : Bool) (most : ℕ) (v : Text)
     → (let ds = cond b (drop 1 v) (without_leading_plus v) in
     let z = cond b (neg_ℤ (pos (digits_value 10 ds))) (pos (digits_value 10 ds)) in
-    is_numeral ds && (fits_i64 z && (int_le (pos 1) z && int_le z (pos 3600000)))) ≡ true
-    → (b ≡ false) × (1 ≤ number v) × (number v ≤ 3600000)
-signed_facts true v e = absurd (not_below (digits_value 10 (drop 1 v)) (both _ _ (both _ _ (both _ _ e).1).1).0)
-signed_facts false v e =
+    is_numeral ds && (fits_i64 z && (int_le (pos 1) z && int_le z (pos most)))) ≡ true
+    → (b ≡ false) × (1 ≤ number v) × (number v ≤ most)
+signed_facts true most v e = absurd (not_below (digits_value 10 (drop 1 v)) (both _ _ (both _ _ (both _ _ e).1).1).0)
+signed_facts false most v e =
     let bounds = both _ _ (both _ _ (both _ _ e).1).1 in
-    (refl, leb-true 1 (number v) bounds.0, leb-true (number v) 3600000 bounds.1)
+    (refl, leb-true 1 (number v) bounds.0, leb-true (number v) most bounds.1)
 
 kept : (b : Bool) (x : ℕ) (xs : Text) → b ≡ false → unwrap_or (if b then Some xs else None) (x ∷ xs) ≡ x ∷ xs
 kept true x xs e = absurd (search rules)
@@ -287,38 +328,67 @@ no_minus : (v : Text) → starts_with_minus v ≡ false → without_minus v ≡ 
 no_minus [] e = refl
 no_minus (x ∷ xs) e = kept (x == 45) x xs e
 
-every_value : (r : Row) → Good r → bytes_eq r.id (codes "every") ≡ true → (v : Text) × (row_text r ≡ Some (without_minus v)) × (is_signed_in (pos 1) (pos 3600000) v ≡ true)
-every_value r (inl h) e =
-    (h.2.0, ap₂ {C = Option Text} (λ how vs. option_map (read_as how) (slice_get vs 0)) h.1 h.2.1, h.2.2)
-every_value r (inr h) e = let bad : false ≡ true = ap (λ t. bytes_eq t (codes "every")) (sym h.0) ∙ e in absurd (search rules)
+row_step : (b c : Bool) (x : Row) (rest : Option Row) → (b || c) ≡ true → (c ≡ true → (r : Row) × (rest ≡ Some r)) → (r : Row) × (cond b (Some x) rest ≡ Some r)
+row_step true c x rest e others = (x, refl)
+row_step false c x rest e others = others e
+
+row_of : (id : Text) (rows : List Row) → has_row id rows ≡ true → (r : Row) × (find (λ r. bytes_eq r.id id) rows ≡ Some r)
+row_of id [] e = absurd (search rules)
+row_of id (x ∷ xs) e = row_step (bytes_eq x.id id) (has_row id xs) x (find (λ r. bytes_eq r.id id) xs) e (row_of id xs)
+
+every_row : (r : Row) → Good r → bytes_eq r.id (codes "every") ≡ true → IsNumber (codes "every") 3600000 r
+every_row r (inl h) e = h
+every_row r (inr (inl h)) e = let bad : false ≡ true = ap (λ t. bytes_eq t (codes "every")) (sym h.0) ∙ e in absurd (search rules)
+every_row r (inr (inr h)) e = let bad : false ≡ true = ap (λ t. bytes_eq t (codes "every")) (sym h.0) ∙ e in absurd (search rules)
+
+rounds_row : (r : Row) → Good r → bytes_eq r.id (codes "rounds") ≡ true → IsNumber (codes "rounds") 1000 r
+rounds_row r (inl h) e = let bad : false ≡ true = ap (λ t. bytes_eq t (codes "rounds")) (sym h.0) ∙ e in absurd (search rules)
+rounds_row r (inr (inl h)) e = h
+rounds_row r (inr (inr h)) e = let bad : false ≡ true = ap (λ t. bytes_eq t (codes "rounds")) (sym h.0) ∙ e in absurd (search rules)
 
 path_values : (r : Row) → Good r → bytes_eq r.id (codes "path") ≡ true → (1 ≤ length r.values) × (length r.values ≤ 8)
 path_values r (inl h) e = let bad : false ≡ true = ap (λ t. bytes_eq t (codes "path")) (sym h.0) ∙ e in absurd (search rules)
-path_values r (inr h) e = (h.1, h.2)
+path_values r (inr (inl h)) e = let bad : false ≡ true = ap (λ t. bytes_eq t (codes "path")) (sym h.0) ∙ e in absurd (search rules)
+path_values r (inr (inr h)) e = (h.1, h.2)
 
-given_values : (rows : List Row) → HasBoth rows → IsGiven rows
+abbrev GivesNumber : Text → ℕ → List Row → Type 0
+GivesNumber id most rows = (v : Text) × (one_of id rows ≡ Some v) × IsNumeral 10 (without_leading_plus v) × (1 ≤ number v) × (number v ≤ most)
+
+number_given : (id : Text) (most : ℕ) (r : Row) (rows : List Row) → find (λ r. bytes_eq r.id id) rows ≡ Some r → IsNumber id most r → GivesNumber id most rows
+number_given id most r rows found h =
+    let v = h.2.0 in
+    let read : row_text r ≡ Some (without_minus v) = ap₂ {C = Option Text} (λ how vs. option_map (read_as how) (slice_get vs 0)) h.1 h.2.1 in
+    let facts = signed_facts (starts_with_minus v) most v h.2.2 in
+    let numeral = subst (λ b. IsNumeral 10 (cond b (drop 1 v) (without_leading_plus v))) facts.0 (accepts-Accepts false (Signed (pos 1) (pos most)) v h.2.2).0 in
+    (v, ap (option_and_then row_text) found ∙ read ∙ ap (λ t. Some t) (no_minus v facts.0), numeral, facts.1, facts.2)
+
+given_values : (rows : List Row) → HasAll rows → IsGiven rows
 given_values rows h =
-    let every_row = there (find (λ r. bytes_eq r.id (codes "every")) rows) h.1 in
-    let every_good = fine_found rows (λ r. bytes_eq r.id (codes "every")) every_row.0 every_row.1 h.0 in
-    let found = every_value every_row.0 every_good.0 every_good.1 in
-    let v = found.0 in
-    let facts = signed_facts (starts_with_minus v) v found.2 in
-    let plain_v = no_minus v facts.0 in
-    let numeral = subst (λ b. IsNumeral 10 (cond b (drop 1 v) (without_leading_plus v))) facts.0 (accepts-Accepts false (Signed (pos 1) (pos 3600000)) v found.2).0 in
-    let path_row = there (find (λ r. bytes_eq r.id (codes "path")) rows) h.2 in
-    let path_good = fine_found rows (λ r. bytes_eq r.id (codes "path")) path_row.0 path_row.1 h.0 in
-    let counts = path_values path_row.0 path_good.0 path_good.1 in
+    let met_every = there (find (λ r. bytes_eq r.id (codes "every")) rows) h.1 in
+    let good_every = fine_found rows (λ r. bytes_eq r.id (codes "every")) met_every.0 met_every.1 h.0 in
+    let milliseconds = number_given (codes "every") 3600000 met_every.0 rows met_every.1 (every_row met_every.0 good_every.0 good_every.1) in
+    let met_rounds = row_of (codes "rounds") rows h.2 in
+    let good_rounds = fine_found rows (λ r. bytes_eq r.id (codes "rounds")) met_rounds.0 met_rounds.1 h.0 in
+    let times = number_given (codes "rounds") 1000 met_rounds.0 rows met_rounds.1 (rounds_row met_rounds.0 good_rounds.0 good_rounds.1) in
+    let met_path = there (find (λ r. bytes_eq r.id (codes "path")) rows) h.3 in
+    let good_path = fine_found rows (λ r. bytes_eq r.id (codes "path")) met_path.0 met_path.1 h.0 in
+    let counts = path_values met_path.0 good_path.0 good_path.1 in
     record {
-      text = v;
-      every = ap (option_and_then row_text) every_row.1 ∙ found.1 ∙ ap (λ t. Some t) plain_v;
-      numeral = numeral;
-      least = facts.1;
-      most = facts.2;
-      paths = path_row.0.values;
-      paths_are = ap (option_map (λ r. r.values)) path_row.1;
+      text = milliseconds.0;
+      every = milliseconds.1;
+      numeral = milliseconds.2;
+      least = milliseconds.3;
+      most = milliseconds.4;
+      rounds_text = times.0;
+      rounds = times.1;
+      rounds_numeral = times.2;
+      rounds_least = times.3;
+      rounds_most = times.4;
+      paths = met_path.0.values;
+      paths_are = ap (option_map (λ r. r.values)) met_path.1;
       some = counts.0;
       few = counts.1;
     }
 
 pub run_given : (words : List Text) (rows : List Row) → subcommand_of station words ≡ Some (codes "run", rows) → fault_of station words ≡ [] → IsGiven rows
-run_given words rows named passes = given_values rows (has_both words rows named passes)
+run_given words rows named passes = given_values rows (has_all words rows named passes)

@@ -1,5 +1,5 @@
 -- The command line as `clap` reads it, and the job that its words name.
-use Rattle.std.specs.Prelude.{◌≡◌, ◌≤◌, ℕ, List, Some, codes, true, false, pos, map, length, option_map, ⊤}
+use Rattle.std.specs.Prelude.{◌≡◌, ◌≤◌, ℕ, List, [], ◌∷◌, Some, codes, true, false, pos, map, length, option_map, ⊤}
 use Rattle.std.specs.String.{string_bytes}
 use Rattle.std.specs.Str.Parse.{IsNumeral, digits_value, without_leading_plus}
 use Rattle.clap.specs.Words.{App, Row, Rule, Text, all_of, new_app, new_rule, one_of, subcommand_of}
@@ -21,6 +21,15 @@ every = record (new_rule (codes "every")) {
   parser = Some (Signed (pos 1) (pos 3600000));
 }
 
+-- `--rounds R`: a whole number from 1 to 1,000, and 1 where it isn't given
+abbrev pub rounds : Rule
+rounds = record (new_rule (codes "rounds")) {
+  long = Some (codes "rounds");
+  value_names = 1;
+  defaults = codes "1" ∷ [];
+  parser = Some (Signed (pos 1) (pos 1000));
+}
+
 -- `PATH..`: required, 1 to 8 of them, together
 abbrev pub path : Rule
 path = record (new_rule (codes "path")) {
@@ -34,7 +43,7 @@ abbrev pub replay : App
 replay = new_app (codes "replay")
 
 abbrev pub run : App
-run = with_rule (with_rule (new_app (codes "run")) every) path
+run = with_rule (with_rule (with_rule (new_app (codes "run")) every) rounds) path
 
 abbrev pub wants_subcommand : App → App
 wants_subcommand a = record a { top = record a.top { subcommand_required = true } }
@@ -55,11 +64,14 @@ IsMade app c = (app_of c ≡ app) × ((out-Command c).has_globals ≡ false)
 abbrev pub number : Text → ℕ
 number text = digits_value 10 (without_leading_plus text)
 
--- the values that `--every` and PATH have by the words of `run`, in their order
-pub record GivesRun (rows : List Row) (milliseconds : ℕ) (paths : List Text) : Type 0 where
+-- the values that `--every`, `--rounds` and PATH have by the words of `run`, the paths in their order
+pub record GivesRun (rows : List Row) (milliseconds times : ℕ) (paths : List Text) : Type 0 where
   pub text : Text
   pub every : one_of (codes "every") rows ≡ Some text
   pub every_is : milliseconds ≡ number text
+  pub rounds_text : Text
+  pub rounds : one_of (codes "rounds") rows ≡ Some rounds_text
+  pub rounds_is : times ≡ number rounds_text
   pub paths_are : all_of (codes "path") rows ≡ Some paths
 
 -- what the words of `run` give where they are refused for nothing
@@ -69,6 +81,11 @@ pub record IsGiven (rows : List Row) : Type 0 where
   pub numeral : IsNumeral 10 (without_leading_plus text)
   pub least : 1 ≤ number text
   pub most : number text ≤ 3600000
+  pub rounds_text : Text
+  pub rounds : one_of (codes "rounds") rows ≡ Some rounds_text
+  pub rounds_numeral : IsNumeral 10 (without_leading_plus rounds_text)
+  pub rounds_least : 1 ≤ number rounds_text
+  pub rounds_most : number rounds_text ≤ 1000
   pub paths : List Text
   pub paths_are : all_of (codes "path") rows ≡ Some paths
   pub some : 1 ≤ length paths
@@ -76,16 +93,17 @@ pub record IsGiven (rows : List Row) : Type 0 where
 
 abbrev pub GivesJob : List Row → Job → Type 0
 GivesJob rows Replay = ⊥
-GivesJob rows (Run milliseconds paths) = GivesRun rows milliseconds (map string_bytes paths.items)
+GivesJob rows (Run milliseconds times paths) = GivesRun rows milliseconds times (map string_bytes paths.items)
 
 -- the job is the one that the words name
 abbrev pub NamesJob : List Text → Job → Type 0
 NamesJob words Replay = option_map (λ p. p.0) (subcommand_of station words) ≡ Some (codes "replay")
-NamesJob words (Run milliseconds paths) =
+NamesJob words (Run milliseconds times paths) =
     (rows : List Row) × (subcommand_of station words ≡ Some (codes "run", rows))
-    × GivesRun rows milliseconds (map string_bytes paths.items)
+    × GivesRun rows milliseconds times (map string_bytes paths.items)
 
--- 1 to 3,600,000 milliseconds, and 1 to 8 paths
+-- 1 to 3,600,000 milliseconds, 1 to 1,000 rounds, and 1 to 8 paths
 abbrev pub IsInRange : Job → Type 0
 IsInRange Replay = ⊤
-IsInRange (Run milliseconds paths) = (1 ≤ milliseconds) × (milliseconds ≤ 3600000) × (1 ≤ length paths.items) × (length paths.items ≤ 8)
+IsInRange (Run milliseconds times paths) = (1 ≤ milliseconds) × (milliseconds ≤ 3600000) × (1 ≤ times) × (times ≤ 1000)
+    × (1 ≤ length paths.items) × (length paths.items ≤ 8)

@@ -2,10 +2,9 @@
 use Rattle.std.specs.Prelude.{◌≡◌, ℕ, ◌+◌, ◌-◌, ◌*◌, ◌^◌, ◌≤◌, ◌<◌, ◌⊎◌, Bool, List, [], ◌∷◌, Option, IfSome, map, min, nat_lt, unwrap_or, if◌then◌else◌}
 use Rattle.std.specs.Duration.{as_nanos}
 use Rattle.station_journal.specs.declared.Entry.TheVariants.{Tick}
-use Rattle.station_journal.specs.declared.Limits.{Limits}
 use Rattle.station_journal.specs.declared.Refusal.{Refusal}
 use Rattle.station_shared.specs.History.{Known}
-use Rattle.station_shared.specs.Seats.{Seated, Accepted, Refused, Looks}
+use Rattle.station_shared.specs.Seats.{Seated, Start, Accepted, Refused, Looks}
 use Rattle.station_main.specs.Output.{Printed}
 use Rattle.station_main.specs.Tables.{TakesTexts, failures_after}
 use Rattle.station_main.specs.declared.schedule.Act.{Act}
@@ -31,45 +30,45 @@ due_moments every due (now ∷ moments) =
 
 -- ---- what it prints
 
--- a round: the moment of its tick, the seat after the tick, and the seat after the look, if it was let in
-pub record Round : Type 0 where
+-- a showing: the moment of its tick, the seat after the tick, and the seat after the look, if it was let in
+pub record Showing : Type 0 where
   pub at : ℕ
   pub ticked : Seated
   pub look : Option Seated
 
-abbrev pub seat_after : Round → Seated
-seat_after round = unwrap_or round.look round.ticked
+abbrev pub seat_after : Showing → Seated
+seat_after showing = unwrap_or showing.look showing.ticked
 
-abbrev pub looks_of : List Round → List (Option Seated)
-looks_of rounds = map (λ (round : Round). round.look) rounds
+abbrev pub looks_of : List Showing → List (Option Seated)
+looks_of showings = map (λ (showing : Showing). showing.look) showings
 
 -- the seat ticks at a moment, and that is accepted or refused
-abbrev pub Ticks : Limits → Seated → ℕ → Seated → Type 0
-Ticks limits old at new =
-    ((receipt : Known) × Accepted limits old new (Tick old.number at) receipt) ⊎ ((refusal : Refusal) × Refused limits old new (Tick old.number at) refusal)
+abbrev pub Ticks : Start → Seated → ℕ → Seated → Type 0
+Ticks start old at new =
+    ((receipt : Known) × Accepted start old new (Tick old.number at) receipt) ⊎ ((refusal : Refusal) × Refused start old new (Tick old.number at) refusal)
 
 -- the seat ticks, and then looks
-pub record IsRound (limits : Limits) (old : Seated) (round : Round) : Type 0 where
-  pub ticks : Ticks limits old round.at round.ticked
-  pub looks : IfSome round.look (λ look. Looks limits round.ticked look)
+pub record IsShowing (start : Start) (old : Seated) (showing : Showing) : Type 0 where
+  pub ticks : Ticks start old showing.at showing.ticked
+  pub looks : IfSome showing.look (λ look. Looks start showing.ticked look)
 
--- rounds from one seat to another, each from where the one before left it
-abbrev pub Rounds : Limits → Seated → List Round → Seated → Type 0
-Rounds limits old [] new = new ≡ old
-Rounds limits old (round ∷ rounds) new = IsRound limits old round × Rounds limits (seat_after round) rounds new
+-- showings from one seat to another, each from where the one before left it
+abbrev pub Showings : Start → Seated → List Showing → Seated → Type 0
+Showings start old [] new = new ≡ old
+Showings start old (showing ∷ showings) new = IsShowing start old showing × Showings start (seat_after showing) showings new
 
--- rounds at just those of the clock's moments at which a table is due, the first so many milliseconds after the start
-pub record KeepsTime (limits : Limits) (every : ℕ) (moments : List ℕ) (old : Seated) (rounds : List Round) (new : Seated) : Type 0 where
-  pub due : map (λ (round : Round). round.at) rounds ≡ due_moments every every moments
-  pub walk : Rounds limits old rounds new
+-- showings at just those of the clock's moments at which a table is due, the first so many milliseconds after the last tick
+pub record KeepsTime (start : Start) (every last : ℕ) (moments : List ℕ) (old : Seated) (showings : List Showing) (new : Seated) : Type 0 where
+  pub due : map (λ (showing : Showing). showing.at) showings ≡ due_moments every (next_moment every last) moments
+  pub walk : Showings start old showings new
 
 -- a reporter whose clock gave these moments, from one seat to another
-pub record Reports (limits : Limits) (every : ℕ) (moments : List ℕ) (old new : Seated) (before after : Printed) (has_failed : Bool) : Type 0 where
-  pub rounds : List Round
-  pub keeps : KeepsTime limits every moments old rounds new
-  pub takes : TakesTexts limits (looks_of rounds) before.taken after.taken has_failed
+pub record Reports (start : Start) (every last : ℕ) (moments : List ℕ) (old new : Seated) (before after : Printed) (has_failed : Bool) : Type 0 where
+  pub showings : List Showing
+  pub keeps : KeepsTime start every last moments old showings new
+  pub takes : TakesTexts start (looks_of showings) before.taken after.taken has_failed
   pub failures : after.failures ≡ failures_after has_failed before.failures
 
 -- the same at some clock
-abbrev pub ReportsByAClock : Limits → ℕ → Seated → Seated → Printed → Printed → Bool → Type 0
-ReportsByAClock limits every old new before after has_failed = (moments : List ℕ) × Reports limits every moments old new before after has_failed
+abbrev pub ReportsByAClock : Start → ℕ → ℕ → Seated → Seated → Printed → Printed → Bool → Type 0
+ReportsByAClock start every last old new before after has_failed = (moments : List ℕ) × Reports start every last moments old new before after has_failed

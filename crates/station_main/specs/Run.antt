@@ -1,17 +1,16 @@
--- What the job `run` leaves.
-use Rattle.std.specs.Prelude.{◌≡◌, ℕ, ◌<◌, Bool, true, false, List, [], ◌∷◌, ◌++◌, Option, IfSome, Result, length, slice_index_or, is_err, fold, max, ⊤}
+-- What a round of the job `run` leaves.
+use Rattle.std.specs.Prelude.{◌≡◌, ℕ, ◌<◌, Bool, true, false, List, [], ◌∷◌, ◌++◌, Option, IfSome, Result, length, slice_index_or, is_err, fold, max, unwrap_or, ⊤}
 use Rattle.std.specs.List.{flat_map}
-use Rattle.station_journal.specs.declared.Limits.{Limits}
 use Rattle.station_report.specs.declared.sinks.WriteFault.{WriteFault}
 use Rattle.station_shared.specs.Drawing.{Drawn}
-use Rattle.station_shared.specs.Seats.{Seated, Looks}
+use Rattle.station_shared.specs.Seats.{Seated, Start, Looks}
 use Rattle.station_shared.specs.Workers.{Worked}
 use Rattle.station_shared.specs.declared.from_read.FromRead.{FromRead}
 use Rattle.station_shared.specs.declared.pumping.PumpFault.{PumpFault}
 use Rattle.station_shared.specs.declared.tally.Tally.{Tally}
 use Rattle.station_main.specs.Limits.{most_reads}
 use Rattle.station_main.specs.Output.{GivesBack, Printed}
-use Rattle.station_main.specs.Reporter.{KeepsTime, Round, looks_of}
+use Rattle.station_main.specs.Reporter.{KeepsTime, Showing, looks_of}
 use Rattle.station_main.specs.Status.{answer_status, fault_status}
 use Rattle.station_main.specs.Tables.{PrintsAtMost, TakesTexts}
 use Rattle.station_main.specs.Telling.{Tells, Told, answer_lines, fault_line, output_lines}
@@ -25,56 +24,54 @@ abbrev pub drawn_from : {R : Type 0} → Option (List ℕ) → FromRead R → Dr
 drawn_from left source = record { left = left; reads = source.reads; ends = source.ends; failures = source.failures }
 
 -- each receiver has pumped its source through its seat to an answer
-pub record HaveWorked {W R : Type 0} (limits : Limits) (seat : W → Seated) (source : W → FromRead R) (answer : W → Option (Result Tally PumpFault)) (old new : List W) : Type 0 where
+pub record HaveWorked {W R : Type 0} (start : Start) (seat : W → Seated) (source : W → FromRead R) (answer : W → Option (Result Tally PumpFault)) (old new : List W) : Type 0 where
   pub many : length new ≡ length old
   pub each : (i : ℕ) (d : W) → i < length old → let was = slice_index_or old i d in let is = slice_index_or new i d in
       (before : Option (List ℕ)) × (after : Option (List ℕ))
-      × Worked limits (seat was) (seat is) (drawn_from before (source was)) (drawn_from after (source is)) most_reads (answer is)
+      × Worked start (seat was) (seat is) (drawn_from before (source was)) (drawn_from after (source is)) most_reads (answer is)
 
 -- ---- the last table
 
 -- the last table, where no write failed before
-pub record PrintsMore (limits : Limits) (old : Seated) (before : Printed) (after : Option (List ℕ)) (has_failed : Bool) : Type 0 where
-  pub new : Seated
+pub record PrintsMore (start : Start) (old new : Seated) (before : Printed) (after : Option (List ℕ)) (has_failed : Bool) : Type 0 where
   pub sink : Printed
   pub result : Result (Unit {0}) WriteFault
-  pub prints : PrintsAtMost limits old new before sink result
+  pub prints : PrintsAtMost start old new before sink result
   pub gives : GivesBack sink.taken after has_failed
   pub told : is_err result ≡ true → has_failed ≡ true
 
--- the last table, and the output out of its buffer
-abbrev pub PrintsLast : Limits → Seated → Printed → Bool → Option (List ℕ) → Bool → Type 0
-PrintsLast limits old before false after has_failed = PrintsMore limits old before after has_failed
-PrintsLast limits old before true after has_failed = GivesBack before.taken after has_failed × (has_failed ≡ true)
+-- the last table by a seat, and the output out of its buffer
+abbrev pub PrintsLast : Start → Seated → Seated → Printed → Bool → Option (List ℕ) → Bool → Type 0
+PrintsLast start old new before false after has_failed = PrintsMore start old new before after has_failed
+PrintsLast start old new before true after has_failed = (new ≡ old) × GivesBack before.taken after has_failed × (has_failed ≡ true)
 
--- the looks after the last round: one, where no write failed before
-abbrev pub LastLook : Limits → Seated → Bool → List (Option Seated) → Type 0
-LastLook limits seat false looks = (look : Option Seated) × (looks ≡ look ∷ []) × IfSome look (λ l. Looks limits seat l)
-LastLook limits seat true looks = looks ≡ []
+-- the looks of the seat after the last showing: one, where no write failed before
+abbrev pub LastLook : Start → Seated → Seated → Bool → List (Option Seated) → Type 0
+LastLook start old new false looks = (look : Option Seated) × (looks ≡ look ∷ []) × (unwrap_or look old ≡ new) × IfSome look (λ l. Looks start old l)
+LastLook start old new true looks = (looks ≡ []) × (new ≡ old)
 
--- ---- the whole run
+-- ---- a whole round
 
--- what a run leaves of its output: the texts of the reporter's looks and of one after them, and nothing else; or a
--- front of that, where a write failed
-pub record Leaves (limits : Limits) (every : ℕ) (before after : Option (List ℕ)) (has_failed : Bool) : Type 0 where
-  pub first : Seated
+-- what a round leaves of its output, whose reporter has one seat at first and another at last: the texts of its looks and of
+-- one after them, and nothing else; or a front of that, where a write failed
+pub record Leaves (start : Start) (every last_tick : ℕ) (first closing : Seated) (before after : Option (List ℕ)) (has_failed : Bool) : Type 0 where
   pub mid : Seated
   pub moments : List ℕ
-  pub rounds : List Round
-  pub keeps : KeepsTime limits every moments first rounds mid
+  pub showings : List Showing
+  pub keeps : KeepsTime start every last_tick moments first showings mid
   pub failed_before : Bool
   pub last : List (Option Seated)
-  pub looks : LastLook limits mid failed_before last
+  pub looks : LastLook start mid closing failed_before last
   pub between : Option (List ℕ)
   pub write_failed : Bool
-  pub takes : TakesTexts limits (looks_of rounds ++ last) before between write_failed
+  pub takes : TakesTexts start (looks_of showings ++ last) before between write_failed
   pub gives : GivesBack between after has_failed
   pub told : write_failed ≡ true → has_failed ≡ true
 
 -- what is told are the answers, one for each input in their order, and at last a failed write; the status is that of both
-pub record Ends (limits : Limits) (every inputs : ℕ) (before after : Option (List ℕ)) (err_old err_new : Told) (status : ℕ) : Type 0 where
+pub record Ends (start : Start) (every last_tick inputs : ℕ) (first closing : Seated) (before after : Option (List ℕ)) (err_old err_new : Told) (status : ℕ) : Type 0 where
   pub has_failed : Bool
-  pub output : Leaves limits every before after has_failed
+  pub output : Leaves start every last_tick first closing before after has_failed
   pub answers : List (Option (Result Tally PumpFault))
   pub many : length answers ≡ inputs
   pub told : Tells err_old err_new (flat_map answer_lines answers ++ output_lines has_failed)
@@ -88,6 +85,7 @@ IsEarly fault.ThreadNotStarted = ⊤
 IsEarly fault.Read = ⊥
 IsEarly fault.Write = ⊥
 IsEarly fault.TooManyReads = ⊥
+IsEarly fault.SeatLost = ⊥
 
 -- only such a fault is told
 pub record EndsEarly (err_old err_new : Told) (status : ℕ) : Type 0 where

@@ -2,24 +2,23 @@
 use Rattle.std.specs.Prelude.{◌≡◌, ℕ, ◌⊎◌, Bool, true, false, List, [], ◌∷◌, ◌++◌, Option, Some, None, Result, Ok}
 use Rattle.std.specs.Io.KnownBytes.{Appends}
 use Rattle.station_journal.specs.declared.Entry.{Entry}
-use Rattle.station_journal.specs.declared.Limits.{Limits}
 use Rattle.station_journal.specs.Log.{clock_of, table_of}
 use Rattle.station_report.specs.Sink.{TakesAll, counted}
 use Rattle.station_report.specs.Text.{text}
 use Rattle.station_report.specs.declared.sinks.WriteFault.{WriteFault}
-use Rattle.station_shared.specs.Seats.{Seated, Looks, log_of}
+use Rattle.station_shared.specs.Seats.{Seated, Start, Looks, log_of}
 use Rattle.station_main.specs.Output.{Printed}
 
 -- the text of the table that these entries give
-abbrev pub text_of : Limits → List Entry → List ℕ
-text_of limits seen = text (table_of (log_of limits seen)) (clock_of (log_of limits seen))
+abbrev pub text_of : Start → List Entry → List ℕ
+text_of start seen = text (table_of (log_of start seen)) (clock_of (log_of start seen))
 
 -- ---- one table
 
 -- the seat looks, and the table of all that it has then seen is written
-pub record Prints (limits : Limits) (old new : Seated) (before after : Printed) (result : Result (Unit {0}) WriteFault) : Type 0 where
-  pub looks : Looks limits old new
-  pub takes : TakesAll before.taken after.taken before.failures after.failures (text_of limits new.seen) result
+pub record Prints (start : Start) (old new : Seated) (before after : Printed) (result : Result (Unit {0}) WriteFault) : Type 0 where
+  pub looks : Looks start old new
+  pub takes : TakesAll before.taken after.taken before.failures after.failures (text_of start new.seen) result
 
 -- the look is refused, and nothing is written
 pub record PassesOver (old new : Seated) (before after : Printed) (result : Result (Unit {0}) WriteFault) : Type 0 where
@@ -27,35 +26,35 @@ pub record PassesOver (old new : Seated) (before after : Printed) (result : Resu
   pub same_sink : after ≡ before
   pub well : result ≡ Ok tt
 
-abbrev pub PrintsAtMost : Limits → Seated → Seated → Printed → Printed → Result (Unit {0}) WriteFault → Type 0
-PrintsAtMost limits old new before after result = Prints limits old new before after result ⊎ PassesOver old new before after result
+abbrev pub PrintsAtMost : Start → Seated → Seated → Printed → Printed → Result (Unit {0}) WriteFault → Type 0
+PrintsAtMost start old new before after result = Prints start old new before after result ⊎ PassesOver old new before after result
 
 -- ---- many tables
 
 -- a look that was let in has a text
-abbrev pub shown : Limits → Option Seated → List ℕ
-shown limits None = []
-shown limits (Some look) = text_of limits look.seen
+abbrev pub shown : Start → Option Seated → List ℕ
+shown start None = []
+shown start (Some look) = text_of start look.seen
 
 -- the texts of looks, one after another
-abbrev pub texts : Limits → List (Option Seated) → List ℕ
-texts limits [] = []
-texts limits (look ∷ looks) = shown limits look ++ texts limits looks
+abbrev pub texts : Start → List (Option Seated) → List ℕ
+texts start [] = []
+texts start (look ∷ looks) = shown start look ++ texts start looks
 
 -- the sink failed at the last look's text, and took a front of it, after the texts before it
-pub record FailsAtLast (limits : Limits) (looks : List (Option Seated)) (old new : Option (List ℕ)) : Type 0 where
+pub record FailsAtLast (start : Start) (looks : List (Option Seated)) (old new : Option (List ℕ)) : Type 0 where
   pub front : List (Option Seated)
   pub last : Seated
   pub taken : List ℕ
   pub rest : List ℕ
   pub parts : looks ≡ front ++ Some last ∷ []
-  pub cut : text_of limits last.seen ≡ taken ++ rest
-  pub grown : Appends old new (texts limits front ++ taken)
+  pub cut : text_of start last.seen ≡ taken ++ rest
+  pub grown : Appends old new (texts start front ++ taken)
 
 -- the sink took the texts of all looks and nothing else, or it failed at the last
-abbrev pub TakesTexts : Limits → List (Option Seated) → Option (List ℕ) → Option (List ℕ) → Bool → Type 0
-TakesTexts limits looks old new false = Appends old new (texts limits looks)
-TakesTexts limits looks old new true = FailsAtLast limits looks old new
+abbrev pub TakesTexts : Start → List (Option Seated) → Option (List ℕ) → Option (List ℕ) → Bool → Type 0
+TakesTexts start looks old new false = Appends old new (texts start looks)
+TakesTexts start looks old new true = FailsAtLast start looks old new
 
 -- a failed write is told exactly where the sink failed
 abbrev pub failures_after : Bool → ℕ → ℕ

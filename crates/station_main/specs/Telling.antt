@@ -33,6 +33,7 @@ fault_words fault.TooManyReads = codes "too many reads"
 fault_words fault.NoMemory = codes "no memory"
 fault_words (fault.CannotOpen path) = codes "cannot open " ++ path.now
 fault_words fault.ThreadNotStarted = codes "thread not started"
+fault_words fault.SeatLost = codes "seat lost"
 
 abbrev pub fault_line : Fault → List ℕ
 fault_line fault = codes "groundstation: " ++ fault_words fault ++ 10 ∷ []

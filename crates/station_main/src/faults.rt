@@ -17,6 +17,8 @@ pub enum Fault<'a> {
     /// The path, as it was given.
     CannotOpen(&'a str),
     ThreadNotStarted,
+    /// Between two rounds a station got back other seats than it had given.
+    SeatLost,
 }
 
 impl Display for Fault<'_> {
@@ -33,6 +35,7 @@ impl Display for Fault<'_> {
             Fault::NoMemory => f.write_str("no memory"),
             Fault::CannotOpen(path) => write!(f, "cannot open {path}"),
             Fault::ThreadNotStarted => f.write_str("thread not started"),
+            Fault::SeatLost => f.write_str("seat lost"),
         }
     }
 }

@@ -2,16 +2,20 @@
 #![tactic(auto)]
 
 mod faults;
+mod kept;
 mod limits;
 mod output;
 mod program;
 mod replay_job;
 mod reporter;
+mod round;
 mod run_job;
 mod schedule;
 mod standard_error;
+mod tallies;
 #[cfg(test)]
 mod tests;
+mod threads;
 mod words;
 
 use faults::{Fault, tell};

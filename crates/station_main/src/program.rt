@@ -9,7 +9,7 @@ ghost use Rattle.std.specs.Prelude.{◌≡◌, ◌≢◌, ◌≤◌, map, option
 use crate::faults::{Fault, tell};
 use crate::output::Ran;
 use crate::replay_job::replay_input;
-use crate::run_job::run_paths;
+use crate::run_job::{Asked, run_paths};
 use crate::standard_error::StandardError;
 use crate::words::{Job, WordsFault, read_words};
 use std::alloc::Global;
@@ -53,7 +53,18 @@ fn do_job<
 {
     match job {
         Job::Replay => replay_input(rt, alloc, input, out, err),
-        Job::Run { every, paths } => run_paths(rt, alloc, every, &paths, out, err),
+        Job::Run {
+            every,
+            rounds,
+            paths,
+        } => {
+            let asked = Asked {
+                every,
+                rounds,
+                paths: &paths,
+            };
+            run_paths(rt, alloc, asked, out, err)
+        }
     }
 }
 

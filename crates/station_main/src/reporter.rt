@@ -6,7 +6,7 @@ ghost use Rattle.station_main.specs.Reporter.{Reports, ReportsByAClock};
 ghost use Rattle.station_main.specs.Tables.{PrintsAtMost, text_of};
 ghost use Rattle.station_report.specs.Sink.{TakesAll, counted};
 
-use crate::schedule::{Act, Moments, Since, act_at};
+use crate::schedule::{Act, Moments, Pace, Since, act_at};
 use station_report::{Sink, WriteFault, table};
 use station_shared::{Look, Seat, Station, Total};
 use std::snapshot::Snapshot;
@@ -28,7 +28,7 @@ pub struct Reported<S, O> {
 /// What a reporter is given. Its promise is that it reports from there.
 #[derive(Drop)]
 pub struct Given<S, O> {
-    pub every: u32,
+    pub pace: Pace,
     pub seat: Snapshot<S>,
     pub out: Snapshot<O>,
 }
@@ -37,35 +37,27 @@ impl<const N: usize, L: Total, S: Sink> Promise<Reported<Seat<N, L>, S>> for Giv
     ghost use Rattle.station_main.specs.Output.{sink_of};
     ghost use Rattle.station_main.specs.Reporter.{ReportsByAClock};
 
-    ghost kept_by = { λ given reported. ReportsByAClock L.limits given.every given.seat.value reported.seat
+    ghost kept_by = { λ given reported. ReportsByAClock L.start given.pace.every given.pace.last given.seat.value reported.seat
         (sink_of S.taken S.failures given.out.value) (sink_of S.taken S.failures reported.out) reported.has_failed };
 }
 
-/// Ticks and prints the table each time that `every` milliseconds more have passed, until all receivers have ended or
-/// a write failed. Moments are milliseconds since the start of this call. The seat comes back, and the sink has taken
-/// the tables of its looks and nothing else.
+/// Ticks and prints the table each time that the pace's milliseconds more have passed, until all receivers have ended or
+/// a write failed. Moments are milliseconds since the start. The seat comes back, and the sink has taken the tables of
+/// its looks and nothing else.
 pub fn report<const N: usize, L: Total, R: Wait + Clock, S: Sink>(
     rt: &R,
     station: &Station<N, L>,
     have_ended: &AtomicBool,
-    every: u32,
+    start: Option<Instant>,
+    pace: Pace,
     seat: Seat<N, L>,
     out: S,
 ) -> Reported<Seat<N, L>, S>
-    ensures { ReportsByAClock L.limits every seat result.seat (sink_of S.taken S.failures out)
+    ensures { ReportsByAClock L.start pace.every pace.last seat result.seat (sink_of S.taken S.failures out)
         (sink_of S.taken S.failures result.out) result.has_failed }
 {
-    match Instant::now(rt) {
-        Ok(start) => {
-            let mut moments = Since { rt, start };
-            report_at(rt, station, have_ended, every, seat, out, &mut moments)
-        }
-        Err(_) => Reported {
-            seat,
-            out,
-            has_failed: false,
-        },
-    }
+    let mut moments = Since { rt, start };
+    report_at(rt, station, have_ended, pace, seat, out, &mut moments)
 }
 
 // The same at the moments of any clock: a table at each of them that is due, and at no other.
@@ -73,22 +65,22 @@ fn report_at<const N: usize, L: Total, R: Wait + Clock, S: Sink, M: Moments>(
     rt: &R,
     station: &Station<N, L>,
     have_ended: &AtomicBool,
-    every: u32,
+    pace: Pace,
     mut seat: Seat<N, L>,
     mut out: S,
     moments: &mut M,
 ) -> Reported<Seat<N, L>, S>
     ensures { (given : List ℕ) × Appends (M.given moments.old) (M.given moments.new) given
-        × Reports L.limits every given seat result.seat (sink_of S.taken S.failures out)
+        × Reports L.start pace.every pace.last given seat result.seat (sink_of S.taken S.failures out)
         (sink_of S.taken S.failures result.out) result.has_failed }
 {
     let mut has_failed = false;
-    let mut due = u64::from(every);
+    let mut due = pace.first_due();
     for _ in rt.forever() {
         if has_failed || have_ended.load(Ordering::SeqCst) {
             break;
         }
-        match act_at(moments.now(), due, every) {
+        match act_at(moments.now(), due, pace.every) {
             Act::Sleep(pause) => thread::sleep(rt, pause),
             Act::Print { at, next_due } => {
                 let _ = station.tick(rt, &mut seat, at);
@@ -111,7 +103,7 @@ pub fn print_table<const N: usize, L: Total, S: Sink>(
     seat: Seat<N, L>,
     out: &mut S,
 ) -> (Seat<N, L>, Result<(), WriteFault>)
-    ensures { PrintsAtMost L.limits seat result.0 (sink_of S.taken S.failures out.old)
+    ensures { PrintsAtMost L.start seat result.0 (sink_of S.taken S.failures out.old)
         (sink_of S.taken S.failures out.new) result.1 }
 {
     match seat.look() {
@@ -128,7 +120,7 @@ fn write_table<const N: usize, L: Total, S: Sink>(
 ) -> (Seat<N, L>, Result<(), WriteFault>)
     ensures seat { result.0 ≡ look }
     ensures takes { TakesAll (S.taken out.old) (S.taken out.new) (S.failures out.old) (S.failures out.new)
-        (text_of L.limits look.seen) result.1 }
+        (text_of L.start look.seen) result.1 }
 {
     let written = table(&look, look.now(), out);
     let seat = look.done();

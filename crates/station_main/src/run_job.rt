@@ -1,97 +1,171 @@
-// The job `run`.
-ghost use Rattle.std.specs.Prelude.{◌≡◌, ◌+◌, ◌≤◌, ◌⊎◌, ◌++◌, All, IfErr, IfOk, IfSome, None, fold, is_some, length, max, true};
+// The job `run`: its rounds, one after another.
+ghost use Rattle.std.specs.Prelude.{◌≡◌, ◌+◌, ◌-◌, ◌≤◌, ◌⊎◌, IfErr, IfOk, length, option_map, reverse};
+ghost use Rattle.station_journal.specs.Resume.{IsSound};
+ghost use Rattle.station_shared.specs.History.{base_of};
 ghost use Rattle.station_main.specs.Limits.{program_limits};
-ghost use Rattle.station_main.specs.Output.{buffered_of, sink_of};
-ghost use Rattle.station_main.specs.Reporter.{ReportsByAClock};
-ghost use Rattle.station_main.specs.Run.{Ends, EndsEarly, HaveWorked, IsEarly, PrintsLast};
-ghost use Rattle.station_main.specs.Status.{answer_status, fault_status, status_of};
-ghost use Rattle.station_main.specs.Telling.{Tells, answer_lines, output_lines, pump_lines, told_of};
-ghost use Rattle.std.specs.List.{flat_map};
+ghost use Rattle.station_main.specs.Output.{buffered_of};
+ghost use Rattle.station_main.specs.Rounds.{EndsRound, IsLast, Runs, given_of, nothing};
+ghost use Rattle.station_main.specs.Run.{IsEarly};
+ghost use Rattle.station_main.specs.Telling.{told_of};
 
-use crate::faults::{Fault, tell, tell_after, write_tally};
-use crate::limits::{AIRCRAFT, LIMITS, TABLE_ROOM, TURNS};
-use crate::output::{Ran, Written, give_up, unbuffered, without_output};
-use crate::reporter::{Given, Reported, print_table, report};
+use crate::faults::Fault;
+use crate::kept::Kept;
+use crate::limits::{AIRCRAFT, TABLE_ROOM};
+use crate::output::{Ran, without_output};
+use crate::round::{Plan, Round, run_last, run_round};
 use crate::standard_error::StandardError;
-use station_journal::NoMemory;
-use station_report::{Sink, ToWrite};
-use station_shared::{
-    FromRead, Places, PumpFault, Seat, Station, Tally, Total, Worker, run_receivers,
-};
+use crate::threads::Input;
+use station_report::ToWrite;
+use station_shared::{FromRead, Places};
 use std::alloc::Global;
 use std::fs::File;
 use std::io::{BufReader, BufWriter, ErrorKind, Write};
 use std::marker::Brand;
 use std::rt::Files;
-use std::snapshot::Snapshot;
 use std::sync::Wait;
-use std::sync::atomic::{AtomicBool, Ordering};
 use std::sync::ledger::Blank;
-use std::thread;
 use std::thread::Threads;
-use std::time::Clock;
+use std::time::{Clock, Instant};
 
-type Input = FromRead<BufReader<File>>;
-
-type Output<O> = ToWrite<BufWriter<O>>;
-
-type Receiver<L> = Worker<AIRCRAFT, Input, L>;
-
-type Ended<L, O> = Reported<Seat<AIRCRAFT, L>, Output<O>>;
-
-// What a run needs beside its station.
-#[derive(Drop)]
-struct Plan<O: Write + Drop> {
-    /// Milliseconds from one table to the next.
-    every: u32,
-    /// A seat for each input and one for the reporter.
-    seats: u8,
-    inputs: Vec<Input>,
-    out: Output<O>,
+/// What is asked of a run.
+#[derive(Clone, Copy)]
+pub struct Asked<'a> {
+    /// Milliseconds from one table to the next, 1 to 3,600,000.
+    pub every: u32,
+    /// 1 to 1,000.
+    pub rounds: u16,
+    /// 1 to 8.
+    pub paths: &'a Vec<String>,
 }
 
-/// Reads each path by a receiver of its own, and prints the table of them all each time that `every` milliseconds more
-/// have passed, and once more when all have ended. Then it tells what each receiver counted, with a fault directly
-/// after it, and at last a fault of writing. Hands the output back, after all that was read.
+/// Runs so many rounds, each of which reads each path by a receiver of its own, prints the table of them all each time
+/// that `every` milliseconds more have passed, and once more when all have ended, and then tells what each receiver
+/// counted, with a fault directly after it, and at last a fault of writing. Each round goes on from the last 70,000 ms of
+/// the one before. A fault ends the run after its round. Hands the output back, unless nothing was read in the last round.
 pub fn run_paths<
+    R: Threads + Wait + Clock + Files<File = File> + Sync,
+    O: Write + Send + Drop,
+    E: Write,
+>(rt: &R, alloc: Global, asked: Asked<'_>, out: O, err: &mut StandardError<E>) -> Ran<O>
+    requires rounds { 1 ≤ asked.rounds }
+    requires paths { length asked.paths.now.items ≤ 8 }
+    ensures most { result.status ≤ 1 }
+    ensures runs { Runs (record { every = asked.entry.every; inputs = length asked.entry.paths.now.items })
+        (asked.entry.rounds - 1) nothing (O.contents out) (option_map (λ left. O.contents left) result.out)
+        (told_of E.contents err.old) (told_of E.contents err.new) result.status }
+{
+    let start = Instant::now(rt).ok();
+    let mut kept = Kept::nothing(alloc);
+    let mut out = out;
+    let mut more = asked.rounds - 1;
+    while more > 0 {
+        match one_round(rt, alloc, asked, start, kept, out, err) {
+            Round::Over(ran) => return ran,
+            Round::GoesOn {
+                out: left,
+                kept: recent,
+            } => {
+                out = left;
+                kept = recent;
+            }
+        }
+        more -= 1;
+    }
+    last_round(rt, alloc, asked, start, kept, out, err)
+}
+
+// A round that others follow.
+fn one_round<
     R: Threads + Wait + Clock + Files<File = File> + Sync,
     O: Write + Send + Drop,
     E: Write,
 >(
     rt: &R,
     alloc: Global,
-    every: u32,
-    paths: &Vec<String>,
+    asked: Asked<'_>,
+    start: Option<Instant>,
+    kept: Kept,
+    out: O,
+    err: &mut StandardError<E>,
+) -> Round<O>
+    requires few { length asked.paths.now.items ≤ 8 }
+    requires sound { IsSound program_limits kept.recent.base (reverse kept.recent.entries.items) }
+    ensures { EndsRound O.contents (record { every = asked.entry.every; inputs = length asked.entry.paths.now.items })
+        (given_of kept) (O.contents out) (told_of E.contents err.old) (told_of E.contents err.new) result }
+{
+    match prepare(rt, alloc, asked, start, kept, out) {
+        Ok((plan, places)) => {
+            let blank = Blank::new(plan.inputs.len() as u64 + 1);
+            run_round::<Brand, _, _, _>(rt, alloc, plan, blank, places, err)
+        }
+        Err(fault) => Round::Over(without_output(err, fault)),
+    }
+}
+
+// The round that no other follows.
+fn last_round<
+    R: Threads + Wait + Clock + Files<File = File> + Sync,
+    O: Write + Send + Drop,
+    E: Write,
+>(
+    rt: &R,
+    alloc: Global,
+    asked: Asked<'_>,
+    start: Option<Instant>,
+    kept: Kept,
     out: O,
     err: &mut StandardError<E>,
 ) -> Ran<O>
-    requires { length paths.now.items ≤ 8 }
+    requires few { length asked.paths.now.items ≤ 8 }
+    requires sound { IsSound program_limits kept.recent.base (reverse kept.recent.entries.items) }
     ensures most { result.status ≤ 1 }
-    ensures gone { result.out ≡ None →
-        EndsEarly (told_of E.contents err.old) (told_of E.contents err.new) result.status }
-    ensures ended { IfSome result.out (λ left. Ends program_limits every
-        (length paths.now.items) (O.contents out) (O.contents left)
-        (told_of E.contents err.old) (told_of E.contents err.new) result.status) }
+    ensures last { IsLast (record { every = asked.entry.every; inputs = length asked.entry.paths.now.items })
+        (given_of kept) (O.contents out) (option_map (λ left. O.contents left) result.out)
+        (told_of E.contents err.old) (told_of E.contents err.new) result.status }
 {
-    let inputs = match open_all(rt, alloc, paths) {
-        Ok(inputs) => inputs,
-        Err(fault) => return without_output(err, fault),
-    };
+    match prepare(rt, alloc, asked, start, kept, out) {
+        Ok((plan, places)) => {
+            let blank = Blank::new(plan.inputs.len() as u64 + 1);
+            run_last::<Brand, _, _, _>(rt, alloc, plan, blank, places, err)
+        }
+        Err(fault) => without_output(err, fault),
+    }
+}
+
+// All that a round wants before its station: its inputs, a buffer for its output, and places for its seats.
+fn prepare<'a, R: Wait + Files<File = File>, O: Write + Drop>(
+    rt: &R,
+    alloc: Global,
+    asked: Asked<'a>,
+    start: Option<Instant>,
+    kept: Kept,
+    out: O,
+) -> Result<(Plan<O>, Places<AIRCRAFT>), Fault<'a>>
+    requires { length asked.paths.now.items ≤ 8 }
+    ensures early { IfErr result IsEarly }
+    ensures every { IfOk result (λ made. made.0.every ≡ asked.entry.every) }
+    ensures kept { IfOk result (λ made. made.0.kept ≡ kept) }
+    ensures inputs { IfOk result (λ made. length made.0.inputs.items ≡ length asked.entry.paths.now.items) }
+    ensures out { IfOk result (λ made. buffered_of O.contents made.0.out
+        ≡ record { taken = O.contents out; failures = 0 }) }
+    ensures places { IfOk result (λ made. made.1.places ≡ length asked.entry.paths.now.items + 1) }
+    ensures base { IfOk result (λ made. base_of made.1.history ≡ kept.recent.base) }
+{
+    let inputs = open_all(rt, alloc, asked.paths)?;
     let Ok(buffered) = BufWriter::with_capacity(alloc, TABLE_ROOM, out) else {
-        return without_output(err, Fault::NoMemory);
+        return Err(Fault::NoMemory);
     };
-    let seats = paths.len() as u8 + 1;
-    let Ok(places) = Places::new(rt, alloc, seats) else {
-        return without_output(err, Fault::NoMemory);
+    let Ok(places) = Places::new(rt, alloc, kept.recent.base, asked.paths.len() as u8 + 1) else {
+        return Err(Fault::NoMemory);
     };
     let plan = Plan {
-        every,
-        seats,
+        start,
+        every: asked.every,
+        kept,
         inputs,
         out: ToWrite::new(buffered),
     };
-    let blank = Blank::new(u64::from(seats));
-    run_station::<Brand, _, _, _>(rt, alloc, plan, blank, places, err)
+    Ok((plan, places))
 }
 
 // Opens the paths in order, up to the first that can't be.
@@ -122,224 +196,5 @@ fn open<'a, R: Files<File = File>>(rt: &R, alloc: Global, path: &'a str) -> Resu
         Ok(buffered) => Ok(FromRead::new(buffered)),
         Err(error) if error.kind() == ErrorKind::OutOfMemory => Err(Fault::NoMemory),
         Err(_) => Err(Fault::CannotOpen(path)),
-    }
-}
-
-// The work of one station, from its making to what is told of it.
-fn run_station<
-    L: Total + Send + Sync,
-    R: Threads + Wait + Clock + Sync,
-    O: Write + Send + Drop,
-    E: Write,
->(
-    rt: &R,
-    alloc: Global,
-    plan: Plan<O>,
-    blank: Blank,
-    places: Places<AIRCRAFT>,
-    err: &mut StandardError<E>,
-) -> Ran<O>
-    requires few { plan.seats ≤ 9 }
-    requires inputs { plan.seats ≡ length plan.inputs.items + 1 }
-    requires ledger { (blank.name ≡ L.name) × (blank.parts ≡ L.parts) }
-    requires seats { (L.parts ≡ plan.seats) × (L.seats ≡ plan.seats) × (places.places ≡ plan.seats) }
-    requires history { places.history ≡ L.history }
-    requires limits { L.limits ≡ program_limits }
-    ensures most { result.status ≤ 1 }
-    ensures gone { result.out ≡ None →
-        EndsEarly (told_of E.contents err.old) (told_of E.contents err.new) result.status }
-    ensures ended { IfSome result.out (λ out. Ends L.limits plan.every (length plan.inputs.items)
-        (buffered_of O.contents plan.out).taken (O.contents out)
-        (told_of E.contents err.old) (told_of E.contents err.new) result.status) }
-{
-    match Station::<AIRCRAFT, L>::new(rt, alloc, LIMITS, plan.seats, blank, places) {
-        Ok((station, seats)) => {
-            let ran = run_seats(rt, alloc, &station, seats, plan, err);
-            station.end(rt);
-            ran
-        }
-        Err(_) => without_output(err, Fault::NoMemory),
-    }
-}
-
-// The work of a station's seats, of which the last is the reporter's.
-fn run_seats<
-    L: Total + Send + Sync,
-    R: Threads + Wait + Clock + Sync,
-    O: Write + Send + Drop,
-    E: Write,
->(
-    rt: &R,
-    alloc: Global,
-    station: &Station<AIRCRAFT, L>,
-    mut seats: Vec<Seat<AIRCRAFT, L>>,
-    plan: Plan<O>,
-    err: &mut StandardError<E>,
-) -> Ran<O>
-    requires { length seats.items ≡ length plan.inputs.items + 1 }
-    ensures most { result.status ≤ 1 }
-    ensures gone { result.out ≡ None →
-        EndsEarly (told_of E.contents err.old) (told_of E.contents err.new) result.status }
-    ensures ended { IfSome result.out (λ out. Ends L.limits plan.every (length plan.inputs.items)
-        (buffered_of O.contents plan.out).taken (O.contents out)
-        (told_of E.contents err.old) (told_of E.contents err.new) result.status) }
-{
-    let Plan {
-        every,
-        seats: _,
-        inputs,
-        out,
-    } = plan;
-    let (Some(seat), Ok(receivers)) = (seats.pop(), receivers(alloc, seats, inputs)) else {
-        return without_output(err, Fault::NoMemory);
-    };
-    match run_threads(rt, station, every, receivers, seat, out) {
-        Some((receivers, reported)) => {
-            let Written { out, has_failed } = print_last(reported);
-            Ran {
-                status: tell_end(err, &receivers, has_failed),
-                out: Some(out),
-            }
-        }
-        None => without_output(err, Fault::ThreadNotStarted),
-    }
-}
-
-// A receiver of each input, with a seat of its own.
-fn receivers<L: Total>(
-    alloc: Global,
-    seats: Vec<Seat<AIRCRAFT, L>>,
-    inputs: Vec<Input>,
-) -> Result<Vec<Receiver<L>>, NoMemory>
-    requires { length seats.items ≡ length inputs.items }
-    ensures { IfOk result (λ made. length made.items ≡ length inputs.items) }
-{
-    let mut receivers = Vec::new(alloc);
-    for (seat, source) in seats.into_iter().zip(inputs) {
-        receivers.push(Worker {
-            seat,
-            source,
-            answer: None,
-        })?;
-    }
-    Ok(receivers)
-}
-
-// The receivers and the reporter, each in a thread of its own, to their ends. `None` where the reporter's thread can't
-// be started: then nothing is read.
-fn run_threads<L: Total + Send + Sync, R: Threads + Wait + Clock + Sync, S: Sink + Send + Drop>(
-    rt: &R,
-    station: &Station<AIRCRAFT, L>,
-    every: u32,
-    mut receivers: Vec<Receiver<L>>,
-    seat: Seat<AIRCRAFT, L>,
-    out: S,
-) -> Option<(Vec<Receiver<L>>, Reported<Seat<AIRCRAFT, L>, S>)>
-    ensures answered { IfSome result (λ ended. All (λ r. is_some r.answer ≡ true) ended.0.items) }
-    ensures receivers { IfSome result (λ ended. HaveWorked L.limits (λ r. r.seat) (λ r. r.source) (λ r. r.answer)
-        receivers.items ended.0.items) }
-    ensures reporter { IfSome result (λ ended. ReportsByAClock L.limits every seat ended.1.seat
-        (sink_of S.taken S.failures out) (sink_of S.taken S.failures ended.1.out) ended.1.has_failed) }
-{
-    let have_ended = AtomicBool::new(false);
-    let flag = &have_ended;
-    thread::scope(
-        thread::scope_env(),
-        rt,
-        move |scope| -> Option<(Vec<Receiver<L>>, Reported<Seat<AIRCRAFT, L>, S>)>
-            ensures answered { IfSome result (λ ended. All (λ r. is_some r.answer ≡ true) ended.0.items) }
-            ensures receivers { IfSome result (λ ended. HaveWorked L.limits (λ r. r.seat) (λ r. r.source) (λ r. r.answer)
-                receivers.items ended.0.items) }
-            ensures reporter { IfSome result (λ ended. ReportsByAClock L.limits every seat ended.1.seat
-                (sink_of S.taken S.failures out) (sink_of S.taken S.failures ended.1.out) ended.1.has_failed) }
-        {
-            let given = Given {
-                every,
-                seat: Snapshot::of(&seat),
-                out: Snapshot::of(&out),
-            };
-            match scope.spawn_with(given, move || report(rt, station, flag, every, seat, out)) {
-                Ok(reporter) => {
-                    run_receivers(rt, station, receivers.as_mut_slice(), TURNS);
-                    flag.store(true, Ordering::SeqCst);
-                    Some((receivers, reporter.join(rt)))
-                }
-                Err(_) => None,
-            }
-        },
-    )
-}
-
-// Prints the last table, unless a write failed, and takes the output out of its buffer.
-fn print_last<L: Total, O: Write + Drop>(reported: Ended<L, O>) -> Written<O>
-    ensures { PrintsLast L.limits reported.seat (buffered_of O.contents reported.out) reported.has_failed
-        (O.contents result.out) result.has_failed }
-{
-    let Reported {
-        seat,
-        mut out,
-        has_failed,
-    } = reported;
-    if has_failed {
-        return give_up(out.into_inner());
-    }
-    let (_seat, written) = print_table(seat, &mut out);
-    match written {
-        Ok(()) => unbuffered(out.into_inner()),
-        Err(_) => give_up(out.into_inner()),
-    }
-}
-
-// Tells what each receiver counted, with a fault directly after it, and at last a fault of writing. Answers the status.
-fn tell_end<L: Total, E: Write>(
-    err: &mut StandardError<E>,
-    receivers: &Vec<Receiver<L>>,
-    has_failed: bool,
-) -> u8
-    requires answered { All (λ r. is_some r.answer ≡ true) receivers.now.items }
-    ensures value { result ≡ max (fold (λ status r. max status (answer_status r.answer)) 0 receivers.now.items)
-        (fault_status has_failed) }
-    ensures most { result ≤ 1 }
-    ensures told { Tells (told_of E.contents err.old) (told_of E.contents err.new)
-        (flat_map (λ r. answer_lines r.answer) receivers.now.items ++ output_lines has_failed) }
-{
-    let status = tell_answers(err, receivers);
-    if has_failed {
-        return tell(err, Fault::Write);
-    }
-    status
-}
-
-// Tells what each receiver counted, and a fault directly after it. Answers the status.
-fn tell_answers<L: Total, E: Write>(err: &mut StandardError<E>, receivers: &Vec<Receiver<L>>) -> u8
-    requires answered { All (λ r. is_some r.answer ≡ true) receivers.now.items }
-    ensures value { result ≡ fold (λ status r. max status (answer_status r.answer)) 0 receivers.now.items }
-    ensures most { result ≤ 1 }
-    ensures told { Tells (told_of E.contents err.old) (told_of E.contents err.new)
-        (flat_map (λ r. answer_lines r.answer) receivers.now.items) }
-{
-    let mut status = 0;
-    for receiver in receivers {
-        let Some(answer) = &receiver.answer else {
-            unreachable!()
-        };
-        status = status.max(tell_answer(err, answer));
-    }
-    status
-}
-
-fn tell_answer<E: Write>(err: &mut StandardError<E>, answer: &Result<Tally, PumpFault>) -> u8
-    ensures value { result ≡ status_of answer.now }
-    ensures most { result ≤ 1 }
-    ensures told { Tells (told_of E.contents err.old) (told_of E.contents err.new) (pump_lines answer.now) }
-{
-    match answer {
-        Ok(tally) => {
-            write_tally(err, tally);
-            0
-        }
-        Err(PumpFault::Read(tally)) => tell_after(err, tally, Fault::Read),
-        Err(PumpFault::TooManyTurns(tally)) => tell_after(err, tally, Fault::TooManyReads),
-        Err(PumpFault::NoMemory(tally)) => tell_after(err, tally, Fault::NoMemory),
     }
 }

@@ -1,10 +1,28 @@
-// When the reporter acts. Moments are milliseconds since its start.
+// When the reporter acts. Moments are milliseconds since the start of the program.
 ghost use Rattle.std.specs.Prelude.{◌≡◌, ◌-◌, ◌^◌, ◌/◌, ℕ, List, [], ◌∷◌, Option, None, min};
 ghost use Rattle.std.specs.Duration.{as_nanos};
 ghost use Rattle.std.specs.Io.KnownBytes.{Appends};
-ghost use Rattle.station_main.specs.Reporter.{IsActAt};
+ghost use Rattle.station_main.specs.Reporter.{IsActAt, next_moment};
 
 use std::time::{Clock, Duration, Instant};
+
+/// The pace of a reporter, in milliseconds.
+#[derive(Clone, Copy, Debug, PartialEq, Eq)]
+pub struct Pace {
+    /// From one table to the next.
+    pub every: u32,
+    /// The moment of the last tick before, from which the first table is due so much later.
+    pub last: u64,
+}
+
+impl Pace {
+    /// When the first table is due, up to 2^64 - 1.
+    pub fn first_due(self) -> u64
+        ensures { result ≡ next_moment self.every self.last }
+    {
+        self.last.saturating_add(u64::from(self.every))
+    }
+}
 
 // The longest sleep, in milliseconds.
 const LONGEST_SLEEP: u64 = 50;
@@ -47,11 +65,11 @@ pub trait Moments {
         ensures { Appends (given self.old) (given self.new) (result ∷ []) };
 }
 
-/// The moments since a start.
+/// The moments since a start, or none but 0 where the clock couldn't be read then.
 #[derive(Drop)]
 pub struct Since<'a, R> {
     pub rt: &'a R,
-    pub start: Instant,
+    pub start: Option<Instant>,
 }
 
 impl<R: Clock> Moments for Since<'_, R> {
@@ -59,9 +77,9 @@ impl<R: Clock> Moments for Since<'_, R> {
 
     // A clock that can't be read counts as one that stands at the start.
     fn now(&mut self) -> u64 {
-        match self.start.elapsed(self.rt) {
-            Ok(passed) => milliseconds(passed),
-            Err(_) => 0,
+        match self.start.map(|start| start.elapsed(self.rt)) {
+            Some(Ok(passed)) => milliseconds(passed),
+            _ => 0,
         }
     }
 }

@@ -4,6 +4,7 @@ mod staged;
 mod through_time;
 
 use crate::program::program;
+use crate::words::{Job, WordsFault, read_words};
 use std::alloc::Global;
 use std::fs::File;
 use std::io::{self, Read, Write};
@@ -218,6 +219,77 @@ fn words_are_refused(rt: HostRuntime) {
     );
 }
 
+// The rounds that the words of a run ask for, or what `clap` answers.
+fn rounds_of(alloc: Global, words: &[&str]) -> Result<u16, WordsFault> {
+    match read_words(alloc, words)? {
+        Job::Run { rounds, .. } => Ok(rounds),
+        Job::Replay => Ok(0),
+    }
+}
+
+#[test]
+fn rounds_are_1_where_they_are_not_given(rt: HostRuntime) -> Result<(), WordsFault> {
+    let none = ["groundstation", "run", "--every", "5", "x"];
+    assert_eq!(rt; rounds_of(rt.alloc(), none.as_slice())?, 1);
+    let most = [
+        "groundstation",
+        "run",
+        "--every",
+        "5",
+        "--rounds",
+        "1000",
+        "x",
+    ];
+    assert_eq!(rt; rounds_of(rt.alloc(), most.as_slice())?, 1_000);
+    let least = ["groundstation", "run", "x", "--rounds=1", "--every=5"];
+    assert_eq!(rt; rounds_of(rt.alloc(), least.as_slice())?, 1);
+    Ok(())
+}
+
+// Runs over an absent path in so many rounds.
+fn run_rounds<R: Threads + Wait + Clock + Files<File = File> + Sync + AllocGlobal + Abort>(
+    rt: &R,
+    rounds: &str,
+) -> Ran {
+    let nothing: &[u8] = b"";
+    run_words(
+        rt,
+        [
+            "groundstation",
+            "run",
+            "--every",
+            "5",
+            "--rounds",
+            rounds,
+            "x",
+        ]
+        .as_slice(),
+        nothing,
+    )
+}
+
+#[test]
+fn other_rounds_than_1_to_1000_are_refused(rt: HostRuntime) {
+    let none = run_rounds(&rt, "0");
+    assert!(rt; none.status == 2 && none.out.is_empty());
+    assert_eq!(rt;
+        text(&none.err),
+        "error: invalid value '0' for '--rounds <R>': 0 is not in 1..=1000\n\nFor more information, try '--help'.\n"
+    );
+    let many = run_rounds(&rt, "1001");
+    assert!(rt; many.status == 2 && many.out.is_empty());
+    assert_eq!(rt;
+        text(&many.err),
+        "error: invalid value '1001' for '--rounds <R>': 1001 is not in 1..=1000\n\nFor more information, try '--help'.\n"
+    );
+    let word = run_rounds(&rt, "x");
+    assert!(rt; word.status == 2 && word.out.is_empty());
+    assert_eq!(rt;
+        text(&word.err),
+        "error: invalid value 'x' for '--rounds <R>': invalid digit found in string\n\nFor more information, try '--help'.\n"
+    );
+}
+
 // The lines for which help is asked fit a terminal of 80 columns.
 fn is_narrow(text: &str) -> bool {
     for line in text.split('\n') {
@@ -253,11 +325,12 @@ fn help_is_written_to_standard_output(rt: HostRuntime) {
 
 const RUN_HELP: &str = concat!(
     "Reads 1 to 8 paths side by side, and writes one table every MS\n\n",
-    "Usage: groundstation run --every <MS> <PATH>...\n\n",
+    "Usage: groundstation run [OPTIONS] --every <MS> <PATH>...\n\n",
     "Arguments:\n",
     "  <PATH>...  1 to 8 files or named pipes, each read by a receiver of its own\n\n",
     "Options:\n",
     "      --every <MS>  Milliseconds from one table to the next, 1 to 3600000\n",
+    "      --rounds <R>  How many times to read the paths, 1 to 1000 [default: 1]\n",
     "  -h, --help        Print help\n\n",
     "Lines of a path, one of each kind:\n",
 );

@@ -1,6 +1,6 @@
 // The words of the command line.
 ghost use Rattle.clap.specs.Words.{found_of, rows_of, takes};
-ghost use Rattle.station_main.specs.Command.{GivesJob, IsArg, IsGiven, IsInRange, IsMade, NamesJob, every, path, replay, run, station};
+ghost use Rattle.station_main.specs.Command.{GivesJob, IsArg, IsGiven, IsInRange, IsMade, NamesJob, every, path, replay, rounds, run, station};
 ghost use Rattle.station_main.specs.declared.words.WordsFault.TheVariants.{NoMemory};
 ghost use Rattle.std.specs.Prelude.{◌≡◌, IfErr, IfOk, map, true};
 ghost use Rattle.std.specs.String.{string_bytes};
@@ -15,8 +15,12 @@ pub enum Job {
     /// Read standard input, and write the tables that its lines ask for.
     Replay,
     /// Read 1 to 8 paths, each by a receiver of its own, and write a table each `every` milliseconds (1 to
-    /// 3,600,000).
-    Run { every: u32, paths: Vec<String> },
+    /// 3,600,000), in `rounds` rounds (1 to 1,000).
+    Run {
+        every: u32,
+        rounds: u16,
+        paths: Vec<String>,
+    },
 }
 
 /// Why there is no job.
@@ -99,7 +103,7 @@ const AFTER_RUN_HELP: &str = concat!(
 );
 
 /// Reads the words of a command line, of which the first is the program's name: the subcommand, and for `run` the
-/// values of `--every` and PATH, as `clap` reads them. Words that the command line takes are refused for want of
+/// values of `--every`, `--rounds` and PATH, as `clap` reads them. Words that the command line takes are refused for want of
 /// memory alone.
 pub fn read_words<'a>(alloc: Global, words: &'a [&'a str]) -> Result<Job, WordsFault>
     ensures job { IfOk result (NamesJob (map (λ w. w.now) words.entry.now)) }
@@ -124,11 +128,18 @@ fn read_run(alloc: Global, given: &ArgMatches<'_>) -> Result<Job, AllocError>
     let Some(every) = given.get_one::<u32>("every") else {
         unreachable!()
     };
+    let Some(rounds) = given.get_one::<u16>("rounds") else {
+        unreachable!()
+    };
     let Some(texts) = given.get_strs("path") else {
         unreachable!()
     };
     let paths = owned(alloc, texts)?;
-    Ok(Job::Run { every, paths })
+    Ok(Job::Run {
+        every,
+        rounds,
+        paths,
+    })
 }
 
 fn owned(alloc: Global, texts: &[&str]) -> Result<Vec<String>, AllocError>
@@ -165,12 +176,14 @@ fn run_command<'a>(alloc: Global) -> Result<Command<'a>, AllocError>
     ensures { IfOk result (IsMade run) }
 {
     let every = every_arg(alloc);
+    let rounds = rounds_arg(alloc);
     let path = path_arg(alloc);
     let bare = Command::new(alloc, "run")
         .about("Reads 1 to 8 paths side by side, and writes one table every MS")
         .after_help(AFTER_RUN_HELP);
     let with_every = bare.arg(every)?;
-    with_every.arg(path)
+    let with_rounds = with_every.arg(rounds)?;
+    with_rounds.arg(path)
 }
 
 // `--every MS`
@@ -184,6 +197,19 @@ fn every_arg<'a>(alloc: Global) -> Arg<'a>
         .help("Milliseconds from one table to the next, 1 to 3600000")
         .required(true)
         .value_parser(milliseconds)
+}
+
+// `--rounds R`
+fn rounds_arg<'a>(alloc: Global) -> Arg<'a>
+    ensures { IsArg rounds result }
+{
+    let times = value_parser!(u16).range(1..=1000);
+    Arg::new(alloc, "rounds")
+        .long("rounds")
+        .value_name("R")
+        .help("How many times to read the paths, 1 to 1000")
+        .default_value("1")
+        .value_parser(times)
 }
 
 // `PATH..`

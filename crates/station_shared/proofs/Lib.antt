@@ -18,5 +18,6 @@ pub mod RowLemmas
 pub mod Rules
 pub mod SeatRuns
 pub mod Sequences
+pub mod Starts
 pub mod Turning
 pub mod WalkLemmas

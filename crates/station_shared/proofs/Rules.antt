@@ -4,11 +4,11 @@ use Rattle.std.specs.Prelude.{IfSome}
 use mathlib.Core.List.{IsPrefix}
 use mathlib.Core.Option.{some}
 use lib.ListN.{get_elem?}
-use Rattle.station_journal.specs.declared.Limits.{Limits}
 use Rattle.crossbeam_utils.specs.Register.{Admits, TurnsAt, Turns, Forks, Merges}
 use Rattle.atomic_table.proofs.Lists.{at_set, at_snoc, set_again}
 use Rattle.station_shared.specs.Shown.{Sheet, IsPublished, IsOfSheet, SawPublished, GoesOn, Follows, marked}
 use Rattle.station_shared.specs.declared.shown.Mark.{Mark}
+use Rattle.station_shared.specs.declared.shown.Origin.{Origin}
 use Rattle.station_shared.proofs.Fronts.{prefix_refl, prefix_trans}
 
 some_mark : (k l : Mark) → Some k ≡ Some l → k ≡ l
@@ -18,28 +18,28 @@ none_some : {A : Type 0} (k : A) → None ≡ Some k → ⊥
 none_some k e = cc
 
 -- who has seen what is published knows its station
-seen_is_of : (s : Sheet) (k : Mark) → marked s.front s.limits ≡ Some k → IsOfSheet s k
-seen_is_of s k e = by s.limits refl e
+seen_is_of : (s : Sheet) (k : Mark) → marked s.front s.origin ≡ Some k → IsOfSheet s k
+seen_is_of s k e = by s.origin refl e
   where
-    by : (limits : Option Limits) → s.limits ≡ limits → marked s.front limits ≡ Some k → IsOfSheet s k
+    by : (origin : Option Origin) → s.origin ≡ origin → marked s.front origin ≡ Some k → IsOfSheet s k
     by None is e = absurd (none_some k e)
-    by (Some limits) is e =
-        let mark : record { front = s.front; limits = limits } ≡ k = some_mark _ k e in
+    by (Some origin) is e =
+        let mark : record { front = s.front; origin = origin } ≡ k = some_mark _ k e in
         record {
           name = ap (λ (m : Mark). m.front.name) (sym mark);
-          limits = is ∙ ap (λ (m : Mark). Some m.limits) mark;
+          origin = is ∙ ap (λ (m : Mark). Some m.origin) mark;
           begins = subst (λ (m : Mark). IsPrefix m.front.entries s.front.entries) mark (prefix_refl s.front.entries);
         }
 
 -- who knew the station before knows it after
 still_of : (n : ℕ) (s t : Sheet) (k : Mark) → Follows n s t → IsOfSheet s k → IsOfSheet t k
 still_of n s t k next is = ⊎_elim
-    (λ (none : s.limits ≡ None). absurd (none_some k.limits (sym none ∙ is.limits)))
-    (λ (on : GoesOn s t). record { name = is.name ∙ sym on.name; limits = on.limits ∙ is.limits; begins = prefix_trans _ _ _ is.begins on.begins })
+    (λ (none : s.origin ≡ None). absurd (none_some k.origin (sym none ∙ is.origin)))
+    (λ (on : GoesOn s t). record { name = is.name ∙ sym on.name; origin = on.origin ∙ is.origin; begins = prefix_trans _ _ _ is.begins on.begins })
     next.same
 
 goes_on_same : (s : Sheet) → GoesOn s s
-goes_on_same s = record { limits = refl; name = refl; begins = prefix_refl s.front.entries }
+goes_on_same s = record { origin = refl; name = refl; begins = prefix_refl s.front.entries }
 
 module _ {T : Type 0} (n : ℕ) (sheet : T → Sheet) where
   abbrev pub Holds : T → List (Option Mark) → Type 0
@@ -50,13 +50,13 @@ module _ {T : Type 0} (n : ℕ) (sheet : T → Sheet) where
 
   pub turns_at : (seat : ℕ) (v : Option Mark) (x y : T) → Follows n (sheet x) (sheet y) → TurnsAt Holds seat v x y Saw
   turns_at seat v x y next views h at = (
-    marked (sheet y).front (sheet y).limits,
+    marked (sheet y).front (sheet y).origin,
     record {
       right = next.right h.right;
       views = λ j k e. ⊎_elim
-          (λ (t : (j ≡ seat) × (marked (sheet y).front (sheet y).limits ≡ Some k)). seen_is_of (sheet y) k t.1)
+          (λ (t : (j ≡ seat) × (marked (sheet y).front (sheet y).origin ≡ Some k)). seen_is_of (sheet y) k t.1)
           (λ (t : (j ≢ seat) × (get_elem? views j ≡ some (Some k))). still_of n (sheet x) (sheet y) k next (h.views j k t.1))
-          (at_set views seat j (marked (sheet y).front (sheet y).limits) (Some k) e);
+          (at_set views seat j (marked (sheet y).front (sheet y).origin) (Some k) e);
     },
     record { knows = refl; right = next.right h.right; known = known v at },
   )

@@ -2,13 +2,12 @@
 use Rattle.std.proofs.Common.{◌≡◌, ℕ, ◌+◌, List, [], ◌∷◌, ◌++◌, Result, Ok, Err, length, get_or, slice_index_or, slice_set, refl, sym, ap, ◌∙◌, subst, append_assoc, append-nil, arith, inl, inr}
 use Rattle.station_journal.specs.declared.Entry.{Entry}
 use Rattle.station_journal.specs.declared.Entry.TheVariants.{Heard}
-use Rattle.station_journal.specs.declared.Limits.{Limits}
 use Rattle.station_journal.specs.declared.Refusal.{Refusal}
 use Rattle.station_shared.specs.Calls.{frames_of}
 use Rattle.station_shared.specs.Drawing.{Drawn}
 use Rattle.station_shared.specs.Feeds.{Feeds}
 use Rattle.station_shared.specs.Pump.{PumpsAll}
-use Rattle.station_shared.specs.Seats.{Seated}
+use Rattle.station_shared.specs.Seats.{Seated, Start}
 use Rattle.station_shared.specs.Workers.{SeatSteps, Within, accepted_frames, heard_by, Fed, Works}
 use Rattle.station_shared.specs.declared.pumping.PumpFault.{PumpFault}
 use Rattle.station_shared.specs.declared.tally.Tally.{Tally}
@@ -34,8 +33,8 @@ Fed-none x y same = record {
 }
 
 -- a step, and what was fed after it
-pub Fed-step : (limits : Limits) (x z y : Seated) (f : List ℕ) (fs : List (List ℕ)) (u : Result (Unit {0}) Refusal) (us : List (Result (Unit {0}) Refusal)) → SeatSteps limits x f u z → Fed z y fs us → Fed x y (f ∷ fs) (u ∷ us)
-Fed-step limits x z y f fs (Ok taken) us step fed =
+pub Fed-step : (start : Start) (x z y : Seated) (f : List ℕ) (fs : List (List ℕ)) (u : Result (Unit {0}) Refusal) (us : List (Result (Unit {0}) Refusal)) → SeatSteps start x f u z → Fed z y fs us → Fed x y (f ∷ fs) (u ∷ us)
+Fed-step start x z y f fs (Ok taken) us step fed =
     let a = step.1 in
     let e : Entry = Heard x.number f in
     let here : x.seen ++ (a.later.0 ++ e ∷ []) ≡ z.seen = sym (append_assoc x.seen a.later.0 (e ∷ [])) ∙ (ap (λ l. l ++ e ∷ []) a.later.1 ∙ sym a.seen) in
@@ -47,7 +46,7 @@ Fed-step limits x z y f fs (Ok taken) us step fed =
       accepted = omega (arith, fed.accepted, a.accepted, count_first (Ok taken) us);
       number = fed.number ∙ a.number;
     }
-Fed-step limits x z y f fs (Err refusal) us step fed = record {
+Fed-step start x z y f fs (Err refusal) us step fed = record {
   more = step.later.0 ++ fed.more;
   later = sym (append_assoc x.seen step.later.0 fed.more) ∙ (ap (λ l. l ++ fed.more) step.later.1 ∙ fed.later);
   stand = within_later step.later.0 (heard_by x.number (accepted_frames fs us)) fed.more (subst (λ (n : ℕ). Within (heard_by n (accepted_frames fs us)) fed.more) step.number fed.stand);
@@ -56,25 +55,25 @@ Fed-step limits x z y f fs (Err refusal) us step fed = record {
   number = fed.number ∙ step.number;
 }
 
-pub Fed-steps : (limits : Limits) (x y : Seated) (fs : List (List ℕ)) (us : List (Result (Unit {0}) Refusal)) → Feeds (SeatSteps limits) x fs us y → Fed x y fs us
-Fed-steps limits x y [] [] s = Fed-none x y s
-Fed-steps limits x y [] (u ∷ us) s = absurd s
-Fed-steps limits x y (f ∷ fs) [] s = absurd s
-Fed-steps limits x y (f ∷ fs) (u ∷ us) s = Fed-step limits x s.0 y f fs u us s.1 (Fed-steps limits s.0 y fs us s.2)
+pub Fed-steps : (start : Start) (x y : Seated) (fs : List (List ℕ)) (us : List (Result (Unit {0}) Refusal)) → Feeds (SeatSteps start) x fs us y → Fed x y fs us
+Fed-steps start x y [] [] s = Fed-none x y s
+Fed-steps start x y [] (u ∷ us) s = absurd s
+Fed-steps start x y (f ∷ fs) [] s = absurd s
+Fed-steps start x y (f ∷ fs) (u ∷ us) s = Fed-step start x s.0 y f fs u us s.1 (Fed-steps start s.0 y fs us s.2)
 
 -- a feed that is seen as a seat
-module _ {F : Type 0} (gives : F → List ℕ → Result (Unit {0}) Refusal → F → Type 0) (seat : F → Seated) (limits : Limits)
-    (tells : (x y : F) (frame : List ℕ) (answer : Result (Unit {0}) Refusal) → gives x frame answer y → SeatSteps limits (seat x) frame answer (seat y)) where
-  seat_steps : (x y : F) (fs : List (List ℕ)) (us : List (Result (Unit {0}) Refusal)) → Feeds gives x fs us y → Feeds (SeatSteps limits) (seat x) fs us (seat y)
+module _ {F : Type 0} (gives : F → List ℕ → Result (Unit {0}) Refusal → F → Type 0) (seat : F → Seated) (start : Start)
+    (tells : (x y : F) (frame : List ℕ) (answer : Result (Unit {0}) Refusal) → gives x frame answer y → SeatSteps start (seat x) frame answer (seat y)) where
+  seat_steps : (x y : F) (fs : List (List ℕ)) (us : List (Result (Unit {0}) Refusal)) → Feeds gives x fs us y → Feeds (SeatSteps start) (seat x) fs us (seat y)
   seat_steps x y [] [] s = ap seat s
   seat_steps x y [] (u ∷ us) s = absurd s
   seat_steps x y (f ∷ fs) [] s = absurd s
   seat_steps x y (f ∷ fs) (u ∷ us) s = (seat s.0, tells x s.0 f u s.1, seat_steps s.0 y fs us s.2)
 
-  works : (x y : F) (old new : Drawn) (turns : ℕ) (result : Result Tally PumpFault) → PumpsAll gives x y old new turns result → Works limits (seat x) (seat y) old new turns result
+  works : (x y : F) (old new : Drawn) (turns : ℕ) (result : Result Tally PumpFault) → PumpsAll gives x y old new turns result → Works start (seat x) (seat y) old new turns result
   works x y old new turns result all =
       let steps = seat_steps x y (frames_of all.lines) all.answers all.feeds in
-      let fed = Fed-steps limits (seat x) (seat y) (frames_of all.lines) all.answers steps in
+      let fed = Fed-steps start (seat x) (seat y) (frames_of all.lines) all.answers steps in
       record {
         pumps = record {
           lines = all.lines;
@@ -92,8 +91,8 @@ module _ {F : Type 0} (gives : F → List ℕ → Result (Unit {0}) Refusal → 
       }
 
 pub Works-all : {F : Type 0} {gives : F → List ℕ → Result (Unit {0}) Refusal → F → Type 0} {x y : F} {old new : Drawn} {turns : ℕ} {result : Result Tally PumpFault} → PumpsAll gives x y old new turns result
-    → (seat : F → Seated) (limits : Limits) → ((x y : F) (frame : List ℕ) (answer : Result (Unit {0}) Refusal) → gives x frame answer y → SeatSteps limits (seat x) frame answer (seat y)) → Works limits (seat x) (seat y) old new turns result
-Works-all {gives} {x} {y} {old} {new} {turns} {result} all seat limits tells = works gives seat limits tells x y old new turns result all
+    → (seat : F → Seated) (start : Start) → ((x y : F) (frame : List ℕ) (answer : Result (Unit {0}) Refusal) → gives x frame answer y → SeatSteps start (seat x) frame answer (seat y)) → Works start (seat x) (seat y) old new turns result
+Works-all {gives} {x} {y} {old} {new} {turns} {result} all seat start tells = works gives seat start tells x y old new turns result all
 
 -- ---- a piece of one worker
 

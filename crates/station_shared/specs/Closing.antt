@@ -1,11 +1,10 @@
 -- What the seats given at a close say of the journal.
-use Rattle.std.specs.Prelude.{◌≡◌, ℕ, zero, suc, ◌<◌, ◌≤◌, eqb, cond, fold, List, [], ◌∷◌, ◌++◌, length, count_by, sum, sum_by}
+use Rattle.std.specs.Prelude.{◌≡◌, ℕ, zero, suc, ◌+◌, ◌<◌, ◌≤◌, eqb, cond, fold, List, [], ◌∷◌, ◌++◌, length, count_by, sum, sum_by}
 use Rattle.std.specs.List.{AllByRecursion}
 use mathlib.Core.List.{IsPrefix}
 use Rattle.station_journal.specs.declared.Entry.{Entry}
-use Rattle.station_journal.specs.declared.Limits.{Limits}
 use Rattle.station_journal.specs.Log.{IsLegal}
-use Rattle.station_shared.specs.Seats.{Seated, log_of, count_of}
+use Rattle.station_shared.specs.Seats.{Seated, Start, log_of, own, count_of}
 
 -- the numbers of the seats are those below n, each once
 pub record EachOnce (n : ℕ) (seats : List Seated) : Type 0 where
@@ -14,8 +13,8 @@ pub record EachOnce (n : ℕ) (seats : List Seated) : Type 0 where
   pub once : (k : ℕ) → k < n → count_by (λ s. eqb k s.number) seats ≡ 1
 
 -- what is kept of each seat
-abbrev pub Backed : List Entry → Seated → Type 0
-Backed es s = IsPrefix s.seen es × (s.accepted ≤ count_of s.number es)
+abbrev pub Backed : Start → List Entry → Seated → Type 0
+Backed start es s = IsPrefix s.seen es × (s.accepted ≤ count_of s.number (own start es))
 
 -- the accepted calls of the last seat with this number
 abbrev pub accepted_at : ℕ → List Seated → ℕ
@@ -31,12 +30,12 @@ abbrev pub counts_below : ℕ → List Entry → List ℕ
 counts_below zero es = []
 counts_below (suc n) es = counts_below n es ++ count_of n es ∷ []
 
--- the journal is legal and begins with all that each seat has seen, and has no entry but the accepted calls of the
--- seats: as many of each number as that seat was accepted
-pub record Closes (limits : Limits) (n : ℕ) (es : List Entry) (seats : List Seated) : Type 0 where
-  pub legal : IsLegal (log_of limits es)
+-- the journal is legal and begins with all that each seat has seen, and has no entry but those that it was resumed from and
+-- then the accepted calls of the seats: as many of each number as that seat was accepted
+pub record Closes (start : Start) (n : ℕ) (es : List Entry) (seats : List Seated) : Type 0 where
+  pub legal : IsLegal (log_of start es)
   pub seen : AllByRecursion (λ (s : Seated). IsPrefix s.seen es) seats
-  pub total : sum_by (λ s. s.accepted) seats ≡ length es
-  pub each : AllByRecursion (λ (s : Seated). count_of s.number es ≡ s.accepted) seats
-  pub by_number : accepted_by n seats ≡ counts_below n es
-  pub all : sum (accepted_by n seats) ≡ length es
+  pub total : start.resumed + sum_by (λ s. s.accepted) seats ≡ length es
+  pub each : AllByRecursion (λ (s : Seated). count_of s.number (own start es) ≡ s.accepted) seats
+  pub by_number : accepted_by n seats ≡ counts_below n (own start es)
+  pub all : start.resumed + sum (accepted_by n seats) ≡ length es

@@ -1,16 +1,34 @@
 -- What seats, receipts and looks are seen as, and what a call tells of them.
-use Rattle.std.specs.Prelude.{◌≡◌, ℕ, zero, suc, ◌+◌, ◌⊎◌, eqb, List, [], ◌∷◌, ◌++◌, None, count_by}
+use Rattle.std.specs.Prelude.{◌≡◌, ℕ, zero, suc, ◌+◌, ◌⊎◌, eqb, List, [], ◌∷◌, ◌++◌, None, count_by, drop}
 use mathlib.Core.List.{IsPrefix}
 use Rattle.station_journal.specs.declared.Entry.{Entry}
 use Rattle.station_journal.specs.declared.Entry.TheVariants.{Tick, Heard}
 use Rattle.station_journal.specs.declared.Limits.{Limits}
 use Rattle.station_journal.specs.declared.Refusal.{Refusal}
 use Rattle.station_journal.specs.Log.{Log, IsLegal, refusal_of, verdict_behind}
-use Rattle.station_shared.specs.History.{Known}
+use Rattle.station_shared.specs.History.{Name, Known, base_of}
+use Rattle.station_shared.specs.declared.shown.Origin.{Origin}
 
--- the journal of a station under these limits, which began without entries
-abbrev pub log_of : Limits → List Entry → Log
-log_of limits entries = record { base = 0; limits = limits; resumed = 0; entries = entries }
+-- how a station began: its history, whose name has the base of its clock, its limits, and how many entries it was resumed from
+pub record Start : Type 0 where
+  pub history : Name
+  pub limits : Limits
+  pub resumed : ℕ
+
+-- its journal
+abbrev pub log_of : Start → List Entry → Log
+log_of start entries = record { base = base_of start.history; limits = start.limits; resumed = start.resumed; entries = entries }
+
+-- the entries of its own calls: those after the ones that it was resumed from
+abbrev pub own : Start → List Entry → List Entry
+own start entries = drop start.resumed entries
+
+-- what is published of it beside its history
+abbrev pub origin_of : Start → Origin
+origin_of start = record { limits = start.limits; resumed = start.resumed }
+
+abbrev pub start_at : Name → Origin → Start
+start_at history origin = record { history = history; limits = origin.limits; resumed = origin.resumed }
 
 -- the number of the seat whose entry it is
 abbrev pub seat_of : Entry → ℕ
@@ -29,22 +47,22 @@ pub record Seated : Type 0 where
 
 -- after all that had been seen, the entry was accepted, as one more of the seat's; the receipt and the seat know just
 -- that list
-pub record Accepted (limits : Limits) (old new : Seated) (e : Entry) (receipt : Known) : Type 0 where
+pub record Accepted (start : Start) (old new : Seated) (e : Entry) (receipt : Known) : Type 0 where
   pub mid : List Entry
   pub seen : new.seen ≡ mid ++ e ∷ []
-  pub legal : IsLegal (log_of limits mid)
+  pub legal : IsLegal (log_of start mid)
   pub later : IsPrefix old.seen mid
-  pub verdict : refusal_of (log_of limits mid) e ≡ None
+  pub verdict : refusal_of (log_of start mid) e ≡ None
   pub list : receipt.entries ≡ new.seen
   pub accepted : new.accepted ≡ old.accepted + 1
   pub number : new.number ≡ old.number
 
 -- the refusal is that of a journal which begins with all that had been seen; want of memory is told only where the
 -- verdict accepts there
-pub record Refused (limits : Limits) (old new : Seated) (e : Entry) (refusal : Refusal) : Type 0 where
+pub record Refused (start : Start) (old new : Seated) (e : Entry) (refusal : Refusal) : Type 0 where
   pub later : IsPrefix old.seen new.seen
-  pub legal : IsLegal (log_of limits new.seen)
-  pub verdict : refusal_of (log_of limits new.seen) e ≡ verdict_behind refusal
+  pub legal : IsLegal (log_of start new.seen)
+  pub verdict : refusal_of (log_of start new.seen) e ≡ verdict_behind refusal
   pub accepted : new.accepted ≡ old.accepted
   pub number : new.number ≡ old.number
 
@@ -57,17 +75,17 @@ pub record Told (old new : Seated) (list : List Entry) : Type 0 where
   pub number : new.number ≡ old.number
 
 -- the same seat, which has seen as much or more, and all of it legal
-pub record Looks (limits : Limits) (old new : Seated) : Type 0 where
+pub record Looks (start : Start) (old new : Seated) : Type 0 where
   pub later : IsPrefix old.seen new.seen
-  pub legal : IsLegal (log_of limits new.seen)
+  pub legal : IsLegal (log_of start new.seen)
   pub accepted : new.accepted ≡ old.accepted
   pub number : new.number ≡ old.number
 
--- a seat that has seen nothing
-abbrev pub newcomer : ℕ → Seated
-newcomer n = record { number = n; accepted = 0; seen = [] }
+-- a seat that has seen no more than the entries that its station began with
+abbrev pub newcomer : List Entry → ℕ → Seated
+newcomer entries n = record { number = n; accepted = 0; seen = entries }
 
--- seats that have seen nothing, numbered from 0
-abbrev pub newcomers : ℕ → List Seated
-newcomers zero = []
-newcomers (suc n) = newcomers n ++ newcomer n ∷ []
+-- such seats, numbered from 0
+abbrev pub newcomers : List Entry → ℕ → List Seated
+newcomers entries zero = []
+newcomers entries (suc n) = newcomers entries n ++ newcomer entries n ∷ []

@@ -2,20 +2,19 @@
 use Rattle.std.specs.Prelude.{◌≡◌, ℕ, ◌+◌, ◌⊎◌, List, [], ◌∷◌, ◌++◌, Option, Some, Result, Ok, Err, is_ok, count_by, length, map}
 use Rattle.station_journal.specs.declared.Entry.{Entry}
 use Rattle.station_journal.specs.declared.Entry.TheVariants.{Heard}
-use Rattle.station_journal.specs.declared.Limits.{Limits}
 use Rattle.station_journal.specs.declared.Refusal.{Refusal}
 use Rattle.station_shared.specs.Calls.{frames_of}
 use Rattle.station_shared.specs.Drawing.{Drawn}
 use Rattle.station_shared.specs.History.{Known}
 use Rattle.station_shared.specs.Pump.{PumpsAll, tally_of}
-use Rattle.station_shared.specs.Seats.{Seated, Accepted, Refused}
+use Rattle.station_shared.specs.Seats.{Seated, Start, Accepted, Refused}
 use Rattle.station_shared.specs.declared.pumping.PumpFault.{PumpFault}
 use Rattle.station_shared.specs.declared.tally.Tally.{Tally}
 
 -- one step of a seat for a frame, whose answer tells no receipt
-abbrev pub SeatSteps : Limits → Seated → List ℕ → Result (Unit {0}) Refusal → Seated → Type 0
-SeatSteps limits old frame (Ok taken) new = (receipt : Known) × Accepted limits old new (Heard old.number frame) receipt
-SeatSteps limits old frame (Err refusal) new = Refused limits old new (Heard old.number frame) refusal
+abbrev pub SeatSteps : Start → Seated → List ℕ → Result (Unit {0}) Refusal → Seated → Type 0
+SeatSteps start old frame (Ok taken) new = (receipt : Known) × Accepted start old new (Heard old.number frame) receipt
+SeatSteps start old frame (Err refusal) new = Refused start old new (Heard old.number frame) refusal
 
 -- the items of the first list stand in the second, in their order
 abbrev pub Within : List Entry → List Entry → Type 0
@@ -45,13 +44,13 @@ pub record Fed (old new : Seated) (frames : List (List ℕ)) (answers : List (Re
 
 -- a pump fed the seat by its steps, whether the answer is a tally or a fault: the accepted frames stand, in their order, in
 -- what the seat has seen since, and it was accepted as often as the tally counts
-pub record Works (limits : Limits) (old new : Seated) (source_old source_new : Drawn) (turns : ℕ) (result : Result Tally PumpFault) : Type 0 where
-  pub pumps : PumpsAll (SeatSteps limits) old new source_old source_new turns result
+pub record Works (start : Start) (old new : Seated) (source_old source_new : Drawn) (turns : ℕ) (result : Result Tally PumpFault) : Type 0 where
+  pub pumps : PumpsAll (SeatSteps start) old new source_old source_new turns result
   pub fed : Fed old new (frames_of pumps.lines) pumps.answers
   pub accepted : new.accepted ≡ old.accepted + (tally_of result).accepted
 
 -- a worker has answered, as its pump did
-pub record Worked (limits : Limits) (old new : Seated) (source_old source_new : Drawn) (turns : ℕ) (answer : Option (Result Tally PumpFault)) : Type 0 where
+pub record Worked (start : Start) (old new : Seated) (source_old source_new : Drawn) (turns : ℕ) (answer : Option (Result Tally PumpFault)) : Type 0 where
   pub result : Result Tally PumpFault
   pub answered : answer ≡ Some result
-  pub works : Works limits old new source_old source_new turns result
+  pub works : Works start old new source_old source_new turns result

@@ -55,8 +55,8 @@ impl<const N: usize, L: Total> Station<N, L> {
     /// were.
     pub fn close<R: Wait>(self, rt: &R, seats: Vec<Seat<N, L>>) -> Result<Closed, Missing<N, L>>
         ensures seats { IfOk result (λ c. EachOnce L.seats seats.items) }
-        ensures journal { IfOk result (λ c. (c.journal.log ≡ log_of L.limits c.journal.log.entries)
-            × Closes L.limits L.seats c.journal.log.entries seats.items) }
+        ensures journal { IfOk result (λ c. (c.journal.log ≡ log_of L.start c.journal.log.entries)
+            × Closes L.start L.seats c.journal.log.entries seats.items) }
         ensures accepted { IfOk result (λ c. c.accepted.items ≡ accepted_by L.seats seats.items) }
         ensures missing { IfErr result (λ missing. ¬ EachOnce L.seats seats.items
             × (missing.station ≡ self)
@@ -84,8 +84,8 @@ impl<const N: usize, L: Total> Gate<N, L> {
     // Takes the seats in, and hands out the journal.
     fn close<R: Wait>(self, rt: &R, mut seats: Vec<Seat<N, L>>) -> Journal
         requires { EachOnce L.seats seats.items }
-        ensures log { result.log ≡ log_of L.limits result.log.entries }
-        ensures closes { Closes L.limits L.seats result.log.entries seats.items }
+        ensures log { result.log ≡ log_of L.start result.log.entries }
+        ensures closes { Closes L.start L.seats result.log.entries seats.items }
     {
         let Gate {
             mut desk,

@@ -1,5 +1,6 @@
 //! Sources and sinks for tests.
 ghost use Rattle.std.specs.Prelude.{◌≡◌, ◌<◌, ◌≤◌, None};
+ghost use Rattle.station_shared.specs.History.{base_of};
 
 use crate::desk::Desk;
 use crate::places::Places;
@@ -169,15 +170,31 @@ pub fn new_desk<const N: usize>(rt: &impl Abort, alloc: Global, limits: Limits) 
     }
 }
 
-/// Places for so many seats. Where they want memory, they are made once more.
+/// Places for so many seats, whose clock is at 0. Where they want memory, they are made once more.
 pub fn new_places<const N: usize, R: Wait + Abort>(rt: &R, alloc: Global, seats: u8) -> Places<N>
     requires seats { 0 < seats }
     requires small { N ≤ 4096 }
-    ensures { result.places ≡ seats }
+    ensures places { result.places ≡ seats }
+    ensures base { base_of result.history ≡ 0 }
 {
-    match Places::new(rt, alloc, seats) {
+    places_at(rt, alloc, 0, seats)
+}
+
+/// The same, whose clock is at this moment.
+pub fn places_at<const N: usize, R: Wait + Abort>(
+    rt: &R,
+    alloc: Global,
+    base: u64,
+    seats: u8,
+) -> Places<N>
+    requires seats { 0 < seats }
+    requires small { N ≤ 4096 }
+    ensures places { result.places ≡ seats }
+    ensures base { base_of result.history ≡ base }
+{
+    match Places::new(rt, alloc, base, seats) {
         Ok(places) => places,
-        Err(_) => Places::new(rt, alloc, seats).expect(rt, "the second call has memory"),
+        Err(_) => Places::new(rt, alloc, base, seats).expect(rt, "the second call has memory"),
     }
 }
 

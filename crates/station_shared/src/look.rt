@@ -36,7 +36,8 @@ where
     ghost use Rattle.left_right.specs.Sides.{view as view_of};
     ghost use Rattle.station_journal.specs.Log.{IsLegal};
     ghost use Rattle.station_book.specs.Matching.{Matches};
-    ghost use Rattle.station_shared.specs.Seats.{Seated, count_of, log_of};
+    ghost use Rattle.station_shared.specs.History.{base_of};
+    ghost use Rattle.station_shared.specs.Seats.{Seated, own, count_of, log_of};
     ghost use Rattle.station_shared.specs.Shown.{IsOf};
 
     ghost Value = { Seated };
@@ -49,25 +50,25 @@ where
 
     ghost invariant = { λ s. (s.share.parts ≡ 1)
         × (s.share.amount ≡ s.accepted)
-        × IsOf L.history L.limits (view_of s.looking.place)
-        × (s.front.name ≡ L.history)
-        × (s.accepted ≤ count_of s.number s.front.entries)
-        × Matches N 0 s.looking.part.value.book s.front.entries
-        × IsLegal (log_of L.limits s.front.entries) };
+        × IsOf L.start (view_of s.looking.place)
+        × (s.front.name ≡ L.start.history)
+        × (s.accepted ≤ count_of s.number (own L.start s.front.entries))
+        × Matches N (base_of L.start.history) s.looking.part.value.book s.front.entries
+        × IsLegal (log_of L.start s.front.entries) };
 }
 
 impl<const N: usize, L: Total> Look<N, L> {
     /// The row of the aircraft with this address, if it is live.
     pub fn get(&self, address: u32) -> Option<Aircraft>
-        ensures { result ≡ find_row address (table_of (log_of L.limits self.now.seen)) }
+        ensures { result ≡ find_row address (table_of (log_of L.start self.now.seen)) }
     {
         self.looking.get().book.get(address)
     }
 
     /// The moment of the newest tick that is seen, in milliseconds, or 0 where there is none.
     pub fn now(&self) -> u64
-        ensures value { result ≡ clock_of (log_of L.limits self.now.seen) }
-        ensures legal { IsLegal (log_of L.limits self.now.seen) }
+        ensures value { result ≡ clock_of (log_of L.start self.now.seen) }
+        ensures legal { IsLegal (log_of L.start self.now.seen) }
     {
         self.looking.get().book.now()
     }
@@ -105,7 +106,7 @@ impl<const N: usize, L: Total> Rows for Look<N, L> {
     ghost use Rattle.station_journal.specs.Log.{table_of};
     ghost use Rattle.station_shared.specs.Seats.{log_of};
 
-    ghost rows = { λ look. table_of (log_of L.limits look.seen) };
+    ghost rows = { λ look. table_of (log_of L.start look.seen) };
 
     fn len(&self) -> usize {
         Rows::len(&self.looking.get().book)

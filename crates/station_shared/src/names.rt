@@ -1,18 +1,15 @@
-//! The name of one station: its ledger, its history and its limits.
+//! The name of one station: its ledger, and how it began.
 use std::marker::Brand;
 use std::sync::ledger::Ledger;
 
 pub trait Total: Ledger {
     ghost use Rattle.std.specs.Prelude.{ℕ};
-    ghost use Rattle.station_shared.specs.History.{Name};
-    ghost use Rattle.station_journal.specs.declared.Limits.{Limits};
+    ghost use Rattle.station_shared.specs.Seats.{Start};
 
     /// How many seats, each with one part.
     ghost seats: { ℕ };
 
-    ghost history: { Name };
-
-    ghost limits: { Limits };
+    ghost start: { Start };
 }
 
 impl Total for Brand {
@@ -20,10 +17,9 @@ impl Total for Brand {
 
     ghost seats = { 0 };
 
-    ghost history = { record {
-      book = record { number = 0; log_name = 0; cells_name = 0 };
-      root = [];
+    ghost start = { record {
+      history = record { book = record { number = 0; log_name = 0; cells_name = 0 }; root = [] };
+      limits = record { entries = 0; aircraft = 0 };
+      resumed = 0;
     } };
-
-    ghost limits = { record { entries = 0; aircraft = 0 } };
 }

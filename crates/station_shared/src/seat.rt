@@ -2,7 +2,7 @@
 ghost use Rattle.std.specs.Prelude.{◌≡◌, ◌+◌, ◌<◌, ◌≤◌, ◌↔◌, IsTrue, false, length, MatchResult};
 ghost use mathlib.Core.List.{IsPrefix};
 ghost use Rattle.station_journal.specs.Log.{IsLegal};
-ghost use Rattle.station_shared.specs.Seats.{Told, Looks, count_of, log_of};
+ghost use Rattle.station_shared.specs.Seats.{Told, Looks, count_of, log_of, own};
 ghost use Rattle.station_shared.specs.Shown.{IsOfSheet, sheet_of};
 
 use crate::history::Front;
@@ -33,15 +33,15 @@ impl<L: Total> Model for Receipt<L> {
     ghost view = { λ r. r.front };
 
     ghost invariant = { λ r. (0 < length r.front.entries)
-        × (r.front.name ≡ L.history)
-        × IsLegal (log_of L.limits r.front.entries) };
+        × (r.front.name ≡ L.start.history)
+        × IsLegal (log_of L.start r.front.entries) };
 }
 
 impl<L: Total> Receipt<L> {
     pub(crate) fn new(front: Front) -> Receipt<L>
         requires some { 0 < length front.entries }
-        requires history { front.name ≡ L.history }
-        requires legal { IsLegal (log_of L.limits front.entries) }
+        requires history { front.name ≡ L.start.history }
+        requires legal { IsLegal (log_of L.start front.entries) }
         ensures { result ≡ front }
     {
         Receipt {
@@ -88,7 +88,7 @@ where
     ghost use Rattle.std.specs.Prelude.{◌≡◌, ◌≤◌};
     ghost use Rattle.left_right.specs.Sides.{view as view_of};
     ghost use Rattle.station_journal.specs.Log.{IsLegal};
-    ghost use Rattle.station_shared.specs.Seats.{Seated, count_of, log_of};
+    ghost use Rattle.station_shared.specs.Seats.{Seated, count_of, log_of, own};
     ghost use Rattle.station_shared.specs.Shown.{IsOf};
 
     ghost Value = { Seated };
@@ -101,10 +101,10 @@ where
 
     ghost invariant = { λ s. (s.share.parts ≡ 1)
         × (s.share.amount ≡ s.accepted)
-        × IsOf L.history L.limits (view_of s.place.place)
-        × (s.front.name ≡ L.history)
-        × (s.accepted ≤ count_of s.number s.front.entries)
-        × IsLegal (log_of L.limits s.front.entries) };
+        × IsOf L.start (view_of s.place.place)
+        × (s.front.name ≡ L.start.history)
+        × (s.accepted ≤ count_of s.number (own L.start s.front.entries))
+        × IsLegal (log_of L.start s.front.entries) };
 }
 
 // Whether the published table lacks entries of this beginning. It lacks none that a place had seen before it was let in.
@@ -128,8 +128,8 @@ impl<const N: usize, L: Total> Seat<N, L> {
     /// How many of its calls were accepted. What it has seen is legal, and holds at least as many entries of its number.
     pub fn accepted(&self) -> u64
         ensures value { result ≡ self.now.accepted }
-        ensures seen { result ≤ count_of self.now.number self.now.seen }
-        ensures legal { IsLegal (log_of L.limits self.now.seen) }
+        ensures seen { result ≤ count_of self.now.number (own L.start self.now.seen) }
+        ensures legal { IsLegal (log_of L.start self.now.seen) }
     {
         self.accepted
     }
@@ -137,7 +137,7 @@ impl<const N: usize, L: Total> Seat<N, L> {
     /// Takes in what a receipt of the same station tells: from now on the seat has seen the receipt's entry.
     pub fn learn(&mut self, receipt: &Receipt<L>)
         ensures told { Told self.old self.new receipt.now.entries }
-        ensures legal { IsLegal (log_of L.limits self.new.seen) }
+        ensures legal { IsLegal (log_of L.start self.new.seen) }
     {
         let Seat { front, .. } = self;
         *front = front.longer(&receipt.front);
@@ -147,7 +147,7 @@ impl<const N: usize, L: Total> Seat<N, L> {
     ///
     /// The seat comes back as it was where no reader is let in.
     pub fn look(self) -> Result<Look<N, L>, Seat<N, L>>
-        ensures { MatchResult result (λ look. Looks L.limits self look) (λ seat. seat ≡ self) }
+        ensures { MatchResult result (λ look. Looks L.start self look) (λ seat. seat ≡ self) }
     {
         let Seat {
             number,
@@ -191,8 +191,8 @@ impl<const N: usize, L: Total> Seat<N, L> {
     // Ends the seat.
     pub(crate) fn into_parts(self) -> (Share<L>, Front)
         ensures share { (result.0.parts ≡ 1) × (result.0.amount ≡ self.accepted) }
-        ensures front { (result.1.name ≡ L.history) × (result.1.entries ≡ self.seen) }
-        ensures counted { self.accepted ≤ count_of self.number self.seen }
+        ensures front { (result.1.name ≡ L.start.history) × (result.1.entries ≡ self.seen) }
+        ensures counted { self.accepted ≤ count_of self.number (own L.start self.seen) }
     {
         let Seat {
             number: _,

@@ -33,7 +33,7 @@ impl<'a, const N: usize, L: Total> Feed for SeatFeed<'a, N, L> {
     ghost use Rattle.std.specs.Prelude.{◌≡◌};
     ghost use Rattle.station_shared.specs.Workers.{SeatSteps};
 
-    ghost gives = { λ x frame answer y. SeatSteps L.limits x.seat.now frame answer y.seat.now
+    ghost gives = { λ x frame answer y. SeatSteps L.start x.seat.now frame answer y.seat.now
         × (y.seat.ghost_name ≡ x.seat.ghost_name) };
 
     fn feed<R: Wait>(&mut self, rt: &R, frame: Frame) -> Result<(), Refusal> {
@@ -52,7 +52,7 @@ fn pump_lent<const N: usize, L: Total, S: Source, R: Wait>(
     turns: u32,
 ) -> Result<Tally, PumpFault>
     ensures same_seat { feed.new.seat.ghost_name ≡ feed.old.seat.ghost_name }
-    ensures works { Works L.limits feed.old.seat.now feed.new.seat.now
+    ensures works { Works L.start feed.old.seat.now feed.new.seat.now
         (drawn_of S.left S.reads S.ends S.failures from.old)
         (drawn_of S.left S.reads S.ends S.failures from.new) turns result }
 {
@@ -67,7 +67,7 @@ pub fn pump_seat<const N: usize, L: Total, S: Source, R: Wait>(
     from: &mut S,
     turns: u32,
 ) -> Result<Tally, PumpFault>
-    ensures { Works L.limits seat.old seat.new
+    ensures { Works L.start seat.old seat.new
         (drawn_of S.left S.reads S.ends S.failures from.old)
         (drawn_of S.left S.reads S.ends S.failures from.new) turns result }
 {

@@ -5,19 +5,26 @@ use station_book::Book;
 use station_journal::Limits;
 use std::alloc::AllocError;
 
-/// A book, the beginning of the history that it stands for, and the limits of the station, once it has any.
+/// How a station began, beside its history: its limits, and how many entries it was resumed from.
+#[derive(Clone, Copy)]
+pub struct Origin {
+    pub limits: Limits,
+    pub resumed: u64,
+}
+
+/// A book, the beginning of the history that it stands for, and the origin of the station, once there is one.
 #[derive(Drop)]
 pub struct Shown<const N: usize> {
     pub book: Book<N>,
     pub front: Front,
-    pub limits: Option<Limits>,
+    pub origin: Option<Origin>,
 }
 
 /// What a reader knows of a station. No value of it is made.
 #[derive(Drop)]
 pub struct Mark {
     pub front: Front,
-    pub limits: Limits,
+    pub origin: Origin,
 }
 
 /// An operation of which none is logged: the desk brings the copies up itself.

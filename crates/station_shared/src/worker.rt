@@ -42,7 +42,7 @@ fn run_part<const N: usize, S: Source, L: Total, R: Wait>(
     ensures { (d : _) →
         let old = slice_index_or part.old 0 d in
         let new = slice_index_or part.new 0 d in
-        Worked L.limits old.seat new.seat
+        Worked L.start old.seat new.seat
         (drawn_of S.left S.reads S.ends S.failures old.source)
         (drawn_of S.left S.reads S.ends S.failures new.source) turns new.answer }
 {
@@ -64,7 +64,7 @@ pub fn run_receivers<
     ensures { (i : ℕ) (d : _) → i < length workers.old →
         let old = slice_index_or workers.old i d in
         let new = slice_index_or workers.new i d in
-        Worked L.limits old.seat new.seat
+        Worked L.start old.seat new.seat
         (drawn_of S.left S.reads S.ends S.failures old.source)
         (drawn_of S.left S.reads S.ends S.failures new.source) turns new.answer }
 {
@@ -77,7 +77,7 @@ pub fn run_receivers<
             ensures { (d : _) →
                 let old = slice_index_or part.old 0 d in
                 let new = slice_index_or part.new 0 d in
-                Worked L.limits old.seat new.seat
+                Worked L.start old.seat new.seat
                 (drawn_of S.left S.reads S.ends S.failures old.source)
                 (drawn_of S.left S.reads S.ends S.failures new.source) turns new.answer }
         { run_part(rt, station, part, turns) },

@@ -1,5 +1,6 @@
 //! Receivers that hand in their lines at the same time.
 ghost use Rattle.std.specs.Prelude.{◌≡◌, None};
+ghost use Rattle.station_shared.specs.History.{base_of};
 
 mod refused;
 
@@ -231,8 +232,9 @@ fn is_meeting<L: Total + Send + Sync, R: Threads + Wait + Abort + Sync>(
 ) -> bool
     requires ledger { (blank.name ≡ L.name) × (blank.parts ≡ L.parts) }
     requires seats { (L.parts ≡ 3) × (L.seats ≡ 3) × (places.places ≡ 3) }
-    requires history { places.history ≡ L.history }
-    requires limits { L.limits ≡ record { entries = 16; aircraft = 8 } }
+    requires start { (L.start.history ≡ places.history) × (L.start.resumed ≡ 0) }
+    requires base { base_of places.history ≡ 0 }
+    requires limits { L.start.limits ≡ record { entries = 16; aircraft = 8 } }
 {
     let Ok((station, mut seats)) = Station::<8, L>::new(rt, alloc, LIMITS, 3, blank, places) else {
         return false;
@@ -278,8 +280,9 @@ fn one_that_fails<L: Total + Send + Sync, R: Threads + Wait + Abort + Sync>(
 ) -> Result<(), Fail>
     requires ledger { (blank.name ≡ L.name) × (blank.parts ≡ L.parts) }
     requires seats { (L.parts ≡ 2) × (L.seats ≡ 2) × (places.places ≡ 2) }
-    requires history { places.history ≡ L.history }
-    requires limits { L.limits ≡ record { entries = 16; aircraft = 8 } }
+    requires start { (L.start.history ≡ places.history) × (L.start.resumed ≡ 0) }
+    requires base { base_of places.history ≡ 0 }
+    requires limits { L.start.limits ≡ record { entries = 16; aircraft = 8 } }
 {
     let (station, mut seats) = Station::<8, L>::new(rt, alloc, LIMITS, 2, blank, places)?;
     let mut workers = Vec::new(alloc);
@@ -305,6 +308,6 @@ fn one_that_fails<L: Total + Send + Sync, R: Threads + Wait + Abort + Sync>(
 
 #[test]
 fn failed_receiver_leaves_the_others(rt: HostRuntime) -> Result<(), Fail> {
-    let places = Places::<8>::new(&rt, rt.alloc(), 2)?;
+    let places = Places::<8>::new(&rt, rt.alloc(), 0, 2)?;
     one_that_fails::<Brand, _>(&rt, rt.alloc(), Blank::new(2), places)
 }

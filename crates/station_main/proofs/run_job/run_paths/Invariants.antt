@@ -1,9 +1,22 @@
+use Rattle.std.specs.Prelude.{ℕ, ◌-◌, List, Option, length, reverse}
+use Rattle.station_journal.specs.Resume.{IsSound}
 use Rattle.station_main.specs.Limits.{program_limits}
+use Rattle.station_main.specs.Rounds.{Asked, Runs, given_of, nothing}
+use Rattle.station_main.specs.Telling.{Told, told_of}
 use Rattle.station_main.proofs.run_job.run_paths.Given as goal
 
--- the station has the plan's seats, and the limits of the program
-abbrev pub ghosts-run_station-L-Total : goal.ghosts-run_station-L-Total
-ghosts-run_station-L-Total g a = record { seats = a.plan.seats; history = a.places.history; limits = program_limits }
+-- whatever the rounds leave that are still to come, all rounds leave
+abbrev pub invariant-loop-more : goal.invariant-loop-more
+invariant-loop-more g l =
+    let asked : Asked = record { every = l.asked.every; inputs = length l.asked.paths.now.items } in
+    let contents = g.O.Write.contents in
+    let told = told_of g.E.Write.contents in
+    record {
+      sound : IsSound program_limits l.kept.recent.base (reverse l.kept.recent.entries.items);
+      all : (after : Option (Option (List ℕ))) (err_new : Told) (status : ℕ) →
+          Runs asked l.more (given_of l.kept) (contents l.out) after (told l.err) err_new status →
+          Runs asked (l.fn.asked.rounds - 1) nothing (contents l.fn.out) after (told l.fn.err) err_new status;
+    }
 
-abbrev pub ghosts-run_station-L-Ledger : goal.ghosts-run_station-L-Ledger
-ghosts-run_station-L-Ledger g a = record { name = a.blank.name; parts = a.blank.parts }
+abbrev pub decreases-loop-more : goal.decreases-loop-more
+decreases-loop-more g l = l.more

@@ -14,6 +14,12 @@ unreachable-requires c =
     let failed = c.in_default.ensures.value c.requires.text one in
     failed.1.0 (c.requires.numeral, omega (arith, c.requires.most))
 
+pub unreachable-requires-in_default-get_one : goal.unreachable-requires-in_default-get_one
+unreachable-requires-in_default-get_one c =
+    let one = one_text-rows (found_of c.args.given.now) (codes "rounds") ∙ c.requires.rounds in
+    let failed = c.in_default-get_one.ensures.value c.requires.rounds_text one in
+    failed.1.0 (c.requires.rounds_numeral, omega (arith, c.requires.rounds_most))
+
 pub unreachable-requires-in_default-get_strs : goal.unreachable-requires-in_default-get_strs
 unreachable-requires-in_default-get_strs c =
     none_some c.requires.paths (c.in_default-get_strs.ensures ∙ raw_values-rows (found_of c.args.given.now) (codes "path") ∙ c.requires.paths_are)
@@ -22,10 +28,14 @@ pub returns-clause-job : goal.returns-clause-job
 returns-clause-job c =
     let found = found_of c.args.given.now in
     let read = reads_number 32 (λ t r. ParsesUnsigned 32 10 t r × ExplainsUnsignedError 10 t r × HasUnsignedDigitsIfOk t r) (one_text found (codes "every")) c.in-Some.every (λ t r g. g.0) c.in-Some.ensures.none c.in-Some.ensures.value in
+    let times = reads_number 16 (λ t r. ParsesUnsigned 16 10 t r × ExplainsUnsignedError 10 t r × HasUnsignedDigitsIfOk t r) (one_text found (codes "rounds")) c.in-Some-get_one.rounds (λ t r g. g.0) c.in-Some-get_one.ensures.none c.in-Some-get_one.ensures.value in
     record {
       text = read.0;
       every = sym (one_text-rows found (codes "every")) ∙ read.1;
       every_is = read.2;
+      rounds_text = times.0;
+      rounds = sym (one_text-rows found (codes "rounds")) ∙ times.1;
+      rounds_is = times.2;
       paths_are = sym (raw_values-rows found (codes "path")) ∙ sym c.in-Some-get_strs.ensures ∙ ap Some (sym c.in_ok-paths.ensures);
     }
 
@@ -35,8 +45,11 @@ returns-clause-range c =
     let read = reads_number 32 (λ t r. ParsesUnsigned 32 10 t r × ExplainsUnsignedError 10 t r × HasUnsignedDigitsIfOk t r) (one_text found (codes "every")) c.in-Some.every (λ t r g. g.0) c.in-Some.ensures.none c.in-Some.ensures.value in
     let text_is = some_same read.0 c.requires.text (sym read.1 ∙ one_text-rows found (codes "every") ∙ c.requires.every) in
     let every_is : c.in-Some.every ≡ number c.requires.text = read.2 ∙ ap number text_is in
+    let times = reads_number 16 (λ t r. ParsesUnsigned 16 10 t r × ExplainsUnsignedError 10 t r × HasUnsignedDigitsIfOk t r) (one_text found (codes "rounds")) c.in-Some-get_one.rounds (λ t r g. g.0) c.in-Some-get_one.ensures.none c.in-Some-get_one.ensures.value in
+    let times_text = some_same times.0 c.requires.rounds_text (sym times.1 ∙ one_text-rows found (codes "rounds") ∙ c.requires.rounds) in
+    let times_are : c.in-Some-get_one.rounds ≡ number c.requires.rounds_text = times.2 ∙ ap number times_text in
     let texts = c.in-Some-get_strs.texts.now in
     let texts_are = some_same (map {A = Bor (List ℕ)} {B = List ℕ} (λ t. t.now) texts) c.requires.paths (c.in-Some-get_strs.ensures ∙ raw_values-rows found (codes "path") ∙ c.requires.paths_are) in
     let count : length c.in_ok-paths.paths.items ≡ length c.requires.paths =
     same_length _ _ c.in_ok-paths.paths.items texts c.in_ok-paths.ensures ∙ sym (length-map texts _) ∙ ap length texts_are in
-    (rw every_is c.requires.least, rw every_is c.requires.most, rw count c.requires.some, rw count c.requires.few)
+    (rw every_is c.requires.least, rw every_is c.requires.most, rw times_are c.requires.rounds_least, rw times_are c.requires.rounds_most, rw count c.requires.some, rw count c.requires.few)

@@ -1,5 +1,6 @@
 // Receivers whose lines a station takes in part.
 ghost use Rattle.std.specs.Prelude.{◌≡◌};
+ghost use Rattle.station_shared.specs.History.{base_of};
 
 use super::{IDENTIFICATION, LIMITS, VELOCITY, close_all, worker};
 use crate::fakes::{Pieces, room_for};
@@ -62,8 +63,9 @@ fn fill_the_journal<L: Total + Send + Sync, R: Threads + Wait + Abort + Sync>(
 ) -> Result<(), Fail>
     requires ledger { (blank.name ≡ L.name) × (blank.parts ≡ L.parts) }
     requires seats { (L.parts ≡ 2) × (L.seats ≡ 2) × (places.places ≡ 2) }
-    requires history { places.history ≡ L.history }
-    requires limits { L.limits ≡ record { entries = 3; aircraft = 8 } }
+    requires start { (L.start.history ≡ places.history) × (L.start.resumed ≡ 0) }
+    requires base { base_of places.history ≡ 0 }
+    requires limits { L.start.limits ≡ record { entries = 3; aircraft = 8 } }
 {
     let limits = Limits {
         entries: 3,
@@ -77,7 +79,7 @@ fn fill_the_journal<L: Total + Send + Sync, R: Threads + Wait + Abort + Sync>(
 
 #[test]
 fn a_full_journal_takes_no_more_of_two_receivers(rt: HostRuntime) -> Result<(), Fail> {
-    let places = Places::<8>::new(&rt, rt.alloc(), 2)?;
+    let places = Places::<8>::new(&rt, rt.alloc(), 0, 2)?;
     fill_the_journal::<Brand, _>(&rt, rt.alloc(), Blank::new(2), places)
 }
 
@@ -89,8 +91,9 @@ fn fill_the_table<L: Total + Send + Sync, R: Threads + Wait + Abort + Sync>(
 ) -> Result<(), Fail>
     requires ledger { (blank.name ≡ L.name) × (blank.parts ≡ L.parts) }
     requires seats { (L.parts ≡ 2) × (L.seats ≡ 2) × (places.places ≡ 2) }
-    requires history { places.history ≡ L.history }
-    requires limits { L.limits ≡ record { entries = 16; aircraft = 1 } }
+    requires start { (L.start.history ≡ places.history) × (L.start.resumed ≡ 0) }
+    requires base { base_of places.history ≡ 0 }
+    requires limits { L.start.limits ≡ record { entries = 16; aircraft = 1 } }
 {
     let limits = Limits {
         entries: 16,
@@ -104,7 +107,7 @@ fn fill_the_table<L: Total + Send + Sync, R: Threads + Wait + Abort + Sync>(
 
 #[test]
 fn a_full_table_takes_no_more_of_two_receivers(rt: HostRuntime) -> Result<(), Fail> {
-    let places = Places::<1>::new(&rt, rt.alloc(), 2)?;
+    let places = Places::<1>::new(&rt, rt.alloc(), 0, 2)?;
     fill_the_table::<Brand, _>(&rt, rt.alloc(), Blank::new(2), places)
 }
 
@@ -116,8 +119,9 @@ fn hear_one_frame<L: Total + Send + Sync, R: Threads + Wait + Abort + Sync>(
 ) -> Result<(), Fail>
     requires ledger { (blank.name ≡ L.name) × (blank.parts ≡ L.parts) }
     requires seats { (L.parts ≡ 2) × (L.seats ≡ 2) × (places.places ≡ 2) }
-    requires history { places.history ≡ L.history }
-    requires limits { L.limits ≡ record { entries = 16; aircraft = 8 } }
+    requires start { (L.start.history ≡ places.history) × (L.start.resumed ≡ 0) }
+    requires base { base_of places.history ≡ 0 }
+    requires limits { L.start.limits ≡ record { entries = 16; aircraft = 8 } }
 {
     let (station, seats) = Station::<8, L>::new(rt, alloc, LIMITS, 2, blank, places)?;
     let heard = run_two(rt, alloc, station, seats, [IDENTIFICATION, IDENTIFICATION]);
@@ -127,6 +131,6 @@ fn hear_one_frame<L: Total + Send + Sync, R: Threads + Wait + Abort + Sync>(
 
 #[test]
 fn a_frame_of_two_receivers_is_taken_once(rt: HostRuntime) -> Result<(), Fail> {
-    let places = Places::<8>::new(&rt, rt.alloc(), 2)?;
+    let places = Places::<8>::new(&rt, rt.alloc(), 0, 2)?;
     hear_one_frame::<Brand, _>(&rt, rt.alloc(), Blank::new(2), places)
 }

@@ -1,4 +1,4 @@
-use Rattle.std.proofs.Common.{◌≡◌, List, [], ◌∷◌, ◌++◌, length, arith, append_assoc, append-nil, refl, sym, ap, subst, ◌∙◌, vec_len}
+use Rattle.std.proofs.Common.{◌≡◌, ◌+◌, List, [], ◌∷◌, ◌++◌, length, arith, append_assoc, append-nil, refl, sym, ap, subst, ◌∙◌, vec_len}
 use Rattle.std.specs.Prelude.{sum_by}
 use Rattle.std.specs.List.{AllByRecursion}
 use Rattle.std.proofs.lemmas.List.{nil_from_length}
@@ -9,7 +9,7 @@ use Rattle.station_journal.specs.Log.{Log, IsLegal}
 use Rattle.station_shared.specs.Closing.{Backed, Closes}
 use Rattle.station_shared.specs.Desk.{State}
 use Rattle.station_shared.specs.Seats.{Seated, log_of}
-use Rattle.station_shared.proofs.Counts.{count_prefix}
+use Rattle.station_shared.proofs.Counts.{count_own}
 use Rattle.station_shared.proofs.Closing.{closes}
 use Rattle.station_shared.proofs.gate.Gate.close.Goals as goal
 
@@ -30,7 +30,7 @@ loop-seat-preserved g c =
     let items : c.args.seats.items ≡ c.pop.new.self.items ++ (seat ∷ i.0) = i.1 ∙ (ap (λ (l : List Seated). l ++ i.0) c.in-Some.ensures.items ∙ append_assoc c.pop.new.self.items (seat ∷ []) i.0) in (
       seat ∷ i.0,
       items,
-      ((seen, omega (arith, parts.counted, count_prefix seat.number seat.seen es seen)), subst (λ (s : State). AllByRecursion (Backed s.log.entries) i.0) (sym same) i.2),
+      ((seen, omega (arith, parts.counted, count_own g.L.Total.start seat.number seat.seen es seen)), subst (λ (s : State). AllByRecursion (Backed g.L.Total.start s.log.entries) i.0) (sym same) i.2),
       omega (arith, c.merge.ensures.parts, parts.share.0, i.3),
       omega (arith, c.merge.ensures.amount, parts.share.1, i.4, sum_by-cons (λ (s : Seated). s.accepted) seat i.0),
       same ∙ i.5,
@@ -45,13 +45,14 @@ returns g c =
     let none : vec_len c.loop-seat.seats ≡ 0 = c.in_default.ensures.cases.0 in
     let empty : c.loop-seat.seats.items ≡ [] = nil_from_length c.loop-seat.seats.items (omega (arith, none, c.loop-seat.seats.ok.0)) in
     let all : c.args.seats.items ≡ i.0 = i.1 ∙ ap (λ (l : List Seated). l ++ i.0) empty in
-    let backed : AllByRecursion (Backed es) c.args.seats.items = subst (λ (s : State). AllByRecursion (Backed s.log.entries) c.args.seats.items) same (subst (λ (l : List Seated). AllByRecursion (Backed c.loop-seat.desk.log.entries) l) (sym all) i.2) in
+    let backed : AllByRecursion (Backed g.L.Total.start es) c.args.seats.items = subst (λ (s : State). AllByRecursion (Backed g.L.Total.start s.log.entries) c.args.seats.items) same (subst (λ (l : List Seated). AllByRecursion (Backed g.L.Total.start c.loop-seat.desk.log.entries) l) (sym all) i.2) in
     let parts : c.loop-seat.rest.parts ≡ g.L.Ledger.parts = i.3 ∙ (ap (λ (l : List Seated). length l) (sym all) ∙ (c.requires.as_many ∙ sym c.self.invariant.5)) in
-    let total : sum_by (λ (s : Seated). s.accepted) c.args.seats.items ≡ length es = ap (λ (l : List Seated). sum_by (λ (s : Seated). s.accepted) l) all ∙ (sym i.4 ∙ (c.audit.ensures.whole parts ∙ c.self.invariant.0)) in
-    let under : log ≡ log_of g.L.Total.limits es = c.self.invariant.1 in
-    let legal : IsLegal (log_of g.L.Total.limits es) = subst (λ (l : Log). IsLegal l) under c.front-known.ensures.legal in
+    let sum : sum_by (λ (s : Seated). s.accepted) c.args.seats.items ≡ c.self.inside.total.total = ap (λ (l : List Seated). sum_by (λ (s : Seated). s.accepted) l) all ∙ (sym i.4 ∙ c.audit.ensures.whole parts) in
+    let total : g.L.Total.start.resumed + sum_by (λ (s : Seated). s.accepted) c.args.seats.items ≡ length es = ap (λ k. g.L.Total.start.resumed + k) sum ∙ c.self.invariant.0 in
+    let under : log ≡ log_of g.L.Total.start es = c.self.invariant.1 in
+    let legal : IsLegal (log_of g.L.Total.start es) = subst (λ (l : Log). IsLegal l) under c.front-known.ensures.legal in
     let given : c.end.result.log ≡ log = c.end.ensures ∙ ap (λ (s : State). s.log) same in
     record {
-      log = given ∙ (under ∙ ap (λ (l : Log). log_of g.L.Total.limits l.entries) (sym given));
-      closes = subst (λ (l : Log). Closes g.L.Total.limits g.L.Total.seats l.entries c.args.seats.items) (sym given) (closes g.L.Total.limits es g.L.Total.seats c.args.seats.items legal c.requires backed total);
+      log = given ∙ (under ∙ ap (λ (l : Log). log_of g.L.Total.start l.entries) (sym given));
+      closes = subst (λ (l : Log). Closes g.L.Total.start g.L.Total.seats l.entries c.args.seats.items) (sym given) (closes g.L.Total.start es g.L.Total.seats c.args.seats.items legal c.requires backed total);
     }

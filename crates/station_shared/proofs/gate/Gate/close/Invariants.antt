@@ -6,7 +6,7 @@ use Rattle.station_shared.proofs.gate.Gate.close.Given as goal
 
 abbrev pub invariant-loop-seat : goal.invariant-loop-seat
 invariant-loop-seat g l =
-    (gone : List Seated) × (l.fn.seats.items ≡ l.seats.items ++ gone) × AllByRecursion (Backed l.desk.log.entries) gone × (l.rest.parts ≡ length gone) × (l.rest.amount ≡ sum_by (λ (s : Seated). s.accepted) gone)
+    (gone : List Seated) × (l.fn.seats.items ≡ l.seats.items ++ gone) × AllByRecursion (Backed g.L.Total.start l.desk.log.entries) gone × (l.rest.parts ≡ length gone) × (l.rest.amount ≡ sum_by (λ (s : Seated). s.accepted) gone)
     × (l.desk ≡ l.initial.desk)
 
 abbrev pub decreases-loop-seat : goal.decreases-loop-seat

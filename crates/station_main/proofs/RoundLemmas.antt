@@ -1,0 +1,80 @@
+-- Rounds of the job `run`, one after another.
+use Rattle.std.proofs.Common.{◌≡◌, ◌∙◌, inl, inr, ℕ, zero, suc, ◌+◌, ◌<◌, ◌≤◌, Bool, List, [], ◌∷◌, ◌++◌, Option, Result, length, length-append, refl, sym, ap, subst, take, drop, reverse, arith}
+use Rattle.std.specs.Prelude.{fold, map, max}
+use Rattle.std.specs.List.{flat_map}
+use Rattle.std.proofs.lemmas.List.{length-map, length-reverse, reverse-append, take-append-drop}
+use Rattle.station_journal.specs.declared.Entry.{Entry}
+use Rattle.station_journal.specs.declared.Limits.{Limits}
+use Rattle.station_journal.specs.declared.ResumeFault.{ResumeFault}
+use Rattle.station_journal.specs.declared.ResumeFault.TheVariants.{TooManyEntries, Unsound, NoMemory}
+use Rattle.station_journal.specs.Resume.{IsSound, Refuses}
+use Rattle.station_shared.specs.Seats.{Seated, Start, newcomer}
+use Rattle.station_shared.specs.declared.pumping.PumpFault.{PumpFault}
+use Rattle.station_shared.specs.declared.tally.Tally.{Tally}
+use Rattle.station_main.specs.Rounds.{Asked, Given, GoesOnFrom, HandsOn, IsCutShort, IsRound, Runs}
+use Rattle.station_main.specs.Run.{Leaves}
+use Rattle.station_main.specs.Status.{answer_status, fault_status}
+use Rattle.station_main.specs.Telling.{Tells, Told, answer_lines, output_lines}
+use Rattle.station_main.proofs.RunJobLemmas.{statuses}
+use Rattle.station_main.proofs.TellLemmas.{flat_map-map}
+
+-- ---- a sound list is refused for want of memory alone
+
+sound_few : (limits : Limits) (base : ℕ) (past : List Entry) → IsSound limits base past → length past ≤ limits.entries
+sound_few limits base [] sound = omega arith
+sound_few limits base (entry ∷ past) sound = sound.2
+
+sound_behind : (limits : Limits) (base : ℕ) (newer past : List Entry) → IsSound limits base (newer ++ past) → IsSound limits base past
+sound_behind limits base [] past sound = sound
+sound_behind limits base (entry ∷ newer) past sound = sound_behind limits base newer past sound.3
+
+sound_front : (limits : Limits) (base k : ℕ) (entries : List Entry) → IsSound limits base (reverse entries) → IsSound limits base (reverse (take k entries))
+sound_front limits base k entries sound =
+    let parts : reverse entries ≡ reverse (drop k entries) ++ reverse (take k entries) = ap (λ (l : List Entry). reverse l) (sym (take-append-drop k entries)) ∙ reverse-append (take k entries) (drop k entries) in
+    sound_behind limits base (reverse (drop k entries)) (reverse (take k entries)) (subst (λ l. IsSound limits base l) parts sound)
+
+pub wants_memory : (limits : Limits) (base : ℕ) (entries : List Entry) (fault : ResumeFault) → IsSound limits base (reverse entries) → Refuses limits base entries fault → (fault ≡ NoMemory → ⊥) → ⊥
+wants_memory limits base entries (TooManyEntries n) sound refuses other = omega (arith, refuses.1, sound_few limits base (reverse entries) sound, length-reverse entries)
+wants_memory limits base entries (Unsound k) sound refuses other = refuses.1.with_it (sound_front limits base (k + 1) entries sound)
+wants_memory limits base entries NoMemory sound refuses other = other refl
+
+-- ---- the last of the seats
+
+pub snoc_end : {A : Type 0} (xs ys : List A) (x y : A) → xs ++ x ∷ [] ≡ ys ++ y ∷ [] → x ≡ y
+snoc_end [] [] x y e = cc
+snoc_end [] (b ∷ ys) x y e = absurd (omega (arith, ap length e, length-append ys (y ∷ [])))
+snoc_end (a ∷ xs) [] x y e = absurd (omega (arith, ap length e, length-append xs (x ∷ [])))
+snoc_end (a ∷ xs) (b ∷ ys) x y e = snoc_end xs ys x y (cc (e))
+
+-- ---- rounds
+
+-- a round, by its output and what is told at its end
+pub is_round : {W : Type 0} (asked : Asked) (given : Given) (start : Start) (closing : Seated) (before after : Option (List ℕ)) (answer : W → Option (Result Tally PumpFault)) (ws : List W) (has_failed : Bool)
+    (err_old err_new : Told) (status : ℕ) → GoesOnFrom given start → length ws ≡ asked.inputs
+    → Leaves start asked.every given.last_tick (newcomer given.entries asked.inputs) closing before after has_failed
+    → Tells err_old err_new (flat_map (λ w. answer_lines (answer w)) ws ++ output_lines has_failed)
+    → status ≡ max (fold (λ worst w. max worst (answer_status (answer w))) 0 ws) (fault_status has_failed)
+    → IsRound asked given start closing before after err_old err_new status
+is_round asked given start closing before after answer ws has_failed err_old err_new status goes_on many output told is = record {
+  goes_on = goes_on;
+  ends = record {
+    has_failed = has_failed;
+    output = output;
+    answers = map answer ws;
+    many = length-map ws answer ∙ many;
+    told = subst (λ lines. Tells err_old err_new (lines ++ output_lines has_failed)) (flat_map-map answer_lines answer ws) told;
+    status_is = statuses answer ws status has_failed is;
+  };
+}
+
+pub cut_short : (asked : Asked) (more : ℕ) (given : Given) (before : Option (List ℕ)) (after : Option (Option (List ℕ))) (err_old err_new : Told) (status : ℕ) → 0 < more
+    → IsCutShort asked given before after err_old err_new status → Runs asked more given before after err_old err_new status
+cut_short asked zero given before after err_old err_new status some cut = absurd (omega (arith, some))
+cut_short asked (suc more) given before after err_old err_new status some cut = inr cut
+
+pub one_more_round : (asked : Asked) (more left : ℕ) (given kept : Given) (before mid : Option (List ℕ)) (after : Option (Option (List ℕ))) (err_old err_mid err_new : Told) (status : ℕ) → more ≡ left + 1
+    → HandsOn asked given before mid err_old err_mid kept → Runs asked left kept mid after err_mid err_new status → Runs asked more given before after err_old err_new status
+one_more_round asked zero left given kept before mid after err_old err_mid err_new status is hands runs = absurd (omega (arith, is))
+one_more_round asked (suc more) left given kept before mid after err_old err_mid err_new status is hands runs =
+    let same : left ≡ more = omega (arith, is) in
+    inl (mid, err_mid, kept, hands, subst (λ k. Runs asked k kept mid after err_mid err_new status) same runs)

@@ -1,0 +1,12 @@
+use Rattle.std.proofs.Common.{subst}
+use Rattle.station_main.specs.Output.{buffered_of}
+use Rattle.station_main.specs.Run.{Leaves}
+use Rattle.station_main.proofs.RunJobLemmas.{leaves}
+use Rattle.station_main.proofs.round.work.Goals as goal
+
+pub returns-clause-output : goal.returns-clause-output
+returns-clause-output g c =
+    let before = (buffered_of g.O.Write.contents c.args.plan.out).taken in
+    let written = c.print_last-reporter.result.1 in
+    subst (λ first. Leaves g.L.Total.start c.args.plan.every c.args.plan.kept.last_tick first c.print_last-reporter.result.0 before (g.O.Write.contents written.out) written.has_failed) c.in-Ok.ensures.reporter
+    (leaves _ _ _ _ _ _ _ _ _ _ _ c.in-Some.ensures.reporter c.print_last-reporter.ensures)

@@ -1,0 +1,112 @@
+-- What the job `run` leaves: its rounds, one after another.
+use Rattle.std.specs.Prelude.{◌≡◌, ◌≤◌, ◌⊎◌, ℕ, zero, suc, List, [], length, reverse, Option, Some, None, option_map, ⊤}
+use mathlib.Core.List.{IsPrefix}
+use Rattle.station_journal.specs.declared.Entry.{Entry}
+use Rattle.station_journal.specs.Log.{IsLegal, clock_of}
+use Rattle.station_journal.specs.Resume.{IsSound, recent_base, recent_of}
+use Rattle.station_shared.specs.History.{base_of}
+use Rattle.station_shared.specs.Seats.{Seated, Start, log_of, newcomer}
+use Rattle.station_main.specs.Limits.{program_limits}
+use Rattle.station_main.specs.Run.{Ends, EndsEarly}
+use Rattle.station_main.specs.Telling.{Tells, Told, fault_line}
+use Rattle.station_main.specs.declared.faults.Fault.{Fault}
+use Rattle.station_main.specs.declared.faults.Fault.TheVariants as fault
+use Rattle.station_main.specs.declared.kept.Kept.{Kept}
+use Rattle.station_main.specs.declared.round.Round.{Round}
+use Rattle.station_main.specs.declared.round.Round.TheVariants.{Over, GoesOn}
+
+-- what a round goes on from: entries with the base of their clock, and the moment of the last tick before it
+pub record Given : Type 0 where
+  pub base : ℕ
+  pub entries : List Entry
+  pub last_tick : ℕ
+
+-- the first round begins with nothing
+abbrev pub nothing : Given
+nothing = record { base = 0; entries = []; last_tick = 0 }
+
+-- a station under the limits of the program that goes on from there
+pub record GoesOnFrom (given : Given) (start : Start) : Type 0 where
+  pub limits : start.limits ≡ program_limits
+  pub base : base_of start.history ≡ given.base
+  pub resumed : start.resumed ≡ length given.entries
+
+-- what was asked of a run
+pub record Asked : Type 0 where
+  pub every : ℕ
+  pub inputs : ℕ
+
+-- a round of a station: its reporter's seat, the one after the inputs' seats, has seen what the round goes on from
+pub record IsRound (asked : Asked) (given : Given) (start : Start) (closing : Seated) (before after : Option (List ℕ)) (err_old err_new : Told) (status : ℕ) : Type 0 where
+  pub goes_on : GoesOnFrom given start
+  pub ends : Ends start asked.every given.last_tick asked.inputs (newcomer given.entries asked.inputs) closing before after err_old err_new status
+
+-- what is kept of the journal of a closed station, which begins with all that a seat has seen: its recent entries, which are
+-- sound under the limits of the program
+pub record IsKept (start : Start) (closing : Seated) (kept : Given) : Type 0 where
+  pub journal : List Entry
+  pub legal : IsLegal (log_of start journal)
+  pub shown : IsPrefix closing.seen journal
+  pub base : kept.base ≡ recent_base (base_of start.history) (reverse journal)
+  pub entries : reverse kept.entries ≡ recent_of (base_of start.history) (reverse journal)
+  pub last_tick : kept.last_tick ≡ clock_of (log_of start journal)
+  pub sound : IsSound program_limits kept.base (reverse kept.entries)
+
+-- a round without a fault, and what the next goes on from
+pub record HandsOn (asked : Asked) (given : Given) (before after : Option (List ℕ)) (err_old err_new : Told) (kept : Given) : Type 0 where
+  pub start : Start
+  pub closing : Seated
+  pub round : IsRound asked given start closing before after err_old err_new 0
+  pub is_kept : IsKept start closing kept
+
+-- a fault between two rounds
+abbrev pub IsBetween : Fault → Type 0
+IsBetween fault.NoMemory = ⊤
+IsBetween fault.SeatLost = ⊤
+IsBetween fault.ThreadNotStarted = ⊥
+IsBetween (fault.CannotOpen path) = ⊥
+IsBetween fault.Read = ⊥
+IsBetween fault.Write = ⊥
+IsBetween fault.TooManyReads = ⊥
+
+-- a round without a fault, after which nothing could be kept
+pub record KeepsNothing (asked : Asked) (given : Given) (before after : Option (List ℕ)) (err_old err_new : Told) (status : ℕ) : Type 0 where
+  pub start : Start
+  pub closing : Seated
+  pub err_mid : Told
+  pub round : IsRound asked given start closing before after err_old err_mid 0
+  pub fault : Fault
+  pub between : IsBetween fault
+  pub told : Tells err_mid err_new (fault_line fault)
+  pub status_is : status ≡ 1
+
+-- a round that nothing follows; without an output nothing was read in it
+abbrev pub IsLast : Asked → Given → Option (List ℕ) → Option (Option (List ℕ)) → Told → Told → ℕ → Type 0
+IsLast asked given before None err_old err_new status = EndsEarly err_old err_new status
+IsLast asked given before (Some after) err_old err_new status =
+    (start : Start) × (closing : Seated) × IsRound asked given start closing before after err_old err_new status
+
+-- a round with a fault, which ends the run though others were to follow
+abbrev pub IsCutShort : Asked → Given → Option (List ℕ) → Option (Option (List ℕ)) → Told → Told → ℕ → Type 0
+IsCutShort asked given before None err_old err_new status = EndsEarly err_old err_new status
+IsCutShort asked given before (Some after) err_old err_new status =
+    ((start : Start) × (closing : Seated) × (status ≡ 1) × IsRound asked given start closing before after err_old err_new status)
+    ⊎ KeepsNothing asked given before after err_old err_new status
+
+-- a last round after so many others, each of which goes on from what is kept of the one before, or fewer up to a fault
+abbrev pub Runs : Asked → ℕ → Given → Option (List ℕ) → Option (Option (List ℕ)) → Told → Told → ℕ → Type 0
+Runs asked zero given before after err_old err_new status = IsLast asked given before after err_old err_new status
+Runs asked (suc more) given before after err_old err_new status =
+    ((mid : Option (List ℕ)) × (err_mid : Told) × (kept : Given)
+    × HandsOn asked given before mid err_old err_mid kept × Runs asked more kept mid after err_mid err_new status)
+    ⊎ IsCutShort asked given before after err_old err_new status
+
+-- what a round hands on, as the next is given it
+abbrev pub given_of : Kept → Given
+given_of kept = record { base = kept.recent.base; entries = kept.recent.entries.items; last_tick = kept.last_tick }
+
+-- a round that others are to follow, by its answer
+abbrev pub EndsRound : {O : Type 0} → (O → Option (List ℕ)) → Asked → Given → Option (List ℕ) → Told → Told → Round O → Type 0
+EndsRound contents asked given before err_old err_new (Over ran) =
+    (ran.status ≤ 1) × IsCutShort asked given before (option_map contents ran.out) err_old err_new ran.status
+EndsRound contents asked given before err_old err_new (GoesOn out kept) = HandsOn asked given before (contents out) err_old err_new (given_of kept)
