@@ -1,4 +1,5 @@
 mod outputs;
+mod rounds;
 mod run;
 mod staged;
 mod through_time;

@@ -12,18 +12,18 @@ use std::thread::Threads;
 use std::time::Clock;
 use std::{env, fs, io};
 
-const IDENTIFICATION: &str = "*8D4840D6202CC371C32CE0576098;\n";
+pub const IDENTIFICATION: &str = "*8D4840D6202CC371C32CE0576098;\n";
 
-const VELOCITY: &str = "*8D485020994409940838175B284F;\n";
+pub const VELOCITY: &str = "*8D485020994409940838175B284F;\n";
 
-const TABLE_OF_BOTH: &str = concat!(
+pub const TABLE_OF_BOTH: &str = concat!(
     "now 0 aircraft 2\n",
     "  ADDR CALLSIGN    ALT SQWK     VELOCITY   VERT        LAT        LON AGE\n",
     "4840D6 KLM1023       -    -            -      -          -          -   0\n",
     "485020 -             -    -      -8/-159   -832          -          -   0\n",
 );
 
-const ONE_FRAME_EACH: &str = concat!(
+pub const ONE_FRAME_EACH: &str = concat!(
     "lines 1 frames 1 ticks 0 shows 0 blank 0 modeac 0 faults 0 accepted 1 refused 0\n",
     "lines 1 frames 1 ticks 0 shows 0 blank 0 modeac 0 faults 0 accepted 1 refused 0\n",
 );
@@ -38,7 +38,7 @@ const SECOND_ACCEPTED: &str = concat!(
     "lines 1 frames 1 ticks 0 shows 0 blank 0 modeac 0 faults 0 accepted 1 refused 0\n",
 );
 
-const NO_THREAD: &str = "groundstation: thread not started\n";
+pub const NO_THREAD: &str = "groundstation: thread not started\n";
 
 const FIRST_WITHOUT_MEMORY: &str = concat!(
     "lines 1 frames 1 ticks 0 shows 0 blank 0 modeac 0 faults 0 accepted 0 refused 1\n",
@@ -58,18 +58,18 @@ const TABLE_OF_FIRST: &str = concat!(
     "4840D6 KLM1023       -    -            -      -          -          -   0\n",
 );
 
-const TABLE_OF_SECOND: &str = concat!(
+pub const TABLE_OF_SECOND: &str = concat!(
     "now 0 aircraft 1\n",
     "  ADDR CALLSIGN    ALT SQWK     VELOCITY   VERT        LAT        LON AGE\n",
     "485020 -             -    -      -8/-159   -832          -          -   0\n",
 );
 
-// Two files in a folder of their own.
+/// Two files in a folder of their own.
 #[derive(Drop)]
-struct TwoFiles {
-    folder: PathBuf,
-    first: PathBuf,
-    second: PathBuf,
+pub struct TwoFiles {
+    pub folder: PathBuf,
+    pub first: PathBuf,
+    pub second: PathBuf,
 }
 
 fn new_folder<R: Files + AllocGlobal + env::Env>(rt: &R) -> io::Result<PathBuf> {
@@ -98,8 +98,8 @@ fn two_paths<R: Files + AllocGlobal>(
     Ok((first, second))
 }
 
-// Where the folder or a file is refused, it is made once more.
-fn two_files<R: Files + AllocGlobal + env::Env>(
+/// Where the folder or a file is refused, it is made once more.
+pub fn two_files<R: Files + AllocGlobal + env::Env>(
     rt: &R,
     first_text: &str,
     second_text: &str,
@@ -119,15 +119,15 @@ fn two_files<R: Files + AllocGlobal + env::Env>(
     })
 }
 
-// Where the folder stays, it is removed once more.
-fn remove<R: Files + AllocGlobal>(rt: &R, files: &TwoFiles) -> io::Result<()> {
+/// Where the folder stays, it is removed once more.
+pub fn remove<R: Files + AllocGlobal>(rt: &R, files: &TwoFiles) -> io::Result<()> {
     match fs::remove_dir_all(rt, &files.folder) {
         Ok(()) => Ok(()),
         Err(_) => fs::remove_dir_all(rt, &files.folder),
     }
 }
 
-fn path_text(path: &PathBuf) -> Result<&str, AllocError> {
+pub fn path_text(path: &PathBuf) -> Result<&str, AllocError> {
     match path.as_path().to_str() {
         Some(path) => Ok(path),
         None => Err(AllocError),
@@ -147,9 +147,9 @@ fn run_two<R: Threads + Wait + Clock + Files<File = File> + Sync + AllocGlobal +
     )
 }
 
-// What was shown where the program was refused memory or a thread: nothing where no path was read, and else the other
-// path's aircraft.
-fn shown_where_refused(told: &str) -> Option<&'static str> {
+/// What was shown where the program was refused memory or a thread: nothing where no path was read, and else the other
+/// path's aircraft.
+pub fn shown_where_refused(told: &str) -> Option<&'static str> {
     if told == NO_MEMORY || told == NO_THREAD {
         Some("")
     } else if told == FIRST_WITHOUT_MEMORY {

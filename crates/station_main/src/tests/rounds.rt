@@ -1,0 +1,129 @@
+// The job `run` in more rounds than one.
+use super::run::{
+    IDENTIFICATION, NO_THREAD, ONE_FRAME_EACH, TABLE_OF_BOTH, TABLE_OF_SECOND, VELOCITY, path_text,
+    remove, shown_where_refused, two_files,
+};
+use super::{Closed, NO_LINES, NO_MEMORY, Ran, run_words, stream, text};
+use crate::program::program;
+use std::fs::File;
+use std::io;
+use std::process::Abort;
+use std::rt::Files;
+use std::sync::Wait;
+use std::thread::Threads;
+use std::time::Clock;
+
+const ONE_FRAME_REFUSED_EACH: &str = concat!(
+    "lines 1 frames 1 ticks 0 shows 0 blank 0 modeac 0 faults 0 accepted 0 refused 1\n",
+    "lines 1 frames 1 ticks 0 shows 0 blank 0 modeac 0 faults 0 accepted 0 refused 1\n",
+);
+
+fn run_two_rounds<R: Threads + Wait + Clock + Files<File = File> + Sync + AllocGlobal + Abort>(
+    rt: &R,
+    first: &str,
+    second: &str,
+) -> Ran {
+    let words = [
+        "groundstation",
+        "run",
+        "--every",
+        "3600000",
+        "--rounds",
+        "2",
+        first,
+        second,
+    ];
+    run_words(rt, words.as_slice(), NO_LINES)
+}
+
+// What was shown where the program was refused memory or a thread, in either of two rounds.
+fn shown_where_a_round_is_refused(told: &str) -> Option<&'static str> {
+    match told.strip_prefix(ONE_FRAME_EACH) {
+        Some(fault) if fault == NO_MEMORY || fault == NO_THREAD => Some(TABLE_OF_BOTH),
+        Some(_) => None,
+        None => shown_where_refused(told),
+    }
+}
+
+// No tick comes between the rounds, so the frames of the second are those of the first once more.
+#[test]
+fn a_second_round_goes_on_from_the_first(rt: HostRuntime) -> io::Result<()> {
+    let files = two_files(&rt, IDENTIFICATION, VELOCITY)?;
+    let (first, second) = (path_text(&files.first)?, path_text(&files.second)?);
+    let mut ran = run_two_rounds(&rt, first, second);
+    if let Some(shown) = shown_where_a_round_is_refused(text(&ran.err)) {
+        assert_eq!(rt; text(&ran.out), shown);
+        assert_eq!(rt; ran.status, 1);
+        ran = run_two_rounds(&rt, first, second);
+    }
+    let second_table = text(&ran.out).strip_prefix(TABLE_OF_BOTH);
+    assert_eq!(rt; second_table, Some(TABLE_OF_BOTH));
+    let second_tallies = text(&ran.err).strip_prefix(ONE_FRAME_EACH);
+    assert_eq!(rt; second_tallies, Some(ONE_FRAME_REFUSED_EACH));
+    assert_eq!(rt; ran.status, 0);
+    remove(&rt, &files)
+}
+
+// Whether the program was refused memory or a thread.
+fn is_refused(told: &str) -> bool {
+    told.contains(NO_MEMORY) || told.contains(NO_THREAD)
+}
+
+// The first path is a folder, which can't be read.
+#[test]
+fn a_failed_read_ends_the_run_after_its_round(rt: HostRuntime) -> io::Result<()> {
+    let files = two_files(&rt, IDENTIFICATION, VELOCITY)?;
+    let (folder, second) = (path_text(&files.folder)?, path_text(&files.second)?);
+    let mut ran = run_two_rounds(&rt, folder, second);
+    if is_refused(text(&ran.err)) {
+        assert_eq!(rt; ran.status, 1);
+        ran = run_two_rounds(&rt, folder, second);
+    }
+    assert_eq!(rt; text(&ran.out), TABLE_OF_SECOND);
+    assert_eq!(rt;
+        text(&ran.err),
+        "lines 0 frames 0 ticks 0 shows 0 blank 0 modeac 0 faults 0 accepted 0 refused 0\n\
+        groundstation: read failed\n\
+        lines 1 frames 1 ticks 0 shows 0 blank 0 modeac 0 faults 0 accepted 1 refused 0\n"
+    );
+    assert_eq!(rt; ran.status, 1);
+    remove(&rt, &files)
+}
+
+// Runs over two paths into an output that takes nothing.
+fn run_closed<R: Threads + Wait + Clock + Files<File = File> + Sync + AllocGlobal + Abort>(
+    rt: &R,
+    first: &str,
+    second: &str,
+) -> Ran {
+    let words = [
+        "groundstation",
+        "run",
+        "--every=3600000",
+        "--rounds=2",
+        first,
+        second,
+    ];
+    let mut err = stream(rt, rt.alloc());
+    let status = program(rt, rt.alloc(), words.as_slice(), NO_LINES, Closed, &mut err);
+    Ran {
+        status,
+        out: Vec::new(rt.alloc()),
+        err,
+    }
+}
+
+#[test]
+fn a_failed_write_ends_the_run_after_its_round(rt: HostRuntime) -> io::Result<()> {
+    let files = two_files(&rt, IDENTIFICATION, VELOCITY)?;
+    let (first, second) = (path_text(&files.first)?, path_text(&files.second)?);
+    let mut ran = run_closed(&rt, first, second);
+    if is_refused(text(&ran.err)) {
+        assert_eq!(rt; ran.status, 1);
+        ran = run_closed(&rt, first, second);
+    }
+    let fault = text(&ran.err).strip_prefix(ONE_FRAME_EACH);
+    assert_eq!(rt; fault, Some("groundstation: write failed\n"));
+    assert_eq!(rt; ran.status, 1);
+    remove(&rt, &files)
+}
