@@ -3,13 +3,15 @@ use super::run::{
     IDENTIFICATION, NO_THREAD, ONE_FRAME_EACH, TABLE_OF_BOTH, TABLE_OF_SECOND, VELOCITY, path_text,
     remove, shown_where_refused, two_files,
 };
+use super::staged::{Staged, lasting_path};
 use super::{Closed, NO_LINES, NO_MEMORY, Ran, run_words, stream, text};
 use crate::program::program;
-use std::fs::File;
-use std::io;
+use std::fs::{File, OpenOptions};
+use std::io::{self, Write};
 use std::process::Abort;
 use std::rt::Files;
 use std::sync::Wait;
+use std::sync::atomic::AtomicBool;
 use std::thread::Threads;
 use std::time::Clock;
 
@@ -126,4 +128,99 @@ fn a_failed_write_ends_the_run_after_its_round(rt: HostRuntime) -> io::Result<()
     assert_eq!(rt; fault, Some("groundstation: write failed\n"));
     assert_eq!(rt; ran.status, 1);
     remove(&rt, &files)
+}
+
+// Takes tables. The last one of a round opens the path once more for lines, and the next one ends it. Each lets the
+// clock go on: up to the second round's tick, past it, and up to the third round's.
+#[derive(Drop)]
+struct Turning<'a, R> {
+    staged: &'a Staged<'a, R>,
+    path: &'a str,
+    taken: &'a mut Vec<u8>,
+    lines: Option<File>,
+    tables: usize,
+}
+
+impl<'a, R: Clock + Files<File = File>> Write for Turning<'a, R> {
+    fn write(&mut self, piece: &[u8]) -> io::Result<usize> {
+        self.tables = self.tables.saturating_add(1);
+        self.lines = None;
+        match self.tables {
+            1 => self.staged.hold_at(4),
+            2 => self.staged.hold_at(5),
+            3 => self.staged.hold_at(7),
+            _ => (),
+        }
+        if self.tables == 1 || self.tables == 3 {
+            let lines = OpenOptions::new().write(true).open(self.staged, self.path)?;
+            self.lines = Some(lines);
+        }
+        self.taken.write(piece)
+    }
+
+    fn flush(&mut self) -> io::Result<()> {
+        Ok(())
+    }
+}
+
+// A frame comes in the first round, whose clock stands. The second round ticks at 5,000 ms and ends at 7,000 ms. The
+// third doesn't tick at 9,999 ms, and does at 10,000 ms.
+const MOMENTS: [u64; 7] = [
+    1_000_000, 1_000_050, 1_004_999, 1_005_000, 1_007_000, 1_009_999, 1_010_000,
+];
+
+const TABLES_OF_THREE_ROUNDS: &str = concat!(
+    "now 0 aircraft 1\n",
+    "  ADDR CALLSIGN    ALT SQWK     VELOCITY   VERT        LAT        LON AGE\n",
+    "4840D6 KLM1023       -    -            -      -          -          -   0\n",
+    "now 5000 aircraft 1\n",
+    "  ADDR CALLSIGN    ALT SQWK     VELOCITY   VERT        LAT        LON AGE\n",
+    "4840D6 KLM1023       -    -            -      -          -          -   5\n",
+    "now 5000 aircraft 1\n",
+    "  ADDR CALLSIGN    ALT SQWK     VELOCITY   VERT        LAT        LON AGE\n",
+    "4840D6 KLM1023       -    -            -      -          -          -   5\n",
+    "now 10000 aircraft 1\n",
+    "  ADDR CALLSIGN    ALT SQWK     VELOCITY   VERT        LAT        LON AGE\n",
+    "4840D6 KLM1023       -    -            -      -          -          -  10\n",
+    "now 10000 aircraft 1\n",
+    "  ADDR CALLSIGN    ALT SQWK     VELOCITY   VERT        LAT        LON AGE\n",
+    "4840D6 KLM1023       -    -            -      -          -          -  10\n",
+);
+
+const TALLIES_OF_THREE_ROUNDS: &str = concat!(
+    "lines 1 frames 1 ticks 0 shows 0 blank 0 modeac 0 faults 0 accepted 1 refused 0\n",
+    "lines 0 frames 0 ticks 0 shows 0 blank 0 modeac 0 faults 0 accepted 0 refused 0\n",
+    "lines 0 frames 0 ticks 0 shows 0 blank 0 modeac 0 faults 0 accepted 0 refused 0\n",
+);
+
+#[test]
+fn a_round_keeps_the_clock_and_the_ages(rt: HostRuntime) -> io::Result<()> {
+    let has_ended = AtomicBool::new(false);
+    let staged = Staged::new(&rt, MOMENTS.as_slice(), &has_ended);
+    staged.hold_at(1);
+    let mut lasting = lasting_path(&rt, rt.alloc())?;
+    lasting.lines.write_all(IDENTIFICATION.as_bytes())?;
+    let path = lasting.path.as_str();
+    drop(lasting.lines);
+    let words = ["groundstation", "run", "--every=5000", "--rounds=3", path];
+    let (mut taken, mut err) = (Vec::new(rt.alloc()), Vec::new(rt.alloc()));
+    let out = Turning {
+        staged: &staged,
+        path,
+        taken: &mut taken,
+        lines: None,
+        tables: 0,
+    };
+    let status = program(
+        &staged,
+        rt.alloc(),
+        words.as_slice(),
+        NO_LINES,
+        out,
+        &mut err,
+    );
+    assert_eq!(rt; text(&taken), TABLES_OF_THREE_ROUNDS);
+    assert_eq!(rt; text(&err), TALLIES_OF_THREE_ROUNDS);
+    assert_eq!(rt; status, 0);
+    Ok(())
 }

@@ -10,11 +10,13 @@ use std::thread::{self, Threads};
 use std::time::{Clock, Duration};
 
 /// A runtime whose clock shows one moment after another, in milliseconds: each sleep ends at the next. At the last it
-/// stands, and the word is set by the sleep after it.
+/// stands, and the word is set by the sleep after it. It stands before that where it is held.
 #[derive(Drop)]
 pub struct Staged<'a, R> {
     rt: &'a R,
     moments: &'a [u64],
+    // How many moments it may show.
+    most: AtomicUsize,
     sleeps: AtomicUsize,
     has_ended: &'a AtomicBool,
 }
@@ -24,9 +26,18 @@ impl<'a, R> Staged<'a, R> {
         Staged {
             rt,
             moments,
+            most: AtomicUsize::new(moments.len()),
             sleeps: AtomicUsize::new(0),
             has_ended,
         }
+    }
+
+    /// Holds the clock at the last of so many moments, 1 at least. It goes on from where it was held before.
+    pub fn hold_at(&self, most: usize) {
+        let shown = self.sleeps.load(Ordering::SeqCst);
+        let last = self.most.load(Ordering::SeqCst).saturating_sub(1);
+        self.sleeps.store(shown.min(last), Ordering::SeqCst);
+        self.most.store(most, Ordering::SeqCst);
     }
 }
 
@@ -36,7 +47,10 @@ impl<'a, R: Wait> Wait for Staged<'a, R> {}
 
 impl<'a, R: Clock> Clock for Staged<'a, R> {
     fn monotonic(&self) -> io::Result<Duration> {
-        let shown = self.moments.get(self.sleeps.load(Ordering::SeqCst));
+        let held = self.most.load(Ordering::SeqCst).saturating_sub(1);
+        let shown = self
+            .moments
+            .get(self.sleeps.load(Ordering::SeqCst).min(held));
         let last = self.moments.last();
         Ok(Duration::from_millis(*shown.or(last).unwrap_or(&0)))
     }
@@ -50,7 +64,7 @@ impl<'a, R: Clock> Clock for Staged<'a, R> {
         thread::sleep(self.rt, Duration::from_millis(1));
         if duration <= Duration::from_millis(50) {
             let before = self.sleeps.fetch_add(1, Ordering::SeqCst);
-            if before >= self.moments.len() {
+            if before >= self.most.load(Ordering::SeqCst) {
                 self.has_ended.store(true, Ordering::SeqCst);
             }
         }
