@@ -1,17 +1,22 @@
 -- Rounds of the job `run`, one after another.
-use Rattle.std.proofs.Common.{◌≡◌, ◌∙◌, inl, inr, ℕ, zero, suc, ◌+◌, ◌<◌, ◌≤◌, Bool, List, [], ◌∷◌, ◌++◌, Option, Result, length, length-append, refl, sym, ap, subst, take, drop, reverse, arith}
+use Rattle.std.proofs.Common.{◌≡◌, ◌∙◌, inl, inr, ℕ, zero, suc, ◌+◌, ◌<◌, ◌≤◌, Bool, List, [], ◌∷◌, ◌++◌, Option, Result, length, length-append, refl, sym, ap, subst, take, reverse, arith}
 use Rattle.std.specs.Prelude.{fold, map, max}
 use Rattle.std.specs.List.{flat_map}
-use Rattle.std.proofs.lemmas.List.{length-map, length-reverse, reverse-append, take-append-drop}
+use Rattle.std.proofs.lemmas.List.{length-map, length-reverse, length-take-le}
 use Rattle.station_journal.specs.declared.Entry.{Entry}
 use Rattle.station_journal.specs.declared.Limits.{Limits}
 use Rattle.station_journal.specs.declared.ResumeFault.{ResumeFault}
 use Rattle.station_journal.specs.declared.ResumeFault.TheVariants.{TooManyEntries, Unsound, NoMemory}
-use Rattle.station_journal.specs.Resume.{IsSound, Refuses}
+use Rattle.station_journal.specs.Resume.{IsSound, Refuses, recent_base}
+use Rattle.station_journal.proofs.SoundLemmas.{sound_by_fits}
+use Rattle.station_journal.proofs.StandsLemmas.{length_sound, recent_stands, sound_from_legal}
+use Rattle.station_shared.specs.History.{base_of}
 use Rattle.station_shared.specs.Seats.{Seated, Start, newcomer}
 use Rattle.station_shared.specs.declared.pumping.PumpFault.{PumpFault}
 use Rattle.station_shared.specs.declared.tally.Tally.{Tally}
-use Rattle.station_main.specs.Rounds.{Asked, Given, GoesOnFrom, HandsOn, IsCutShort, IsRound, Runs}
+use Rattle.station_shared.proofs.Starts.{sound_at, sound_front}
+use Rattle.station_main.specs.Limits.{program_limits}
+use Rattle.station_main.specs.Rounds.{Asked, Given, GoesOnFrom, HandsOn, IsCutShort, IsKept, IsRound, Runs}
 use Rattle.station_main.specs.Run.{Leaves}
 use Rattle.station_main.specs.Status.{answer_status, fault_status}
 use Rattle.station_main.specs.Telling.{Tells, Told, answer_lines, output_lines}
@@ -20,23 +25,21 @@ use Rattle.station_main.proofs.TellLemmas.{flat_map-map}
 
 -- ---- a sound list is refused for want of memory alone
 
-sound_few : (limits : Limits) (base : ℕ) (past : List Entry) → IsSound limits base past → length past ≤ limits.entries
-sound_few limits base [] sound = omega arith
-sound_few limits base (entry ∷ past) sound = sound.2
-
-sound_behind : (limits : Limits) (base : ℕ) (newer past : List Entry) → IsSound limits base (newer ++ past) → IsSound limits base past
-sound_behind limits base [] past sound = sound
-sound_behind limits base (entry ∷ newer) past sound = sound_behind limits base newer past sound.3
-
-sound_front : (limits : Limits) (base k : ℕ) (entries : List Entry) → IsSound limits base (reverse entries) → IsSound limits base (reverse (take k entries))
-sound_front limits base k entries sound =
-    let parts : reverse entries ≡ reverse (drop k entries) ++ reverse (take k entries) = ap (λ (l : List Entry). reverse l) (sym (take-append-drop k entries)) ∙ reverse-append (take k entries) (drop k entries) in
-    sound_behind limits base (reverse (drop k entries)) (reverse (take k entries)) (subst (λ l. IsSound limits base l) parts sound)
-
 pub wants_memory : (limits : Limits) (base : ℕ) (entries : List Entry) (fault : ResumeFault) → IsSound limits base (reverse entries) → Refuses limits base entries fault → (fault ≡ NoMemory → ⊥) → ⊥
-wants_memory limits base entries (TooManyEntries n) sound refuses other = omega (arith, refuses.1, sound_few limits base (reverse entries) sound, length-reverse entries)
-wants_memory limits base entries (Unsound k) sound refuses other = refuses.1.with_it (sound_front limits base (k + 1) entries sound)
+wants_memory limits base entries (TooManyEntries n) sound refuses other = omega (arith, refuses.1, length_sound limits base (reverse entries) sound, length-reverse entries)
+wants_memory limits base entries (Unsound k) sound refuses other =
+    let front = take (k + 1) entries in
+    let few : length front ≤ limits.entries = omega (arith, refuses.0, length-take-le (k + 1) entries (omega (arith, refuses.1.within)), refuses.1.within) in
+    refuses.1.with_it (sound_at limits limits.aircraft base front refl few (sound_front limits.aircraft base (k + 1) entries (sound_by_fits limits base (reverse entries) sound)))
 wants_memory limits base entries NoMemory sound refuses other = other refl
+
+-- what is kept of a station under the limits of the program may be resumed from under them
+pub kept_sound : (start : Start) (closing : Seated) (kept : Given) → start.limits ≡ program_limits → IsKept start closing kept → IsSound program_limits kept.base (reverse kept.entries)
+kept_sound start closing kept limits is =
+    let base = base_of start.history in
+    let past = reverse is.journal in
+    let stands = recent_stands start.limits base past (sound_from_legal start.limits base start.resumed past is.legal) in
+    subst (λ under. IsSound under kept.base (reverse kept.entries)) limits (subst (λ from. IsSound start.limits from (reverse kept.entries)) (sym is.base) (subst (λ entries. IsSound start.limits (recent_base base past) entries) (sym is.entries) stands.sound))
 
 -- ---- the last of the seats
 

@@ -3,7 +3,7 @@ use Rattle.std.specs.Prelude.{◌≡◌, ◌≤◌, ◌⊎◌, ℕ, zero, suc, L
 use mathlib.Core.List.{IsPrefix}
 use Rattle.station_journal.specs.declared.Entry.{Entry}
 use Rattle.station_journal.specs.Log.{IsLegal, clock_of}
-use Rattle.station_journal.specs.Resume.{IsSound, recent_base, recent_of}
+use Rattle.station_journal.specs.Resume.{recent_base, recent_of}
 use Rattle.station_shared.specs.History.{base_of}
 use Rattle.station_shared.specs.Seats.{Seated, Start, log_of, newcomer}
 use Rattle.station_main.specs.Limits.{program_limits}
@@ -41,8 +41,7 @@ pub record IsRound (asked : Asked) (given : Given) (start : Start) (closing : Se
   pub goes_on : GoesOnFrom given start
   pub ends : Ends start asked.every given.last_tick asked.inputs (newcomer given.entries asked.inputs) closing before after err_old err_new status
 
--- what is kept of the journal of a closed station, which begins with all that a seat has seen: its recent entries, which are
--- sound under the limits of the program
+-- what is kept of the journal of a closed station, which begins with all that a seat has seen: its recent entries
 pub record IsKept (start : Start) (closing : Seated) (kept : Given) : Type 0 where
   pub journal : List Entry
   pub legal : IsLegal (log_of start journal)
@@ -50,7 +49,6 @@ pub record IsKept (start : Start) (closing : Seated) (kept : Given) : Type 0 whe
   pub base : kept.base ≡ recent_base (base_of start.history) (reverse journal)
   pub entries : reverse kept.entries ≡ recent_of (base_of start.history) (reverse journal)
   pub last_tick : kept.last_tick ≡ clock_of (log_of start journal)
-  pub sound : IsSound program_limits kept.base (reverse kept.entries)
 
 -- a round without a fault, and what the next goes on from
 pub record HandsOn (asked : Asked) (given : Given) (before after : Option (List ℕ)) (err_old err_new : Told) (kept : Given) : Type 0 where

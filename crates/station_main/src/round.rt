@@ -279,8 +279,7 @@ fn hand_on<L: Total, R: Wait, O: Write + Drop, E: Write>(
     worked: Worked<L, O>,
     err: &mut StandardError<E>,
 ) -> Round<O>
-    requires answered { All (λ r. is_some r.answer ≡ true) worked.receivers.items }
-    requires limits { L.start.limits ≡ program_limits }
+    requires { All (λ r. is_some r.answer ≡ true) worked.receivers.items }
     ensures { (asked : Asked) (given : Given) (before : Option (List ℕ)) →
         length worked.receivers.items ≡ asked.inputs → GoesOnFrom given L.start →
         Leaves L.start asked.every given.last_tick (newcomer given.entries asked.inputs) worked.reporter
@@ -318,7 +317,6 @@ fn keep<L: Total, R: Wait>(
     receivers: Vec<Receiver<L>>,
     reporter: Seat<AIRCRAFT, L>,
 ) -> Result<Kept, Fault<'static>>
-    requires { L.start.limits ≡ program_limits }
     ensures kept { IfOk result (λ kept. IsKept L.start reporter (given_of kept)) }
     ensures between { IfErr result IsBetween }
 {
