@@ -8,8 +8,9 @@ use Rattle.station_journal.specs.declared.Entry.TheVariants.{Tick}
 use Rattle.station_journal.specs.declared.Refusal.{Refusal}
 use Rattle.station_report.specs.Sink.{TakesAll, counted}
 use Rattle.station_report.specs.declared.sinks.WriteFault.{WriteFault}
-use Rattle.station_shared.specs.Seats.{Seated, Start, Accepted, Refused, Looks}
-use Rattle.station_shared.specs.History.{Known}
+use Rattle.station_desk.specs.Start.{Start}
+use Rattle.station_shared.specs.Seats.{Seated, Accepted, Refused, Looks}
+use Rattle.station_desk.specs.History.{Known}
 use Rattle.station_main.specs.Output.{Printed}
 use Rattle.station_main.specs.Reporter.{IsShowing, Reports, Showing, Showings, Ticks, due_moments, looks_of, next_moment, seat_after}
 use Rattle.station_main.specs.Tables.{Prints, PassesOver, PrintsAtMost, TakesTexts, shown, texts, failures_after}

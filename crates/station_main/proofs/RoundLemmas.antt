@@ -10,11 +10,12 @@ use Rattle.station_journal.specs.declared.ResumeFault.TheVariants.{TooManyEntrie
 use Rattle.station_journal.specs.Resume.{IsSound, Refuses, recent_base}
 use Rattle.station_journal.proofs.SoundLemmas.{sound_by_fits}
 use Rattle.station_journal.proofs.StandsLemmas.{length_sound, recent_stands, sound_from_legal}
-use Rattle.station_shared.specs.History.{base_of}
-use Rattle.station_shared.specs.Seats.{Seated, Start, newcomer}
-use Rattle.station_shared.specs.declared.pumping.PumpFault.{PumpFault}
-use Rattle.station_shared.specs.declared.tally.Tally.{Tally}
-use Rattle.station_shared.proofs.Starts.{sound_at, sound_front}
+use Rattle.station_desk.specs.History.{base_of}
+use Rattle.station_desk.specs.Start.{Start}
+use Rattle.station_shared.specs.Seats.{Seated, newcomer}
+use Rattle.station_lines.specs.declared.pumping.PumpFault.{PumpFault}
+use Rattle.station_lines.specs.declared.tally.Tally.{Tally}
+use Rattle.station_desk.proofs.Starts.{sound_at, sound_front}
 use Rattle.station_main.specs.Limits.{program_limits}
 use Rattle.station_main.specs.Rounds.{Asked, Given, GoesOnFrom, HandsOn, IsCutShort, IsKept, IsRound, Runs}
 use Rattle.station_main.specs.Run.{Leaves}

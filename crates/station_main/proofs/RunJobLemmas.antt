@@ -6,7 +6,8 @@ use Rattle.std.proofs.Math.Seq.{take-append_seam}
 use Rattle.std.proofs.lemmas.List.Folds.{fold-map}
 use Rattle.station_journal.specs.declared.Entry.{Entry}
 use Rattle.station_report.specs.declared.sinks.WriteFault.{WriteFault}
-use Rattle.station_shared.specs.Seats.{Seated, Start, Looks, newcomer, newcomers}
+use Rattle.station_desk.specs.Start.{Start}
+use Rattle.station_shared.specs.Seats.{Seated, Looks, newcomer, newcomers}
 use Rattle.station_main.specs.Status.{answer_status, fault_status}
 use Rattle.station_main.specs.Output.{Printed}
 use Rattle.station_main.specs.Reporter.{ReportsByAClock, looks_of}

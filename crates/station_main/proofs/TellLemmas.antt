@@ -5,8 +5,8 @@ use Rattle.std.specs.List.{flat_map}
 use Rattle.std.proofs.KnownBytes.{Appends-nil, Appends-trans}
 use Rattle.std.proofs.lemmas.List.{flat_map_more, take_more}
 use Rattle.std.proofs.lemmas.List.Sums.{fold_more}
-use Rattle.station_shared.specs.declared.pumping.PumpFault.{PumpFault}
-use Rattle.station_shared.specs.declared.tally.Tally.{Tally}
+use Rattle.station_lines.specs.declared.pumping.PumpFault.{PumpFault}
+use Rattle.station_lines.specs.declared.tally.Tally.{Tally}
 use Rattle.station_main.specs.Status.{answer_status, status_of}
 use Rattle.station_main.specs.Telling.{Tells, Told, answer_lines, pump_lines}
 

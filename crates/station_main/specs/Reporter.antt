@@ -3,8 +3,9 @@ use Rattle.std.specs.Prelude.{◌≡◌, ℕ, ◌+◌, ◌-◌, ◌*◌, ◌^◌
 use Rattle.std.specs.Duration.{as_nanos}
 use Rattle.station_journal.specs.declared.Entry.TheVariants.{Tick}
 use Rattle.station_journal.specs.declared.Refusal.{Refusal}
-use Rattle.station_shared.specs.History.{Known}
-use Rattle.station_shared.specs.Seats.{Seated, Start, Accepted, Refused, Looks}
+use Rattle.station_desk.specs.History.{Known}
+use Rattle.station_desk.specs.Start.{Start}
+use Rattle.station_shared.specs.Seats.{Seated, Accepted, Refused, Looks}
 use Rattle.station_main.specs.Output.{Printed}
 use Rattle.station_main.specs.Tables.{TakesTexts, failures_after}
 use Rattle.station_main.specs.declared.schedule.Act.{Act}

@@ -4,8 +4,9 @@ use mathlib.Core.List.{IsPrefix}
 use Rattle.station_journal.specs.declared.Entry.{Entry}
 use Rattle.station_journal.specs.Log.{IsLegal, clock_of}
 use Rattle.station_journal.specs.Resume.{recent_base, recent_of}
-use Rattle.station_shared.specs.History.{base_of}
-use Rattle.station_shared.specs.Seats.{Seated, Start, log_of, newcomer}
+use Rattle.station_desk.specs.History.{base_of}
+use Rattle.station_desk.specs.Start.{Start, log_of}
+use Rattle.station_shared.specs.Seats.{Seated, newcomer}
 use Rattle.station_main.specs.Limits.{program_limits}
 use Rattle.station_main.specs.Run.{Ends, EndsEarly}
 use Rattle.station_main.specs.Telling.{Tells, Told, fault_line}

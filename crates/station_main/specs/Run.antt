@@ -2,12 +2,13 @@
 use Rattle.std.specs.Prelude.{◌≡◌, ℕ, ◌<◌, Bool, true, false, List, [], ◌∷◌, ◌++◌, Option, IfSome, Result, length, slice_index_or, is_err, fold, max, unwrap_or, ⊤}
 use Rattle.std.specs.List.{flat_map}
 use Rattle.station_report.specs.declared.sinks.WriteFault.{WriteFault}
-use Rattle.station_shared.specs.Drawing.{Drawn}
-use Rattle.station_shared.specs.Seats.{Seated, Start, Looks}
+use Rattle.station_lines.specs.Drawing.{Drawn}
+use Rattle.station_desk.specs.Start.{Start}
+use Rattle.station_shared.specs.Seats.{Seated, Looks}
 use Rattle.station_shared.specs.Workers.{Worked}
-use Rattle.station_shared.specs.declared.from_read.FromRead.{FromRead}
-use Rattle.station_shared.specs.declared.pumping.PumpFault.{PumpFault}
-use Rattle.station_shared.specs.declared.tally.Tally.{Tally}
+use Rattle.station_lines.specs.declared.from_read.FromRead.{FromRead}
+use Rattle.station_lines.specs.declared.pumping.PumpFault.{PumpFault}
+use Rattle.station_lines.specs.declared.tally.Tally.{Tally}
 use Rattle.station_main.specs.Limits.{most_reads}
 use Rattle.station_main.specs.Output.{GivesBack, Printed}
 use Rattle.station_main.specs.Reporter.{KeepsTime, Showing, looks_of}

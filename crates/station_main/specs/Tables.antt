@@ -6,7 +6,8 @@ use Rattle.station_journal.specs.Log.{clock_of, table_of}
 use Rattle.station_report.specs.Sink.{TakesAll, counted}
 use Rattle.station_report.specs.Text.{text}
 use Rattle.station_report.specs.declared.sinks.WriteFault.{WriteFault}
-use Rattle.station_shared.specs.Seats.{Seated, Start, Looks, log_of}
+use Rattle.station_desk.specs.Start.{Start, log_of}
+use Rattle.station_shared.specs.Seats.{Seated, Looks}
 use Rattle.station_main.specs.Output.{Printed}
 
 -- the text of the table that these entries give

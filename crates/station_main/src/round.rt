@@ -1,7 +1,7 @@
 // One round of the job `run`: the work of one station.
 ghost use Rattle.std.specs.Prelude.{◌≡◌, ◌+◌, ◌≤◌, ◌∷◌, ℕ, List, Option, All, IfErr, IfOk, is_some, length, option_map, reverse, true};
 ghost use Rattle.station_journal.specs.Resume.{IsSound};
-ghost use Rattle.station_shared.specs.History.{base_of};
+ghost use Rattle.station_desk.specs.History.{base_of};
 ghost use Rattle.station_shared.specs.Seats.{Seated, newcomer, newcomers};
 ghost use Rattle.station_main.specs.Limits.{program_limits};
 ghost use Rattle.station_main.specs.Output.{buffered_of};

@@ -1,7 +1,7 @@
 // The job `run`: its rounds, one after another.
 ghost use Rattle.std.specs.Prelude.{◌≡◌, ◌+◌, ◌-◌, ◌≤◌, ◌⊎◌, IfErr, IfOk, length, option_map, reverse};
 ghost use Rattle.station_journal.specs.Resume.{IsSound};
-ghost use Rattle.station_shared.specs.History.{base_of};
+ghost use Rattle.station_desk.specs.History.{base_of};
 ghost use Rattle.station_main.specs.Limits.{program_limits};
 ghost use Rattle.station_main.specs.Output.{buffered_of};
 ghost use Rattle.station_main.specs.Rounds.{EndsRound, IsLast, Runs, given_of, nothing};

@@ -11,18 +11,18 @@ use Rattle.station_book.specs.declared.steps.Step.{Step}
 use Rattle.station_book.specs.declared.steps.Step.TheVariants.{Heard}
 use Rattle.station_journal.specs.declared.Refusal.{Refusal}
 use Rattle.station_shared.specs.LinesAhead.{told_of, told_all, Tells, TakesFront}
-use Rattle.station_shared.specs.Calls.{heard, frame_in}
-use Rattle.station_shared.specs.Counting.{is_frame, is_mode_ac, is_blank}
-use Rattle.station_shared.specs.Drawing.{TakesBytes}
-use Rattle.station_shared.specs.Pump.{Pumps}
+use Rattle.station_lines.specs.Calls.{heard, frame_in}
+use Rattle.station_lines.specs.Counting.{is_frame, is_mode_ac, is_blank}
+use Rattle.station_lines.specs.Drawing.{TakesBytes}
+use Rattle.station_lines.specs.Pump.{Pumps}
 use Rattle.station_shared.specs.declared.lines_ahead.LineAhead.{LineAhead}
 use Rattle.station_shared.specs.declared.lines_ahead.LineAhead.TheVariants as Kinds
-use Rattle.station_shared.specs.declared.command.Command.{Command}
-use Rattle.station_shared.specs.declared.command.Command.TheVariants.{Tick, Show, Line as Received}
-use Rattle.station_shared.specs.declared.command.CommandFault.{CommandFault}
-use Rattle.station_shared.specs.declared.tally.Tally.{Tally}
-use Rattle.station_shared.proofs.DrawingLemmas.{ended-more}
-use Rattle.station_shared.proofs.PumpLemmas.{no_tick, no_show}
+use Rattle.station_lines.specs.declared.command.Command.{Command}
+use Rattle.station_lines.specs.declared.command.Command.TheVariants.{Tick, Show, Line as Received}
+use Rattle.station_lines.specs.declared.command.CommandFault.{CommandFault}
+use Rattle.station_lines.specs.declared.tally.Tally.{Tally}
+use Rattle.station_lines.proofs.DrawingLemmas.{ended-more}
+use Rattle.station_lines.proofs.PumpLemmas.{no_tick, no_show}
 
 -- ---- what was told
 

@@ -5,11 +5,12 @@ use Rattle.station_journal.specs.Log.{IsLegal, clock_of, table_of}
 use Rattle.station_book.specs.State.{State as BookState, rows}
 use Rattle.station_book.specs.Matching.{Matches, Shows}
 use Rattle.station_book.proofs.LawLemmas.{shows_from_match}
-use Rattle.station_shared.specs.History.{Name, base_of}
-use Rattle.station_shared.specs.Seats.{Seated, Start, log_of, origin_of, start_at}
-use Rattle.station_shared.specs.Shown.{Sheet, IsOf, IsOfSheet, LegalUnder, SawPublished, marked}
-use Rattle.station_shared.specs.declared.shown.Mark.{Mark}
-use Rattle.station_shared.specs.declared.shown.Origin.{Origin}
+use Rattle.station_desk.specs.History.{Name, base_of}
+use Rattle.station_desk.specs.Start.{Start, log_of, origin_of, start_at}
+use Rattle.station_shared.specs.Seats.{Seated}
+use Rattle.station_desk.specs.Shown.{Sheet, IsOf, IsOfSheet, LegalUnder, SawPublished, marked}
+use Rattle.station_desk.specs.declared.shown.Mark.{Mark}
+use Rattle.station_desk.specs.declared.shown.Origin.{Origin}
 
 module _ (n : ℕ) (start : Start) (book : BookState) (entries : List Entry) (seen : Seated) (matched : Matches n (base_of start.history) book entries) (is : entries ≡ seen.seen) where
   shows : Shows n (base_of start.history) book entries

@@ -3,8 +3,9 @@ use Rattle.std.proofs.Common.{◌≡◌, ℕ, ◌+◌, List, [], ◌∷◌, ◌+
 use Rattle.station_journal.specs.declared.Entry.{Entry}
 use Rattle.station_journal.specs.declared.Limits.{Limits}
 use Rattle.station_journal.specs.Log.{Log, resumed_log}
-use Rattle.station_shared.specs.History.{Name, base_of}
-use Rattle.station_shared.specs.Seats.{Start, start_at, log_of, newcomer, newcomers}
+use Rattle.station_desk.specs.History.{Name, base_of}
+use Rattle.station_desk.specs.Start.{Start, start_at, log_of}
+use Rattle.station_shared.specs.Seats.{newcomer, newcomers}
 
 pub newcomers_more : (entries : List Entry) (n : ℕ) → newcomers entries n ++ newcomer entries n ∷ [] ≡ newcomers entries (n + 1)
 newcomers_more entries n = ap (newcomers entries) (sym (add-one n))

@@ -3,15 +3,16 @@ use Rattle.std.proofs.Common.{◌≡◌, ℕ, ◌+◌, List, [], ◌∷◌, ◌+
 use Rattle.station_journal.specs.declared.Entry.{Entry}
 use Rattle.station_journal.specs.declared.Entry.TheVariants.{Heard}
 use Rattle.station_journal.specs.declared.Refusal.{Refusal}
-use Rattle.station_shared.specs.Calls.{frames_of}
-use Rattle.station_shared.specs.Drawing.{Drawn}
-use Rattle.station_shared.specs.Feeds.{Feeds}
-use Rattle.station_shared.specs.Pump.{PumpsAll}
-use Rattle.station_shared.specs.Seats.{Seated, Start}
+use Rattle.station_lines.specs.Calls.{frames_of}
+use Rattle.station_lines.specs.Drawing.{Drawn}
+use Rattle.station_lines.specs.Feeds.{Feeds}
+use Rattle.station_lines.specs.Pump.{PumpsAll}
+use Rattle.station_desk.specs.Start.{Start}
+use Rattle.station_shared.specs.Seats.{Seated}
 use Rattle.station_shared.specs.Workers.{SeatSteps, Within, accepted_frames, heard_by, Fed, Works}
-use Rattle.station_shared.specs.declared.pumping.PumpFault.{PumpFault}
-use Rattle.station_shared.specs.declared.tally.Tally.{Tally}
-use Rattle.station_shared.proofs.Sequences.{count_first}
+use Rattle.station_lines.specs.declared.pumping.PumpFault.{PumpFault}
+use Rattle.station_lines.specs.declared.tally.Tally.{Tally}
+use Rattle.station_desk.proofs.Sequences.{count_first}
 
 within_here : (zs : List Entry) (x : Entry) (xs ys : List Entry) → Within xs ys → Within (x ∷ xs) ((zs ++ x ∷ []) ++ ys)
 within_here [] x xs ys w = inl (refl, w)

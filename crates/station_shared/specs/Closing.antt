@@ -4,7 +4,8 @@ use Rattle.std.specs.List.{AllByRecursion}
 use mathlib.Core.List.{IsPrefix}
 use Rattle.station_journal.specs.declared.Entry.{Entry}
 use Rattle.station_journal.specs.Log.{IsLegal}
-use Rattle.station_shared.specs.Seats.{Seated, Start, log_of, own, count_of}
+use Rattle.station_desk.specs.Start.{Start, log_of}
+use Rattle.station_shared.specs.Seats.{Seated, own, count_of}
 
 -- the numbers of the seats are those below n, each once
 pub record EachOnce (n : ℕ) (seats : List Seated) : Type 0 where

@@ -1,17 +1,4 @@
-pub mod Calls
 pub mod Closing
-pub mod Command
-pub mod CommandRules
-pub mod Counting
-pub mod Desk
-pub mod DeskPump
-pub mod Drawing
-pub mod Feeds
-pub mod History
 pub mod LinesAhead
-pub mod Pump
-pub mod Replay
 pub mod Seats
-pub mod Shown
-pub mod Source
 pub mod Workers

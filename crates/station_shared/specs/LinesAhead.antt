@@ -5,12 +5,12 @@ use Rattle.modes_frame.specs.declared.cutter.Cut.{Cut}
 use Rattle.modes_frame.specs.declared.line.Line.TheVariants.{Frame, ModeAc, Blank}
 use Rattle.station_book.specs.Steps.{sighting_of}
 use Rattle.station_book.specs.declared.steps.Step.TheVariants.{Heard}
-use Rattle.station_shared.specs.Calls.{heard}
+use Rattle.station_lines.specs.Calls.{heard}
 use Rattle.station_shared.specs.declared.lines_ahead.LineAhead.{LineAhead}
 use Rattle.station_shared.specs.declared.lines_ahead.LineAhead.TheVariants as Kinds
-use Rattle.station_shared.specs.declared.command.Command.{Command}
-use Rattle.station_shared.specs.declared.command.Command.TheVariants.{Tick, Show, Line as Received}
-use Rattle.station_shared.specs.declared.command.CommandFault.{CommandFault}
+use Rattle.station_lines.specs.declared.command.Command.{Command}
+use Rattle.station_lines.specs.declared.command.Command.TheVariants.{Tick, Show, Line as Received}
+use Rattle.station_lines.specs.declared.command.CommandFault.{CommandFault}
 
 -- what a line says to a pump, its frame decoded; a fault has no name
 abbrev pub told_of : Result Command CommandFault → LineAhead

@@ -3,32 +3,14 @@ use Rattle.std.specs.Prelude.{◌≡◌, ℕ, zero, suc, ◌+◌, ◌⊎◌, eqb
 use mathlib.Core.List.{IsPrefix}
 use Rattle.station_journal.specs.declared.Entry.{Entry}
 use Rattle.station_journal.specs.declared.Entry.TheVariants.{Tick, Heard}
-use Rattle.station_journal.specs.declared.Limits.{Limits}
 use Rattle.station_journal.specs.declared.Refusal.{Refusal}
-use Rattle.station_journal.specs.Log.{Log, IsLegal, refusal_of, verdict_behind}
-use Rattle.station_shared.specs.History.{Name, Known, base_of}
-use Rattle.station_shared.specs.declared.shown.Origin.{Origin}
-
--- how a station began: its history, whose name has the base of its clock, its limits, and how many entries it was resumed from
-pub record Start : Type 0 where
-  pub history : Name
-  pub limits : Limits
-  pub resumed : ℕ
-
--- its journal
-abbrev pub log_of : Start → List Entry → Log
-log_of start entries = record { base = base_of start.history; limits = start.limits; resumed = start.resumed; entries = entries }
+use Rattle.station_journal.specs.Log.{IsLegal, refusal_of, verdict_behind}
+use Rattle.station_desk.specs.History.{Known}
+use Rattle.station_desk.specs.Start.{Start, log_of}
 
 -- the entries of its own calls: those after the ones that it was resumed from
 abbrev pub own : Start → List Entry → List Entry
 own start entries = drop start.resumed entries
-
--- what is published of it beside its history
-abbrev pub origin_of : Start → Origin
-origin_of start = record { limits = start.limits; resumed = start.resumed }
-
-abbrev pub start_at : Name → Origin → Start
-start_at history origin = record { history = history; limits = origin.limits; resumed = origin.resumed }
 
 -- the number of the seat whose entry it is
 abbrev pub seat_of : Entry → ℕ

@@ -3,13 +3,14 @@ use Rattle.std.specs.Prelude.{◌≡◌, ℕ, ◌+◌, ◌⊎◌, List, [], ◌�
 use Rattle.station_journal.specs.declared.Entry.{Entry}
 use Rattle.station_journal.specs.declared.Entry.TheVariants.{Heard}
 use Rattle.station_journal.specs.declared.Refusal.{Refusal}
-use Rattle.station_shared.specs.Calls.{frames_of}
-use Rattle.station_shared.specs.Drawing.{Drawn}
-use Rattle.station_shared.specs.History.{Known}
-use Rattle.station_shared.specs.Pump.{PumpsAll, tally_of}
-use Rattle.station_shared.specs.Seats.{Seated, Start, Accepted, Refused}
-use Rattle.station_shared.specs.declared.pumping.PumpFault.{PumpFault}
-use Rattle.station_shared.specs.declared.tally.Tally.{Tally}
+use Rattle.station_lines.specs.Calls.{frames_of}
+use Rattle.station_lines.specs.Drawing.{Drawn}
+use Rattle.station_desk.specs.History.{Known}
+use Rattle.station_lines.specs.Pump.{PumpsAll, tally_of}
+use Rattle.station_desk.specs.Start.{Start}
+use Rattle.station_shared.specs.Seats.{Seated, Accepted, Refused}
+use Rattle.station_lines.specs.declared.pumping.PumpFault.{PumpFault}
+use Rattle.station_lines.specs.declared.tally.Tally.{Tally}
 
 -- one step of a seat for a frame, whose answer tells no receipt
 abbrev pub SeatSteps : Start → Seated → List ℕ → Result (Unit {0}) Refusal → Seated → Type 0

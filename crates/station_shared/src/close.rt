@@ -1,17 +1,16 @@
 //! The end of a station.
 ghost use Rattle.std.specs.Prelude.{◌≡◌, ◌≤◌, ◌↔◌, IsTrue, eqb, count_by, IfOk, IfErr};
 ghost use Rattle.station_shared.specs.Closing.{EachOnce, Closes, accepted_at, accepted_by};
-ghost use Rattle.station_shared.specs.Seats.{log_of};
+ghost use Rattle.station_desk.specs.Start.{log_of};
 
 use crate::gate::Gate;
 use crate::names::Total;
-use crate::rule::Published;
 use crate::seat::Seat;
-use crate::shown::{Mark, Shown, Unlogged};
 use crate::station::Station;
 use arrayvec::ArrayVec;
 use crossbeam_utils::rule::Protocol;
 use left_right::Absorb;
+use station_desk::{Mark, Published, Shown, Unlogged};
 use station_journal::Journal;
 use std::sync::Wait;
 

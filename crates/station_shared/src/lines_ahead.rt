@@ -4,13 +4,13 @@ ghost use Rattle.modes_frame.specs.Lines.{pending};
 ghost use Rattle.station_book.specs.Steps.{sighting_of};
 ghost use Rattle.station_book.specs.declared.steps.Step.TheVariants as Steps;
 ghost use Rattle.station_shared.specs.LinesAhead.{Tells, told_of};
-ghost use Rattle.station_shared.specs.Calls.{heard};
-ghost use Rattle.station_shared.specs.Drawing.{TakesBytes};
+ghost use Rattle.station_lines.specs.Calls.{heard};
+ghost use Rattle.station_lines.specs.Drawing.{TakesBytes};
 ghost use Rattle.station_shared.specs.declared.lines_ahead.LineAhead.TheVariants as Kinds;
 
-use crate::pumping::read_cut;
 use modes_frame::{Cut, Cutter, Frame, Line, LineReader};
 use station_book::Step;
+use station_lines::pumping::read_cut;
 
 /// What a line says to a pump, read before the lock is taken. Its frame is decoded.
 #[derive(Clone, Copy, Debug, Default)]

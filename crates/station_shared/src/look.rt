@@ -2,14 +2,12 @@
 ghost use Rattle.std.specs.Prelude.{◌≡◌, ◌≤◌, length};
 ghost use Rattle.station_journal.specs.Table.{find_row};
 ghost use Rattle.station_journal.specs.Log.{IsLegal, clock_of, table_of};
-ghost use Rattle.station_shared.specs.Seats.{log_of};
+ghost use Rattle.station_desk.specs.Start.{log_of};
 
-use crate::history::Front;
 use crate::names::Total;
-use crate::rule::{Looking, Published};
 use crate::seat::Seat;
-use crate::shown::{Mark, Shown};
 use crossbeam_utils::rule::Protocol;
+use station_desk::{Front, Looking, Mark, Published, Shown};
 use station_journal::{Aircraft, Rows};
 use std::marker::Model;
 use std::sync::ledger::Share;
@@ -36,9 +34,10 @@ where
     ghost use Rattle.left_right.specs.Sides.{view as view_of};
     ghost use Rattle.station_journal.specs.Log.{IsLegal};
     ghost use Rattle.station_book.specs.Matching.{Matches};
-    ghost use Rattle.station_shared.specs.History.{base_of};
-    ghost use Rattle.station_shared.specs.Seats.{Seated, own, count_of, log_of};
-    ghost use Rattle.station_shared.specs.Shown.{IsOf};
+    ghost use Rattle.station_desk.specs.History.{base_of};
+    ghost use Rattle.station_desk.specs.Start.{log_of};
+    ghost use Rattle.station_shared.specs.Seats.{Seated, own, count_of};
+    ghost use Rattle.station_desk.specs.Shown.{IsOf};
 
     ghost Value = { Seated };
 
@@ -104,7 +103,7 @@ impl<const N: usize, L: Total> Look<N, L> {
 
 impl<const N: usize, L: Total> Rows for Look<N, L> {
     ghost use Rattle.station_journal.specs.Log.{table_of};
-    ghost use Rattle.station_shared.specs.Seats.{log_of};
+    ghost use Rattle.station_desk.specs.Start.{log_of};
 
     ghost rows = { λ look. table_of (log_of L.start look.seen) };
 

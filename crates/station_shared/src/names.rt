@@ -4,7 +4,7 @@ use std::sync::ledger::Ledger;
 
 pub trait Total: Ledger {
     ghost use Rattle.std.specs.Prelude.{ℕ};
-    ghost use Rattle.station_shared.specs.Seats.{Start};
+    ghost use Rattle.station_desk.specs.Start.{Start};
 
     /// How many seats, each with one part.
     ghost seats: { ℕ };

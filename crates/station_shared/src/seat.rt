@@ -2,15 +2,14 @@
 ghost use Rattle.std.specs.Prelude.{◌≡◌, ◌+◌, ◌<◌, ◌≤◌, ◌↔◌, IsTrue, false, length, MatchResult};
 ghost use mathlib.Core.List.{IsPrefix};
 ghost use Rattle.station_journal.specs.Log.{IsLegal};
-ghost use Rattle.station_shared.specs.Seats.{Told, Looks, count_of, log_of, own};
-ghost use Rattle.station_shared.specs.Shown.{IsOfSheet, sheet_of};
+ghost use Rattle.station_desk.specs.Start.{log_of};
+ghost use Rattle.station_shared.specs.Seats.{Told, Looks, count_of, own};
+ghost use Rattle.station_desk.specs.Shown.{IsOfSheet, sheet_of};
 
-use crate::history::Front;
 use crate::look::Look;
 use crate::names::Total;
-use crate::rule::{Looking, Place, Published, Sees};
-use crate::shown::{Mark, Shown};
 use crossbeam_utils::rule::Protocol;
+use station_desk::{Front, Looking, Mark, Place, Published, Sees, Shown};
 use std::marker::{Model, PhantomData};
 use std::sync::ledger::Share;
 
@@ -25,8 +24,8 @@ pub struct Receipt<L: Total> {
 impl<L: Total> Model for Receipt<L> {
     ghost use Rattle.std.specs.Prelude.{◌≡◌, ◌<◌, length};
     ghost use Rattle.station_journal.specs.Log.{IsLegal};
-    ghost use Rattle.station_shared.specs.History.{Known};
-    ghost use Rattle.station_shared.specs.Seats.{log_of};
+    ghost use Rattle.station_desk.specs.History.{Known};
+    ghost use Rattle.station_desk.specs.Start.{log_of};
 
     ghost Value = { Known };
 
@@ -88,8 +87,9 @@ where
     ghost use Rattle.std.specs.Prelude.{◌≡◌, ◌≤◌};
     ghost use Rattle.left_right.specs.Sides.{view as view_of};
     ghost use Rattle.station_journal.specs.Log.{IsLegal};
-    ghost use Rattle.station_shared.specs.Seats.{Seated, count_of, log_of, own};
-    ghost use Rattle.station_shared.specs.Shown.{IsOf};
+    ghost use Rattle.station_desk.specs.Start.{log_of};
+    ghost use Rattle.station_shared.specs.Seats.{Seated, count_of, own};
+    ghost use Rattle.station_desk.specs.Shown.{IsOf};
 
     ghost Value = { Seated };
 

@@ -1,21 +1,17 @@
 //! A station that takes frames through one seat.
 ghost use Rattle.std.specs.Prelude.{◌≡◌};
-ghost use Rattle.station_shared.specs.Drawing.{drawn_of};
+ghost use Rattle.station_lines.specs.Drawing.{drawn_of};
 ghost use Rattle.station_shared.specs.Workers.{Works};
 
-use crate::feed::Feed;
 use crate::names::Total;
-use crate::pumping::{PumpFault, pump};
-use crate::rule::Published;
 use crate::seat::Seat;
-use crate::shown::{Mark, Shown, Unlogged};
-use crate::source::Source;
 use crate::station::Station;
-use crate::tally::Tally;
 use crossbeam_utils::rule::Protocol;
 use left_right::Absorb;
 use modes_frame::Frame;
+use station_desk::{Mark, Published, Shown, Unlogged};
 use station_journal::Refusal;
+use station_lines::{Feed, PumpFault, Source, Tally, pump};
 use std::sync::Wait;
 
 /// A station, and the lent seat that feeds it.

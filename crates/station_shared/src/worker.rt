@@ -1,6 +1,6 @@
 //! Receivers that hand in their lines at the same time.
 ghost use Rattle.std.specs.Prelude.{◌≡◌, ◌<◌, ℕ, length, slice_index_or};
-ghost use Rattle.station_shared.specs.Drawing.{drawn_of};
+ghost use Rattle.station_lines.specs.Drawing.{drawn_of};
 ghost use Rattle.station_shared.specs.Workers.{Worked};
 
 #[cfg(test)]
@@ -8,14 +8,11 @@ mod tests;
 
 use crate::held_pump::pump_held;
 use crate::names::Total;
-use crate::pumping::PumpFault;
-use crate::rule::Published;
 use crate::seat::Seat;
-use crate::shown::{Mark, Shown};
-use crate::source::Source;
 use crate::station::Station;
-use crate::tally::Tally;
 use crossbeam_utils::rule::Protocol;
+use station_desk::{Mark, Published, Shown};
+use station_lines::{PumpFault, Source, Tally};
 use std::sync::Wait;
 use std::thread;
 use std::thread::Threads;

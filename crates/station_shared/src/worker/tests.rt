@@ -1,21 +1,20 @@
 //! Receivers that hand in their lines at the same time.
-ghost use Rattle.std.specs.Prelude.{◌≡◌, None};
-ghost use Rattle.station_shared.specs.History.{base_of};
+ghost use Rattle.std.specs.Prelude.{◌≡◌};
+ghost use Rattle.station_desk.specs.History.{base_of};
 
 mod refused;
 
-use crate::fakes::{Pieces, new_places, room_for};
+use crate::fakes::{new_places, room_for};
 use crate::names::Total;
-use crate::places::Places;
-use crate::pumping::PumpFault;
 use crate::seat::Seat;
-use crate::source::Source;
 use crate::station::Station;
-use crate::tally::Tally;
 use crate::worker::{Worker, run_receivers};
+use station_desk::Places;
 use station_journal::Limits;
-use station_report::Failed;
+use station_lines::{FromRead, PumpFault, Source, Tally};
 use std::alloc::Global;
+use std::io;
+use std::io::{ErrorKind, Read};
 use std::marker::Brand;
 use std::process::Abort;
 use std::sync::Wait;
@@ -92,35 +91,33 @@ fn look_for<L: Total>(seat: Seat<8, L>, address: u32) -> (Seat<8, L>, bool) {
 /// Gives its bytes, and then the end once its watcher has seen the other's aircraft or, without one, the word is set.
 #[derive(Drop)]
 struct Meeting<'a, W> {
-    from: Pieces<'static>,
+    rest: &'static [u8],
     watcher: &'a mut Option<W>,
     word: &'a AtomicU64,
 }
 
-impl<'a, W> Meeting<'a, W> {
-    fn new(line: &'static [u8], watcher: &'a mut Option<W>, word: &'a AtomicU64) -> Self {
-        Meeting {
-            from: Pieces::new(line),
-            watcher,
-            word,
+impl<'a, W: Watch + Drop> Read for Meeting<'a, W> {
+    fn read(&mut self, buffer: &mut [u8]) -> io::Result<usize> {
+        if self.rest.is_empty() && !have_met(self.watcher, self.word) {
+            return Err(io::Error::from(ErrorKind::BrokenPipe));
         }
+        self.rest.read(buffer)
     }
 }
 
-impl<'a, W: Watch + Drop> Source for Meeting<'a, W> {
-    ghost left = { λ _. None };
+/// Gives its bytes, and then fails or tells the end.
+#[derive(Drop)]
+struct Torn {
+    rest: &'static [u8],
+    fails: bool,
+}
 
-    ghost reads = { λ s. s.from.reads };
-
-    ghost ends = { λ s. s.from.ends };
-
-    ghost failures = { λ s. s.from.failures };
-
-    fn read(&mut self, buffer: &mut [u8]) -> Result<usize, Failed> {
-        if self.from.rest.is_empty() && !have_met(self.watcher, self.word) {
-            self.from.fails_at = self.from.reads.saturating_add(1);
+impl Read for Torn {
+    fn read(&mut self, buffer: &mut [u8]) -> io::Result<usize> {
+        if self.rest.is_empty() && self.fails {
+            return Err(io::Error::from(ErrorKind::BrokenPipe));
         }
-        self.from.read(buffer)
+        self.rest.read(buffer)
     }
 }
 
@@ -159,7 +156,7 @@ fn worker<const N: usize, S: Source, L: Total>(seat: Seat<N, L>, source: S) -> W
 fn run_both<W: Watch + Send + Drop, L: Total + Send + Sync, R: Threads + Wait + Sync>(
     rt: &R,
     station: &Station<8, L>,
-    workers: &mut [Worker<8, Meeting<'_, W>, L>],
+    workers: &mut [Worker<8, FromRead<Meeting<'_, W>>, L>],
 ) {
     run_receivers(rt, station, workers, 9);
 }
@@ -209,7 +206,7 @@ fn close_all<const N: usize, L: Total, R: Wait + Abort>(
 fn have_ended<W: Watch + Drop, L: Total>(
     rt: &impl Abort,
     seats: &mut Vec<Seat<8, L>>,
-    workers: Vec<Worker<8, Meeting<'_, W>, L>>,
+    workers: Vec<Worker<8, FromRead<Meeting<'_, W>>, L>>,
 ) -> bool {
     let mut have_ended = true;
     for worker in workers {
@@ -243,12 +240,20 @@ fn is_meeting<L: Total + Send + Sync, R: Threads + Wait + Abort + Sync>(
     let (mut looking, mut waiting) = (seats.pop(), None);
     let mut workers = room_for(rt, alloc, 2);
     let first = seats.pop().expect(rt, "the first receiver's seat");
-    let source = Meeting::new(IDENTIFICATION, &mut looking, &word);
-    let pushed = workers.push(worker(first, source)).is_ok();
+    let source = Meeting {
+        rest: IDENTIFICATION,
+        watcher: &mut looking,
+        word: &word,
+    };
+    let pushed = workers.push(worker(first, FromRead::new(source))).is_ok();
     assert!(rt; pushed);
     let second = seats.pop().expect(rt, "the second receiver's seat");
-    let source = Meeting::new(VELOCITY, &mut waiting, &word);
-    let pushed = workers.push(worker(second, source)).is_ok();
+    let source = Meeting {
+        rest: VELOCITY,
+        watcher: &mut waiting,
+        word: &word,
+    };
+    let pushed = workers.push(worker(second, FromRead::new(source))).is_ok();
     assert!(rt; pushed);
     run_both(rt, &station, workers.as_mut_slice());
     let have_ended = have_ended(rt, &mut seats, workers);
@@ -288,10 +293,9 @@ fn one_that_fails<L: Total + Send + Sync, R: Threads + Wait + Abort + Sync>(
     let mut workers = Vec::new(alloc);
     run_receivers(rt, &station, workers.as_mut_slice(), 9);
     assert_eq!(rt; workers.len(), 0);
-    for (line, fails_at) in [(IDENTIFICATION, 2), (VELOCITY, 0)] {
+    for (rest, fails) in [(IDENTIFICATION, true), (VELOCITY, false)] {
         let seat = seats.pop().expect(rt, "a seat of a receiver");
-        let mut source = Pieces::new(line);
-        source.fails_at = fails_at;
+        let source = FromRead::new(Torn { rest, fails });
         let pushed = workers.push(worker(seat, source)).is_ok();
         assert!(rt; pushed);
     }

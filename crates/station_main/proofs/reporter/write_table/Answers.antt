@@ -2,8 +2,8 @@ use Rattle.std.proofs.Common.{rules, subst}
 use Rattle.station_journal.specs.Log.{table_of}
 use Rattle.station_report.specs.Sink.{TakesAll}
 use Rattle.station_report.specs.Text.{text}
-use Rattle.station_shared.specs.Seats.{log_of}
-use Rattle.station_shared.proofs.RowLemmas.{rows_of_legal}
+use Rattle.station_desk.specs.Start.{log_of}
+use Rattle.station_desk.proofs.RowLemmas.{rows_of_legal}
 use Rattle.station_main.proofs.ReportLemmas.{flushed}
 use Rattle.station_main.proofs.reporter.write_table.Goals as goal
 

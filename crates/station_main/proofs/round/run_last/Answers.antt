@@ -1,5 +1,5 @@
 use Rattle.std.proofs.Common.{ap, ◌∙◌}
-use Rattle.station_shared.specs.History.{base_of}
+use Rattle.station_desk.specs.History.{base_of}
 use Rattle.station_main.specs.Rounds.{GoesOnFrom, given_of}
 use Rattle.station_main.proofs.round.run_last.Goals as goal
 

@@ -1,12 +1,12 @@
 use Rattle.std.proofs.Common.{refl, length, length-take-le, not, ap, ◌∙◌, arith}
 use Rattle.station_report.specs.Sink.{counted}
 use Rattle.station_report.specs.declared.sinks.Failed.{Failed}
-use Rattle.station_shared.specs.Drawing.{drawn_of}
-use Rattle.station_shared.specs.Pump.{Pumps}
+use Rattle.station_lines.specs.Drawing.{drawn_of}
+use Rattle.station_lines.specs.Pump.{Pumps}
 use Rattle.station_shared.specs.Workers.{SeatSteps}
-use Rattle.station_shared.proofs.EndLemmas.{at_end, not_at_end, Consumes_none}
-use Rattle.station_shared.proofs.PumpLemmas.{Pumps-then, Pumps-none, PumpsAll-read, PumpsAll-turns, PumpsAll-stop, PumpsAll-end}
-use Rattle.station_shared.proofs.DrawingLemmas.{GivenSoFar-none, GivenSoFar-piece, counted_up-more, Taken-read, Taken-turns, Taken-stop}
+use Rattle.station_lines.proofs.EndLemmas.{at_end, not_at_end, Consumes_none}
+use Rattle.station_lines.proofs.PumpLemmas.{Pumps-then, Pumps-none, PumpsAll-read, PumpsAll-turns, PumpsAll-stop, PumpsAll-end}
+use Rattle.station_lines.proofs.DrawingLemmas.{GivenSoFar-none, GivenSoFar-piece, counted_up-more, Taken-read, Taken-turns, Taken-stop}
 use Rattle.station_shared.proofs.SeatRuns.{Works-all}
 use Rattle.station_shared.proofs.held_pump.pump_held.Goals as goal
 

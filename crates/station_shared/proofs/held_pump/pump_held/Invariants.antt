@@ -1,8 +1,8 @@
 use Rattle.std.proofs.Common.{◌≡◌, ◌*◌, ◌≤◌, length}
-use Rattle.station_shared.specs.Source.{counted_up}
-use Rattle.station_shared.specs.Pump.{Pumps}
+use Rattle.station_lines.specs.Source.{counted_up}
+use Rattle.station_lines.specs.Pump.{Pumps}
 use Rattle.station_shared.specs.Workers.{SeatSteps}
-use Rattle.station_shared.proofs.DrawingLemmas.{GivenSoFar}
+use Rattle.station_lines.proofs.DrawingLemmas.{GivenSoFar}
 use Rattle.station_shared.proofs.held_pump.pump_held.Given as goal
 
 -- the lines that the bytes so far ended were taken, and no read failed or found the end

@@ -4,11 +4,11 @@ use Rattle.std.proofs.lemmas.Result.{err_from_is_err_and}
 use Rattle.modes_frame.specs.declared.cutter.Cut.{Cut}
 use Rattle.modes_frame.specs.declared.cutter.Cut.TheVariants.{TooLong}
 use Rattle.station_shared.specs.LinesAhead.{told_of}
-use Rattle.station_shared.specs.Calls.{heard}
-use Rattle.station_shared.specs.Pump.{Pumps}
+use Rattle.station_lines.specs.Calls.{heard}
+use Rattle.station_lines.specs.Pump.{Pumps}
 use Rattle.station_shared.specs.Workers.{SeatSteps}
 use Rattle.station_shared.proofs.AheadLemmas.{told_line, line_more}
-use Rattle.station_shared.proofs.PumpLemmas.{Pumps-then}
+use Rattle.station_lines.proofs.PumpLemmas.{Pumps-then}
 use Rattle.station_shared.proofs.held_pump.take_ahead.Goals as goal
 
 pub take_told-requires : goal.take_told-requires

@@ -1,7 +1,7 @@
 use Rattle.std.proofs.Common.{◌≡◌, ◌+◌, List, take, Ok}
 use Rattle.modes_frame.specs.declared.cutter.Cut.{Cut}
 use Rattle.station_shared.specs.LinesAhead.{told_all}
-use Rattle.station_shared.specs.Pump.{Pumps}
+use Rattle.station_lines.specs.Pump.{Pumps}
 use Rattle.station_shared.specs.Workers.{SeatSteps}
 use Rattle.station_shared.proofs.held_pump.take_ahead.Given as goal
 

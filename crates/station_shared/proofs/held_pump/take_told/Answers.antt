@@ -1,8 +1,8 @@
 use Rattle.std.proofs.Common.{refl, sym, ◌∙◌}
-use Rattle.station_shared.specs.Calls.{heard}
+use Rattle.station_lines.specs.Calls.{heard}
 use Rattle.station_shared.specs.Workers.{SeatSteps}
 use Rattle.station_shared.proofs.AheadLemmas.{told_frame, told_fault, Pumps-quiet}
-use Rattle.station_shared.proofs.PumpLemmas.{Pumps-frame}
+use Rattle.station_lines.proofs.PumpLemmas.{Pumps-frame}
 use Rattle.station_shared.proofs.held_pump.take_told.Goals as goal
 
 pub returns-in-Frame : goal.returns-in-Frame

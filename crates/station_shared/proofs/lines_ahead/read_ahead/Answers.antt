@@ -4,7 +4,7 @@ use Rattle.std.proofs.lemmas.List.{take_more_set}
 use Rattle.modes_frame.specs.Lines.{ended_cuts}
 use Rattle.station_shared.specs.LinesAhead.{Tells}
 use Rattle.station_shared.proofs.AheadLemmas.{Tells-then}
-use Rattle.station_shared.proofs.DrawingLemmas.{next_piece, TakesBytes-quiet, TakesBytes-line}
+use Rattle.station_lines.proofs.DrawingLemmas.{next_piece, TakesBytes-quiet, TakesBytes-line}
 use Rattle.station_shared.proofs.lines_ahead.read_ahead.Goals as goal
 
 pub loop-at-preserved-in-Some : goal.loop-at-preserved-in-Some

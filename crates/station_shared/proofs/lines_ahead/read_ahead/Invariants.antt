@@ -1,7 +1,7 @@
 use Rattle.std.proofs.Common.{◌≡◌, ◌-◌, ◌≤◌, ℕ, List, [], length, take, Ok}
 use Rattle.modes_frame.specs.Lines.{pending}
 use Rattle.station_shared.specs.LinesAhead.{Tells}
-use Rattle.station_shared.specs.Drawing.{TakesBytes}
+use Rattle.station_lines.specs.Drawing.{TakesBytes}
 use Rattle.station_shared.proofs.lines_ahead.read_ahead.Given as goal
 
 -- the lines that the bytes so far ended are told

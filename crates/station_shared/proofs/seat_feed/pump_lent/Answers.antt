@@ -1,5 +1,5 @@
 use Rattle.station_shared.proofs.SeatRuns.{Works-all}
-use Rattle.station_shared.proofs.Sequences.{pump_keeps}
+use Rattle.station_desk.proofs.Sequences.{pump_keeps}
 use Rattle.station_shared.proofs.seat_feed.pump_lent.Goals as goal
 
 pub returns : goal.returns

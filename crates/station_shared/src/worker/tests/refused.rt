@@ -1,15 +1,16 @@
 // Receivers whose lines a station takes in part.
 ghost use Rattle.std.specs.Prelude.{◌≡◌};
-ghost use Rattle.station_shared.specs.History.{base_of};
+ghost use Rattle.station_desk.specs.History.{base_of};
 
 use super::{IDENTIFICATION, LIMITS, VELOCITY, close_all, worker};
-use crate::fakes::{Pieces, room_for};
+use crate::fakes::room_for;
 use crate::names::Total;
-use crate::places::Places;
 use crate::seat::Seat;
 use crate::station::Station;
 use crate::worker::{Worker, run_receivers};
+use station_desk::Places;
 use station_journal::Limits;
+use station_lines::FromRead;
 use std::alloc::Global;
 use std::marker::Brand;
 use std::process::Abort;
@@ -29,7 +30,7 @@ fn run_two<const N: usize, L: Total + Send + Sync, R: Threads + Wait + Abort + S
     let mut workers = room_for(rt, alloc, 2);
     for line in lines {
         let seat = seats.pop().expect(rt, "a seat of a receiver");
-        let pushed = workers.push(worker(seat, Pieces::new(line))).is_ok();
+        let pushed = workers.push(worker(seat, FromRead::new(line))).is_ok();
         assert!(rt; pushed);
     }
     run_receivers(rt, &station, workers.as_mut_slice(), 9);

@@ -7,8 +7,9 @@ use mathlib.Core.List.{IsPrefix}
 use Rattle.station_journal.specs.declared.Entry.{Entry}
 use Rattle.station_journal.specs.Log.{Log, IsLegal}
 use Rattle.station_shared.specs.Closing.{Backed, Closes}
-use Rattle.station_shared.specs.Desk.{State}
-use Rattle.station_shared.specs.Seats.{Seated, log_of}
+use Rattle.station_desk.specs.Desk.{State}
+use Rattle.station_desk.specs.Start.{log_of}
+use Rattle.station_shared.specs.Seats.{Seated}
 use Rattle.station_shared.proofs.Counts.{count_own}
 use Rattle.station_shared.proofs.Closing.{closes}
 use Rattle.station_shared.proofs.gate.Gate.close.Goals as goal

@@ -1,7 +1,7 @@
 use Rattle.std.proofs.Common.{◌≡◌, arith, ap, sym, subst, ◌∙◌, ⊎_elim}
 use Rattle.station_journal.specs.Log.{IsLegal}
-use Rattle.station_shared.specs.History.{Known}
-use Rattle.station_shared.specs.Seats.{log_of}
+use Rattle.station_desk.specs.History.{Known}
+use Rattle.station_desk.specs.Start.{log_of}
 use Rattle.station_shared.proofs.Counts.{count_own}
 use Rattle.station_shared.proofs.seat.Seat.learn.Goals as goal
 

@@ -3,12 +3,12 @@ use mathlib.Core.List.{IsPrefix}
 use Rattle.station_journal.specs.declared.Entry.{Entry}
 use Rattle.station_journal.specs.Log.{IsLegal}
 use Rattle.station_book.specs.Matching.{Matches}
-use Rattle.station_shared.specs.History.{Known, Name, base_of}
-use Rattle.station_shared.specs.Seats.{log_of}
-use Rattle.station_shared.specs.Shown.{sheet_of}
+use Rattle.station_desk.specs.History.{Known, Name, base_of}
+use Rattle.station_desk.specs.Start.{log_of}
+use Rattle.station_desk.specs.Shown.{sheet_of}
 use Rattle.station_shared.proofs.Counts.{count_own}
 use Rattle.station_shared.proofs.Looking.{name_seen, legal_seen, view_seen}
-use Rattle.station_shared.proofs.Rules.{enters}
+use Rattle.station_desk.proofs.Rules.{enters}
 use Rattle.station_shared.proofs.seat.Seat.look.Goals as goal
 
 pub enter_as-requires : goal.enter_as-requires

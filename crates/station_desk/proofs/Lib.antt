@@ -1,0 +1,10 @@
+pub mod Adding
+pub mod DeskLemmas
+pub mod EndingLemmas
+pub mod Fronts
+pub mod RowLemmas
+pub mod Rules
+pub mod Sequences
+pub mod Starts
+pub mod Turning
+pub mod WalkLemmas

@@ -1,0 +1,29 @@
+-- What a pump leaves of a desk that is lent to it.
+use Rattle.std.specs.Prelude.{◌≡◌, ℕ, ◌+◌, List, Result, Ok, Err, length}
+use Rattle.std.specs.declared.alloc.AllocError.{AllocError}
+use Rattle.modes_frame.specs.declared.cutter.Cut.{Cut}
+use Rattle.station_journal.specs.Log.{Log}
+use Rattle.station_lines.specs.Calls.{heard, journal_after}
+use Rattle.station_lines.specs.Counting.{Counts}
+use Rattle.station_lines.specs.Drawing.{Drawn, Draws}
+use Rattle.station_lines.specs.Pump.{tally_of, want_of, ending_of}
+use Rattle.station_desk.specs.Replay.{EndsWithCall}
+use Rattle.station_lines.specs.declared.pumping.PumpFault.{PumpFault}
+use Rattle.station_lines.specs.declared.tally.Tally.{Tally}
+
+-- the journal is the run of the calls of the lines, or, where memory was wanting, of all but the last, which the
+-- verdict accepts
+abbrev pub Runs : ℕ → Log → Log → List Cut → Result (Unit {0}) AllocError → Type 0
+Runs seat before after lines (Ok done) = after ≡ journal_after heard seat before lines
+Runs seat before after lines (Err want) = EndsWithCall heard seat before after lines
+
+-- some lines were taken of what the source gave, up to the end or the fault: the journal is the run of their calls,
+-- made by the seat, and the tally counts them
+pub record PumpsDesk (seat : ℕ) (before after : Log) (source_old source_new : Drawn) (turns : ℕ) (result : Result Tally PumpFault) : Type 0 where
+  pub lines : List Cut
+  pub draws : Draws source_old source_new turns (ending_of result) lines
+  pub runs : Runs seat before after lines (want_of result)
+  pub counts : Counts heard (tally_of result) lines
+  pub no_ticks : (tally_of result).ticks ≡ 0
+  pub no_shows : (tally_of result).shows ≡ 0
+  pub accepted : (tally_of result).accepted + length before.entries ≡ length after.entries

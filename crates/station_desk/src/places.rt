@@ -1,0 +1,152 @@
+//! A publishing end and its reader places, before the station is made that they are for.
+ghost use Rattle.std.specs.Prelude.{◌≡◌, ◌<◌, ◌≤◌, [], length, Some, IfOk, IfErr, vec_len};
+ghost use Rattle.std.specs.List.{AllByRecursion};
+ghost use Rattle.left_right.specs.Sides.{view};
+ghost use Rattle.station_journal.specs.Log.{most_entries};
+ghost use Rattle.station_journal.specs.Resume.{Refuses};
+ghost use Rattle.station_book.specs.Matching.{Matches};
+ghost use Rattle.station_desk.specs.History.{base_of};
+ghost use Rattle.station_desk.specs.Shown.{IsOf};
+
+use crate::history::History;
+use crate::press::{begin, blank, new_place};
+use crate::rule::{Place, Press, Published};
+use crate::shown::{Mark, Origin, Shown, Unlogged};
+use crossbeam_utils::rule::Protocol;
+use left_right::Absorb;
+use station_journal::{Entry, Limits, NoMemory, ResumeFault};
+use std::alloc::{AllocError, Global};
+use std::marker::Model;
+use std::sync::Wait;
+
+/// A publishing end over a book without entries, and its reader places.
+///
+/// Places can't be dropped: a station takes them.
+pub struct Places<const N: usize>
+where
+    Shown<N>: Absorb<Unlogged, State = ()>,
+    Published: Protocol<Shown<N>, Option<Mark>>,
+{
+    base: u64,
+    history: History,
+    press: Press<N>,
+    places: Vec<Place<N>>,
+    ghost small: { N ≤ 4096 },
+}
+
+impl<const N: usize> Model for Places<N>
+where
+    Shown<N>: Absorb<Unlogged, State = ()>,
+    Published: Protocol<Shown<N>, Option<Mark>>,
+{
+    ghost use Rattle.std.specs.Prelude.{◌≡◌, [], None, vec_len};
+    ghost use Rattle.station_book.specs.State.{starting};
+    ghost use Rattle.station_desk.specs.History.{base_of};
+    ghost use Rattle.station_desk.specs.Shown.{Prepared};
+
+    ghost Value = { Prepared };
+
+    ghost view = { λ p. record {
+      history = p.history.name;
+      places = vec_len p.places;
+      shown = p.press.desk.shown.value.book;
+    } };
+
+    ghost invariant = { λ p. (p.history.entries ≡ [])
+        × (p.press.desk.shown.value.front ≡ p.history)
+        × (p.press.desk.shown.value.book ≡ starting p.base)
+        × (p.press.desk.shown.value.origin ≡ None)
+        × (base_of p.history.name ≡ p.base) };
+}
+
+impl<const N: usize> Places<N> {
+    /// A publishing end over a book without entries, with so many reader places. Its clock is at the base, in
+    /// milliseconds. Refused at want of memory.
+    pub fn new<R: Wait>(rt: &R, alloc: Global, base: u64, seats: u8) -> Result<Places<N>, NoMemory>
+        requires seats { 0 < seats }
+        requires small { N ≤ 4096 }
+        ensures places { IfOk result (λ p. p.places ≡ seats) }
+        ensures base { IfOk result (λ p. base_of p.history ≡ base) }
+        ensures shown { IfOk result (λ p. Matches N base p.shown []) }
+    {
+        let mut places = Vec::with_capacity(alloc, usize::from(seats))?;
+        let history = History::new(base);
+        let first = blank(&history, base, None);
+        let second = blank(&history, base, None);
+        let mut press = Press::new(alloc, first, second, usize::from(seats))?;
+        for _made in 0..seats {
+            let Ok(place) = new_place(&mut press) else {
+                press.take(rt);
+                return Err(AllocError);
+            };
+            places.push_reserved(place);
+        }
+        Ok(Places {
+            base,
+            history,
+            press,
+            places,
+        })
+    }
+
+    /// Shows a book that was given the entries, under the limits of the station, and makes each place anew, so that it
+    /// knows them and the history. Refused where the entries aren't sound, and then at want of memory.
+    pub fn ready<R: Wait>(
+        self,
+        rt: &R,
+        limits: Limits,
+        entries: &[Entry],
+    ) -> Result<(History, Press<N>, Vec<Place<N>>), ResumeFault>
+        requires aircraft { limits.aircraft ≡ N }
+        requires few { (length entries.now ≤ limits.entries) × (limits.entries ≤ most_entries) }
+        ensures history { IfOk result (λ t. (t.0.name ≡ self.entry.history) × (t.0.entries ≡ entries.now)) }
+        ensures front { IfOk result (λ t. t.1.desk.shown.value.front ≡ t.0) }
+        ensures origin { IfOk result (λ t. t.1.desk.shown.value.origin
+            ≡ Some (record { limits = limits; resumed = length entries.now })) }
+        ensures matched { IfOk result (λ t.
+            Matches N (base_of self.entry.history) t.1.desk.shown.value.book entries.now) }
+        ensures spare { IfOk result (λ t. t.1.desk.spare.value.book ≡ t.1.desk.shown.value.book) }
+        ensures places { IfOk result (λ t. (vec_len t.2 ≡ self.entry.places)
+            × AllByRecursion (λ p. IsOf (record { history = self.entry.history; limits = limits; resumed = length entries.now }) (view p.place)) t.2.items) }
+        ensures err { IfErr result (λ fault. Refuses limits (base_of self.entry.history) entries.now fault) }
+    {
+        let Places {
+            base,
+            mut history,
+            press,
+            mut places,
+        } = self;
+        let count = places.len();
+        places.clear();
+        for entry in entries {
+            history.add(*entry);
+        }
+        let origin = Origin {
+            limits,
+            resumed: entries.len() as u64,
+        };
+        let mut press = match begin(rt, press, base, history.front(), origin, entries) {
+            Ok(press) => press,
+            Err(place) => return Err(ResumeFault::Unsound(place)),
+        };
+        for _made in 0..count {
+            let Ok(place) = new_place(&mut press) else {
+                press.take(rt);
+                return Err(ResumeFault::NoMemory);
+            };
+            places.push_reserved(place);
+        }
+        Ok((history, press, places))
+    }
+
+    /// Gives them up.
+    pub fn end<R: Wait>(self, rt: &R) {
+        let Places {
+            base: _,
+            history: _,
+            press,
+            places: _,
+        } = self;
+        press.take(rt);
+    }
+}

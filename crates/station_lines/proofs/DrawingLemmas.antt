@@ -1,0 +1,218 @@
+-- Bytes of a source, one read after another.
+use Rattle.std.proofs.Common.{◌≡◌, ℕ, ◌+◌, ◌-◌, ◌≤◌, false, List, [], ◌∷◌, ◌++◌, length, take, drop, length-drop, Option, Result, Ok, Err, refl, sym, ap, ◌∙◌, subst, append_assoc, append-nil, map, arith, add-one}
+use Rattle.std.specs.Option.{option_to_list}
+use Rattle.std.specs.Io.KnownBytes.{Consumes, Keeps, IsAtEnd}
+use Rattle.std.proofs.KnownBytes.{Consumes-nil, Consumes-trans, Consumes-kept}
+use Rattle.std.proofs.lemmas.List.{map-append, take_all}
+use Rattle.std.proofs.Math.Seq.{take-add}
+use Rattle.modes_frame.specs.declared.cutter.Cut.{Cut}
+use Rattle.modes_frame.specs.Lines.{pieces, cut, cuts, last_line, pending, ended_cuts, told}
+use Rattle.modes_frame.proofs.LinesLemmas.{ended-push}
+use Rattle.station_lines.specs.Source.{one_more, counted_up}
+use Rattle.station_lines.specs.Drawing.{Drawn, Ending, AtEnd, ReadFailed, TurnsOver, LineStopped, EndsAs, is_read_failed, Draws, TakesBytes, TakesLast}
+
+-- ---- lines of some bytes
+
+-- further bytes end further lines
+pub ended-more : (a b : List ℕ) → (more : List Cut) × (ended_cuts (a ++ b) ≡ ended_cuts a ++ more)
+ended-more a [] = ([], ap ended_cuts (append-nil a) ∙ sym (append-nil (ended_cuts a)))
+ended-more a (c ∷ cs) =
+    let rest = ended-more (a ++ c ∷ []) cs in
+    let line = option_to_list (told (pending a) c) in
+    (line ++ rest.0, ap ended_cuts (sym (append_assoc a (c ∷ []) cs)) ∙ rest.1 ∙ ap (λ x. x ++ rest.0) (ended-push a c) ∙ append_assoc (ended_cuts a) line rest.0)
+
+-- all lines begin with those that a line feed ended
+pub cuts-ended : (bytes : List ℕ) → cuts bytes ≡ ended_cuts bytes ++ map cut (last_line (pieces bytes).rest)
+cuts-ended bytes = map-append cut (pieces bytes).ended (last_line (pieces bytes).rest)
+
+-- one more read
+pub counted_up-more : (n old mid new : ℕ) → mid ≡ counted_up n old → new ≡ one_more mid → new ≡ counted_up (n + 1) old
+counted_up-more n old mid new p q = q ∙ ap (λ k. one_more k) p ∙ ap (λ k. counted_up k old) (sym (add-one n))
+
+-- ---- bytes of one piece
+
+-- the first of what is left after some bytes come next
+pub next_piece : (bytes : List ℕ) (i n : ℕ) → take (i + n) bytes ≡ take i bytes ++ take n (take (length bytes - i) (drop i bytes))
+next_piece bytes i n =
+    let whole : take (length bytes - i) (drop i bytes) ≡ drop i bytes = take_all (length bytes - i) (drop i bytes) (omega (arith, length-drop i bytes)) in
+    take-add i n bytes ∙ ap (λ rest. take i bytes ++ take n rest) (sym whole)
+
+module _ {X E : Type 0} (Took : X → List Cut → Result (Unit {0}) E → X → Type 0)
+    (joined : (x y z : X) (cs ds : List Cut) (r : Result (Unit {0}) E) → Took x cs (Ok tt) y → Took y ds r z → Took x (cs ++ ds) r z)
+    (before bytes : List ℕ) (piece : List ℕ) (held : Cut) (x y : X) (so_far : TakesBytes Took before bytes held x y (Ok tt)) (more : List ℕ) (next : more ≡ bytes ++ piece) where
+  all_bytes : before ++ more ≡ (before ++ bytes) ++ piece
+  all_bytes = ap (λ bs. before ++ bs) next ∙ sym (append_assoc before bytes (piece))
+
+  all_ended : ended_cuts (before ++ bytes) ≡ ended_cuts before ++ so_far.lines
+  all_ended = so_far.ended ∙ ap (λ ls. ended_cuts before ++ (so_far.lines ++ ls)) so_far.all_taken.0 ∙ ap (λ ls. ended_cuts before ++ ls) (append-nil so_far.lines)
+
+  -- the piece ended no line
+  pub TakesBytes-quiet : (held_now : Cut) → held_now ≡ pending ((before ++ bytes) ++ piece) → ended_cuts ((before ++ bytes) ++ piece) ≡ ended_cuts (before ++ bytes) ++ [] → TakesBytes Took before more held_now x y (Ok tt)
+  TakesBytes-quiet held_now h e = record {
+    lines = so_far.lines;
+    left_out = [];
+    ended = ap ended_cuts all_bytes ∙ e ∙ append-nil _ ∙ all_ended ∙ ap (λ ls. ended_cuts before ++ ls) (sym (append-nil so_far.lines));
+    all_taken = (refl, h ∙ ap pending (sym all_bytes));
+    took = so_far.took;
+  }
+
+  -- the piece ended a line
+  ended_line : (line : Cut) → ended_cuts ((before ++ bytes) ++ piece) ≡ ended_cuts (before ++ bytes) ++ line ∷ [] → ended_cuts (before ++ more) ≡ ended_cuts before ++ (so_far.lines ++ line ∷ [])
+  ended_line line e = ap ended_cuts all_bytes ∙ e ∙ ap (λ ls. ls ++ line ∷ []) all_ended ∙ append_assoc (ended_cuts before) so_far.lines (line ∷ [])
+
+  pub TakesBytes-line : (held_now line : Cut) (z : X) → held_now ≡ pending ((before ++ bytes) ++ piece) → ended_cuts ((before ++ bytes) ++ piece) ≡ ended_cuts (before ++ bytes) ++ line ∷ [] → Took y (line ∷ []) (Ok tt) z → TakesBytes Took before more held_now x z (Ok tt)
+  TakesBytes-line held_now line z h e took = record {
+    lines = so_far.lines ++ line ∷ [];
+    left_out = [];
+    ended = ended_line line e ∙ ap (λ ls. ended_cuts before ++ ls) (sym (append-nil (so_far.lines ++ line ∷ [])));
+    all_taken = (refl, h ∙ ap pending (sym all_bytes));
+    took = joined x y z so_far.lines (line ∷ []) (Ok tt) so_far.took took;
+  }
+
+  -- the piece ended a line that stopped the taking
+  pub TakesBytes-stop : (held_now line : Cut) (z : X) (stop : E) (whole rest : List ℕ) → whole ≡ more ++ rest → ended_cuts ((before ++ bytes) ++ piece) ≡ ended_cuts (before ++ bytes) ++ line ∷ [] → Took y (line ∷ []) (Err stop) z → TakesBytes Took before whole held_now x z (Err stop)
+  TakesBytes-stop held_now line z stop whole rest w e took =
+      let others = ended-more (before ++ more) rest in
+      record {
+        lines = so_far.lines ++ line ∷ [];
+        left_out = others.0;
+        ended = ap (λ bs. ended_cuts (before ++ bs)) w ∙ ap ended_cuts (sym (append_assoc before more rest)) ∙ others.1 ∙ ap (λ ls. ls ++ others.0) (ended_line line e) ∙ append_assoc (ended_cuts before) (so_far.lines ++ line ∷ []) others.0;
+        all_taken = tt;
+        took = joined x y z so_far.lines (line ∷ []) (Err stop) so_far.took took;
+      }
+
+-- no byte yet
+pub TakesBytes-none : {X E : Type 0} (Took : X → List Cut → Result (Unit {0}) E → X → Type 0) (before : List ℕ) (held : Cut) (x : X) → Took x [] (Ok tt) x → held ≡ pending before → TakesBytes Took before [] held x x (Ok tt)
+TakesBytes-none Took before held x none h = record {
+  lines = [];
+  left_out = [];
+  ended = ap ended_cuts (append-nil before) ∙ sym (append-nil (ended_cuts before));
+  all_taken = (refl, h ∙ ap pending (sym (append-nil before)));
+  took = none;
+}
+
+-- ---- reads
+
+-- what the reads so far gave, and the lines taken of it
+pub record GivenSoFar {X E : Type 0} (Took : X → List Cut → Result (Unit {0}) E → X → Type 0) (left_old left_now : Option (List ℕ)) (held : Cut) (x y : X) : Type 0 where
+  pub given : List ℕ
+  pub bytes : Consumes left_old left_now given
+  pub taken : TakesBytes Took [] given held x y (Ok tt)
+
+-- the lines that a call took in the end
+pub record Taken {X E : Type 0} (Took : X → List Cut → Result (Unit {0}) E → X → Type 0) (old new : Drawn) (turns : ℕ) (ending : Ending) (x z : X) (result : Result (Unit {0}) E) : Type 0 where
+  pub lines : List Cut
+  pub draws : Draws old new turns ending lines
+  pub took : Took x lines result z
+
+pub GivenSoFar-none : {X E : Type 0} (Took : X → List Cut → Result (Unit {0}) E → X → Type 0) (left : Option (List ℕ)) (held : Cut) (x : X) → Took x [] (Ok tt) x → held ≡ pending [] → GivenSoFar Took left left held x x
+GivenSoFar-none Took left held x none h = record { given = []; bytes = Consumes-nil left; taken = TakesBytes-none Took [] held x none h }
+
+module _ {X E : Type 0} (Took : X → List Cut → Result (Unit {0}) E → X → Type 0)
+    (joined : (x y z : X) (cs ds : List Cut) (r : Result (Unit {0}) E) → Took x cs (Ok tt) y → Took y ds r z → Took x (cs ++ ds) r z)
+    (old mid new : Drawn) (held : Cut) (x y : X) (so_far : GivenSoFar Took old.left mid.left held x y) where
+  taken_so_far : ended_cuts so_far.given ≡ so_far.taken.lines
+  taken_so_far = so_far.taken.ended ∙ ap (λ ls. so_far.taken.lines ++ ls) so_far.taken.all_taken.0 ∙ append-nil so_far.taken.lines
+
+  all_lines : cuts so_far.given ≡ so_far.taken.lines ++ map cut (last_line (pieces so_far.given).rest)
+  all_lines = cuts-ended so_far.given ∙ ap (λ ls. ls ++ map cut (last_line (pieces so_far.given).rest)) taken_so_far
+
+  -- the lines taken of the next piece, and of all
+  module _ (piece : List ℕ) (held_now : Cut) (z : X) (read : Consumes mid.left new.left piece) where
+    with_piece : (r : Result (Unit {0}) E) (more : TakesBytes Took so_far.given piece held_now y z r) → ended_cuts (so_far.given ++ piece) ≡ (so_far.taken.lines ++ more.lines) ++ more.left_out
+    with_piece r more = more.ended ∙ ap (λ ls. ls ++ (more.lines ++ more.left_out)) taken_so_far ∙ sym (append_assoc so_far.taken.lines more.lines more.left_out)
+
+    pub GivenSoFar-piece : TakesBytes Took so_far.given piece held_now y z (Ok tt) → GivenSoFar Took old.left new.left held_now x z
+    GivenSoFar-piece more = record {
+      given = so_far.given ++ piece;
+      bytes = Consumes-trans old.left mid.left new.left so_far.given piece so_far.bytes read;
+      taken = record {
+        lines = so_far.taken.lines ++ more.lines;
+        left_out = more.left_out;
+        ended = with_piece (Ok tt) more;
+        all_taken = (more.all_taken.0, more.all_taken.1);
+        took = joined x y z so_far.taken.lines more.lines (Ok tt) so_far.taken.took more.took;
+      };
+    }
+
+    -- a line of the piece stopped the call
+    pub Taken-stop : (turn turns : ℕ) (stop : E) → turn + 1 ≤ turns → new.reads ≡ counted_up (turn + 1) old.reads → new.failures ≡ mid.failures → mid.failures ≡ old.failures → TakesBytes Took so_far.given piece held_now y z (Err stop)
+        → Taken Took old new turns LineStopped x z (Err stop)
+    Taken-stop turn turns stop within reads lost same_lost more =
+        let given : List ℕ = so_far.given ++ piece in
+        let others : List Cut = map cut (last_line (pieces given).rest) in
+        record {
+          lines = so_far.taken.lines ++ more.lines;
+          draws = record {
+            given = given;
+            left_out = more.left_out ++ others;
+            bytes = Consumes-trans old.left mid.left new.left so_far.given piece so_far.bytes read;
+            front = cuts-ended given ∙ ap (λ ls. ls ++ others) (with_piece (Err stop) more) ∙ append_assoc (so_far.taken.lines ++ more.lines) more.left_out others;
+            ends = tt;
+            failures = lost ∙ same_lost;
+            reads = (turn + 1, within, reads);
+          };
+          took = joined x y z so_far.taken.lines more.lines (Err stop) so_far.taken.took more.took;
+        }
+
+  -- a read failed
+  pub Taken-read : (turn turns : ℕ) → Keeps mid.left new.left → turn + 1 ≤ turns → new.reads ≡ counted_up (turn + 1) old.reads → new.ends ≡ mid.ends → mid.ends ≡ old.ends → new.failures ≡ one_more mid.failures → mid.failures ≡ old.failures
+      → Taken Took old new turns ReadFailed x y (Ok tt)
+  Taken-read turn turns kept within reads ends same_ends lost same_lost = record {
+    lines = so_far.taken.lines;
+    draws = record {
+      given = so_far.given;
+      left_out = map cut (last_line (pieces so_far.given).rest);
+      bytes = Consumes-kept old.left mid.left new.left so_far.given so_far.bytes kept;
+      front = all_lines;
+      ends = (sym taken_so_far, ends ∙ same_ends);
+      failures = lost ∙ ap (λ n. one_more n) same_lost;
+      reads = (turn + 1, within, reads);
+    };
+    took = so_far.taken.took;
+  }
+
+  -- the end, and a last line, which may stop the call
+  Taken-over : (ending : Ending) (r : Result (Unit {0}) E) (turn turns : ℕ) (z : X) → is_read_failed ending ≡ false → turn + 1 ≤ turns → new.reads ≡ counted_up (turn + 1) old.reads → new.failures ≡ mid.failures → mid.failures ≡ old.failures
+      → Consumes mid.left new.left [] → (last : TakesLast Took so_far.given y z r) → EndsAs so_far.given (so_far.taken.lines ++ last.lines) [] turns old new ending → Taken Took old new turns ending x z r
+  Taken-over ending r turn turns z read_well within reads lost same_lost read last ends = record {
+    lines = so_far.taken.lines ++ last.lines;
+    draws = record {
+      given = so_far.given;
+      left_out = [];
+      bytes = subst (Consumes old.left new.left) (append-nil so_far.given) (Consumes-trans old.left mid.left new.left so_far.given [] so_far.bytes read);
+      front = last.all_told ∙ ap (λ ls. ls ++ last.lines) taken_so_far ∙ sym (append-nil _);
+      ends = ends;
+      failures = rw read_well (lost ∙ same_lost);
+      reads = (turn + 1, within, reads);
+    };
+    took = joined x y z so_far.taken.lines last.lines r so_far.taken.took last.took;
+  }
+
+  pub Taken-end : (turn turns : ℕ) (z : X) → turn + 1 ≤ turns → new.reads ≡ counted_up (turn + 1) old.reads → new.ends ≡ one_more mid.ends → mid.ends ≡ old.ends → new.failures ≡ mid.failures → mid.failures ≡ old.failures
+      → Consumes mid.left new.left [] → IsAtEnd new.left → TakesLast Took so_far.given y z (Ok tt) → Taken Took old new turns AtEnd x z (Ok tt)
+  Taken-end turn turns z within reads ends same_ends lost same_lost read over last =
+      Taken-over AtEnd (Ok tt) turn turns z refl within reads lost same_lost read last (refl, ends ∙ ap (λ n. one_more n) same_ends, over)
+
+  pub Taken-last : (turn turns : ℕ) (z : X) (stop : E) → turn + 1 ≤ turns → new.reads ≡ counted_up (turn + 1) old.reads → new.failures ≡ mid.failures → mid.failures ≡ old.failures
+      → Consumes mid.left new.left [] → TakesLast Took so_far.given y z (Err stop) → Taken Took old new turns LineStopped x z (Err stop)
+  Taken-last turn turns z stop within reads lost same_lost read last = Taken-over LineStopped (Err stop) turn turns z refl within reads lost same_lost read last tt
+
+-- all turns are over
+pub Taken-turns : {X E : Type 0} (Took : X → List Cut → Result (Unit {0}) E → X → Type 0) (old now : Drawn) (held : Cut) (x y : X) → GivenSoFar Took old.left now.left held x y
+    → (turn turns : ℕ) → turn ≡ turns → now.reads ≡ counted_up turn old.reads → now.ends ≡ old.ends → now.failures ≡ old.failures → Taken Took old now turns TurnsOver x y (Ok tt)
+Taken-turns Took old now held x y so_far turn turns over reads ends lost =
+    let all = so_far.taken.ended ∙ ap (λ ls. so_far.taken.lines ++ ls) so_far.taken.all_taken.0 ∙ append-nil so_far.taken.lines in
+    record {
+      lines = so_far.taken.lines;
+      draws = record {
+        given = so_far.given;
+        left_out = map cut (last_line (pieces so_far.given).rest);
+        bytes = so_far.bytes;
+        front = cuts-ended so_far.given ∙ ap (λ ls. ls ++ map cut (last_line (pieces so_far.given).rest)) all;
+        ends = (sym all, ends, subst (λ (n : ℕ). now.reads ≡ counted_up n old.reads) over reads);
+        failures = lost;
+        reads = (turn, omega arith, reads);
+      };
+      took = so_far.taken.took;
+    }

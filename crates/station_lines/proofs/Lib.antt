@@ -1,0 +1,6 @@
+pub mod CommandLemmas
+pub mod DigitLemmas
+pub mod DrawingLemmas
+pub mod EndLemmas
+pub mod PumpLemmas
+pub mod TallyLemmas

@@ -1,0 +1,71 @@
+-- Lines by kind, and what a tally counts of them.
+use Rattle.std.specs.Prelude.{◌≡◌, ◌+◌, Bool, true, false, List, Result, Ok, Err, length, count_by}
+use Rattle.modes_frame.specs.declared.cutter.Cut.{Cut}
+use Rattle.modes_frame.specs.declared.line.Line.TheVariants.{Frame, ModeAc, Blank}
+use Rattle.station_lines.specs.declared.command.Command.{Command}
+use Rattle.station_lines.specs.declared.command.Command.TheVariants.{Tick, Show, Line as Received}
+use Rattle.station_lines.specs.declared.command.CommandFault.{CommandFault}
+use Rattle.station_lines.specs.declared.tally.Tally.{Tally}
+
+-- the line has a frame of 56 or 112 bits
+abbrev pub is_frame : Result Command CommandFault → Bool
+is_frame (Ok (Tick at)) = false
+is_frame (Ok Show) = false
+is_frame (Ok (Received (Frame frame))) = true
+is_frame (Ok (Received ModeAc)) = false
+is_frame (Ok (Received Blank)) = false
+is_frame (Err fault) = false
+
+-- the line tells a moment
+abbrev pub is_tick : Result Command CommandFault → Bool
+is_tick (Ok (Tick at)) = true
+is_tick (Ok Show) = false
+is_tick (Ok (Received (Frame frame))) = false
+is_tick (Ok (Received ModeAc)) = false
+is_tick (Ok (Received Blank)) = false
+is_tick (Err fault) = false
+
+-- the line asks for the table
+abbrev pub is_show : Result Command CommandFault → Bool
+is_show (Ok (Tick at)) = false
+is_show (Ok Show) = true
+is_show (Ok (Received (Frame frame))) = false
+is_show (Ok (Received ModeAc)) = false
+is_show (Ok (Received Blank)) = false
+is_show (Err fault) = false
+
+-- the line is a mode A/C reply or the heartbeat
+abbrev pub is_mode_ac : Result Command CommandFault → Bool
+is_mode_ac (Ok (Tick at)) = false
+is_mode_ac (Ok Show) = false
+is_mode_ac (Ok (Received (Frame frame))) = false
+is_mode_ac (Ok (Received ModeAc)) = true
+is_mode_ac (Ok (Received Blank)) = false
+is_mode_ac (Err fault) = false
+
+-- the line is of blanks alone
+abbrev pub is_blank : Result Command CommandFault → Bool
+is_blank (Ok (Tick at)) = false
+is_blank (Ok Show) = false
+is_blank (Ok (Received (Frame frame))) = false
+is_blank (Ok (Received ModeAc)) = false
+is_blank (Ok (Received Blank)) = true
+is_blank (Err fault) = false
+
+-- the lines, read so, are counted by their kinds beside what was counted before; the others are faults
+pub record CountsLines (read : Cut → Result Command CommandFault) (old new : Tally) (lines : List Cut) : Type 0 where
+  pub lines_more : new.lines ≡ old.lines + length lines
+  pub frames_more : new.frames ≡ old.frames + count_by (λ l. is_frame (read l)) lines
+  pub ticks_more : new.ticks ≡ old.ticks + count_by (λ l. is_tick (read l)) lines
+  pub shows_more : new.shows ≡ old.shows + count_by (λ l. is_show (read l)) lines
+  pub mode_ac_more : new.mode_ac ≡ old.mode_ac + count_by (λ l. is_mode_ac (read l)) lines
+  pub blank_more : new.blank ≡ old.blank + count_by (λ l. is_blank (read l)) lines
+
+-- the tally counts these lines, read so, by their kinds; the others are faults
+pub record Counts (read : Cut → Result Command CommandFault) (tally : Tally) (lines : List Cut) : Type 0 where
+  pub lines_are : tally.lines ≡ length lines
+  pub frames_are : tally.frames ≡ count_by (λ l. is_frame (read l)) lines
+  pub ticks_are : tally.ticks ≡ count_by (λ l. is_tick (read l)) lines
+  pub shows_are : tally.shows ≡ count_by (λ l. is_show (read l)) lines
+  pub mode_ac_are : tally.mode_ac ≡ count_by (λ l. is_mode_ac (read l)) lines
+  pub blank_are : tally.blank ≡ count_by (λ l. is_blank (read l)) lines

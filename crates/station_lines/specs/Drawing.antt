@@ -1,0 +1,65 @@
+-- The lines that a call takes of what its source gives.
+use Rattle.std.specs.Prelude.{◌≡◌, ℕ, ◌≤◌, Bool, true, false, not, List, [], ◌++◌, Option, Result, OnOk}
+use Rattle.std.specs.Io.KnownBytes.{Consumes, IsAtEnd}
+use Rattle.modes_frame.specs.declared.cutter.Cut.{Cut}
+use Rattle.modes_frame.specs.Lines.{cuts, ended_cuts, pending}
+use Rattle.station_report.specs.Sink.{counted}
+use Rattle.station_lines.specs.Source.{one_more, counted_up}
+
+-- what a source has left, where that is known, and what it has counted
+pub record Drawn : Type 0 where
+  pub left : Option (List ℕ)
+  pub reads : ℕ
+  pub ends : ℕ
+  pub failures : ℕ
+
+-- what a source is seen as, by what its trait tells of it
+abbrev pub drawn_of : {S : Type 0} → (S → Option (List ℕ)) → (S → ℕ) → (S → ℕ) → (S → ℕ) → S → Drawn
+drawn_of left reads ends failures source = record { left = left source; reads = reads source; ends = ends source; failures = failures source }
+
+-- why no further line is taken: the source gave the end, a read failed, all turns are over, or a line stopped the call
+pub data Ending : Type 0 where
+  AtEnd : Ending
+  ReadFailed : Ending
+  TurnsOver : Ending
+  LineStopped : Ending
+
+-- which lines were taken of those of the bytes given, and what the source counted
+abbrev pub EndsAs : List ℕ → List Cut → List Cut → ℕ → Drawn → Drawn → Ending → Type 0
+EndsAs given lines left_out turns old new AtEnd = (left_out ≡ []) × (new.ends ≡ one_more old.ends) × IsAtEnd new.left
+EndsAs given lines left_out turns old new ReadFailed = (lines ≡ ended_cuts given) × (new.ends ≡ old.ends)
+EndsAs given lines left_out turns old new TurnsOver =
+    (lines ≡ ended_cuts given) × (new.ends ≡ old.ends) × (new.reads ≡ counted_up turns old.reads)
+EndsAs given lines left_out turns old new LineStopped = Unit {0}
+
+-- a failed read ended the call
+abbrev pub is_read_failed : Ending → Bool
+is_read_failed AtEnd = false
+is_read_failed ReadFailed = true
+is_read_failed TurnsOver = false
+is_read_failed LineStopped = false
+
+-- the bytes that the reads of a call gave, and the lines taken of theirs: a front of all lines
+pub record Draws (old new : Drawn) (turns : ℕ) (ending : Ending) (lines : List Cut) : Type 0 where
+  pub given : List ℕ
+  pub left_out : List Cut
+  pub bytes : Consumes old.left new.left given
+  pub front : cuts given ≡ lines ++ left_out
+  pub ends : EndsAs given lines left_out turns old new ending
+  -- a read failed exactly where that ended the call, and at most so many reads were made
+  pub failures : new.failures ≡ counted (not (is_read_failed ending)) old.failures
+  pub reads : (made : ℕ) × (made ≤ turns) × (new.reads ≡ counted_up made old.reads)
+
+-- lines taken, as Took says, of those that some bytes end, after the bytes before them: all, or a front
+pub record TakesBytes {X E : Type 0} (Took : X → List Cut → Result (Unit {0}) E → X → Type 0) (before bytes : List ℕ) (held : Cut) (x y : X) (result : Result (Unit {0}) E) : Type 0 where
+  pub lines : List Cut
+  pub left_out : List Cut
+  pub ended : ended_cuts (before ++ bytes) ≡ ended_cuts before ++ (lines ++ left_out)
+  pub all_taken : OnOk result ((left_out ≡ []) × (held ≡ pending (before ++ bytes)))
+  pub took : Took x lines result y
+
+-- the last line, which no line feed ended, where it isn't empty
+pub record TakesLast {X E : Type 0} (Took : X → List Cut → Result (Unit {0}) E → X → Type 0) (before : List ℕ) (x y : X) (result : Result (Unit {0}) E) : Type 0 where
+  pub lines : List Cut
+  pub all_told : cuts before ≡ ended_cuts before ++ lines
+  pub took : Took x lines result y

@@ -1,0 +1,103 @@
+-- What the lines of a pump do, one after another.
+use Rattle.std.specs.Prelude.{◌≡◌, ℕ, ◌+◌, true, List, [], ◌∷◌, ◌++◌, Result, Ok, Err, is_ok, count_by, alloc_error, if◌then◌else◌}
+use Rattle.std.specs.List.{list_all}
+use Rattle.std.specs.declared.alloc.AllocError.{AllocError}
+use Rattle.modes_frame.specs.declared.cutter.Cut.{Cut}
+use Rattle.modes_frame.specs.declared.line.Line.TheVariants.{Frame}
+use Rattle.station_journal.specs.declared.Refusal.{Refusal}
+use Rattle.station_journal.specs.declared.Refusal.TheVariants.{NoMemory}
+use Rattle.station_lines.specs.Calls.{heard, frames_of}
+use Rattle.station_lines.specs.Counting.{CountsLines, Counts}
+use Rattle.station_lines.specs.Drawing.{Drawn, Ending, AtEnd, ReadFailed, TurnsOver, LineStopped, Draws}
+use Rattle.station_lines.specs.Feeds.{Feeds, is_reply}
+use Rattle.station_lines.specs.declared.command.Command.TheVariants.{Line as Received}
+use Rattle.station_lines.specs.declared.pumping.PumpFault.{PumpFault}
+use Rattle.station_lines.specs.declared.pumping.PumpFault.TheVariants as Faults
+use Rattle.station_lines.specs.declared.tally.Tally.{Tally}
+
+-- the last of these lines has a frame, whose answer, the last of these, is want of memory; the others are not
+pub record EndsWithWant (lines : List Cut) (answers : List (Result (Unit {0}) Refusal)) : Type 0 where
+  pub front : List Cut
+  pub last : Cut
+  pub frame : List ℕ
+  pub replies : List (Result (Unit {0}) Refusal)
+  pub parts : lines ≡ front ++ last ∷ []
+  pub asks : heard last ≡ Ok (Received (Frame frame))
+  pub told : answers ≡ replies ++ Err NoMemory ∷ []
+  pub others : list_all is_reply replies ≡ true
+
+-- want of memory stops a pump, and no other refusal does
+abbrev pub stop_after : Result (Unit {0}) Refusal → Result (Unit {0}) AllocError
+stop_after answer = if is_reply answer then Ok tt else Err alloc_error
+
+-- want of memory met no line, or the last
+abbrev pub Wants : List Cut → List (Result (Unit {0}) Refusal) → Result (Unit {0}) AllocError → Type 0
+Wants lines answers (Ok done) = list_all is_reply answers ≡ true
+Wants lines answers (Err want) = EndsWithWant lines answers
+
+-- where a pump stands: the feed and the tally
+pub record Pumping (F : Type 0) : Type 0 where
+  pub feed : F
+  pub tally : Tally
+
+-- what taking lines leaves
+pub record Pumps {F : Type 0} (gives : F → List ℕ → Result (Unit {0}) Refusal → F → Type 0) (old : Pumping F) (lines : List Cut) (result : Result (Unit {0}) AllocError) (new : Pumping F) : Type 0 where
+  pub answers : List (Result (Unit {0}) Refusal)
+  pub feeds : Feeds gives old.feed (frames_of lines) answers new.feed
+  pub wants : Wants lines answers result
+  pub counts : CountsLines heard old.tally new.tally lines
+  pub accepted : new.tally.accepted ≡ old.tally.accepted + count_by is_ok answers
+
+-- a frame was fed and its line counted: want of memory is told, and no other refusal stops a pump
+pub record PumpsFrame {F : Type 0} (gives : F → List ℕ → Result (Unit {0}) Refusal → F → Type 0) (before after : F) (frame : List ℕ) (old new : Tally) (result : Result (Unit {0}) AllocError) : Type 0 where
+  pub answer : Result (Unit {0}) Refusal
+  pub fed : gives before frame answer after
+  pub stops : result ≡ stop_after answer
+  pub lines_more : new.lines ≡ old.lines + 1
+  pub frames_more : new.frames ≡ old.frames + 1
+  pub ticks_same : new.ticks ≡ old.ticks
+  pub shows_same : new.shows ≡ old.shows
+  pub mode_ac_same : new.mode_ac ≡ old.mode_ac
+  pub blank_same : new.blank ≡ old.blank
+  pub accepted : new.accepted ≡ old.accepted + (if is_ok answer then 1 else 0)
+
+-- ---- the whole pump
+
+-- the answer of a pump whose lines are over, with what was counted
+abbrev pub answer_of : Result (Unit {0}) AllocError → Tally → Result Tally PumpFault
+answer_of (Ok done) tally = Ok tally
+answer_of (Err want) tally = Err (Faults.NoMemory tally)
+
+-- what was counted, whatever the answer
+abbrev pub tally_of : Result Tally PumpFault → Tally
+tally_of (Ok tally) = tally
+tally_of (Err (Faults.Read tally)) = tally
+tally_of (Err (Faults.TooManyTurns tally)) = tally
+tally_of (Err (Faults.NoMemory tally)) = tally
+
+-- whether memory was wanting, by the answer
+abbrev pub want_of : Result Tally PumpFault → Result (Unit {0}) AllocError
+want_of (Ok tally) = Ok tt
+want_of (Err (Faults.Read tally)) = Ok tt
+want_of (Err (Faults.TooManyTurns tally)) = Ok tt
+want_of (Err (Faults.NoMemory tally)) = Err alloc_error
+
+-- why no further line was taken, by the answer
+abbrev pub ending_of : Result Tally PumpFault → Ending
+ending_of (Ok tally) = AtEnd
+ending_of (Err (Faults.Read tally)) = ReadFailed
+ending_of (Err (Faults.TooManyTurns tally)) = TurnsOver
+ending_of (Err (Faults.NoMemory tally)) = LineStopped
+
+-- some lines were taken of what the source gave, up to the end or the fault: the feed went through its steps for
+-- their frames, and the tally counts them
+pub record PumpsAll {F : Type 0} (gives : F → List ℕ → Result (Unit {0}) Refusal → F → Type 0) (before after : F) (source_old source_new : Drawn) (turns : ℕ) (result : Result Tally PumpFault) : Type 0 where
+  pub lines : List Cut
+  pub answers : List (Result (Unit {0}) Refusal)
+  pub draws : Draws source_old source_new turns (ending_of result) lines
+  pub feeds : Feeds gives before (frames_of lines) answers after
+  pub wants : Wants lines answers (want_of result)
+  pub counts : Counts heard (tally_of result) lines
+  pub no_ticks : (tally_of result).ticks ≡ 0
+  pub no_shows : (tally_of result).shows ≡ 0
+  pub accepted : (tally_of result).accepted ≡ count_by is_ok answers

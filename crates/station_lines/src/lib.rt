@@ -1,0 +1,16 @@
+//! The lines of a source: what each says, what is counted of them, and the pump that feeds their frames.
+#![tactic(auto)]
+
+pub mod command;
+pub mod feed;
+pub mod from_read;
+pub mod pumping;
+pub mod source;
+pub mod tally;
+
+pub use command::{Command, CommandFault, read_command, read_command_short};
+pub use feed::Feed;
+pub use from_read::FromRead;
+pub use pumping::{PumpFault, pump};
+pub use source::Source;
+pub use tally::Tally;
