@@ -135,7 +135,7 @@ room-more v n true h = subst (λ (m : ℕ). m ≤ 2 ^ 24) (sym (pow-twice v n)) 
 room-more v n false h = less-room v (2 ^ n) (subst (λ (m : ℕ). m ≤ 2 ^ 24) (sym (pow-twice v n)) h)
 
 -- where 24 bits are not passed, the rest is the number that the bits write
-undivided : (bits : List Bool) (v : ℕ) → (v + 1) * 2 ^ length bits ≤ 2 ^ 24 → fold divide v bits ≡ fold brought_down v bits
+pub undivided : (bits : List Bool) (v : ℕ) → (v + 1) * 2 ^ length bits ≤ 2 ^ 24 → fold divide v bits ≡ fold brought_down v bits
 unfolding divide
 undivided [] v h = refl
 undivided (bit ∷ bits) v h =
@@ -146,7 +146,7 @@ undivided (bit ∷ bits) v h =
 
 -- ---- a byte more
 
-parity-is : (bytes : List ℕ) → parity_of bytes ≡ fold divide (remainder_of bytes) (replicate 24 false)
+pub parity-is : (bytes : List ℕ) → parity_of bytes ≡ fold divide (remainder_of bytes) (replicate 24 false)
 unfolding parity_of
 parity-is bytes = fold-append divide 0 (bits_of bytes) (replicate 24 false)
 
@@ -173,7 +173,7 @@ alone k h = eqb-true _ _ (all_of_width-at 8 (λ k. fold divide k (replicate 24 f
 high : (k : ℕ) → k < 256 → fold divide (k * 65536) (replicate 8 false) ≡ parity_of (k ∷ [])
 high k h = eqb-true _ _ (all_of_width-at 8 (λ k. fold divide (k * 65536) (replicate 8 false) == parity_of (k ∷ [])) entry_high k h)
 
-byte-is : (k : ℕ) → k < 256 → fold divide 0 (byte_bits k) ≡ k
+pub byte-is : (k : ℕ) → k < 256 → fold divide 0 (byte_bits k) ≡ k
 byte-is k h = eqb-true _ _ (all_of_width-at 8 (λ k. fold divide 0 (byte_bits k) == k) entry_byte k h)
 
 -- entries go together with exclusive or

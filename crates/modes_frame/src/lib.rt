@@ -8,6 +8,7 @@ mod digits;
 pub mod frame;
 pub mod line;
 pub mod parity;
+mod parity_by_place;
 pub mod readers;
 
 pub use blanks::trim_blanks;
@@ -19,5 +20,7 @@ pub use parity::remainder;
 
 #[cfg(test)]
 mod byte_tests;
+#[cfg(test)]
+mod parity_tests;
 #[cfg(test)]
 mod tests;

@@ -5,7 +5,7 @@ ghost use Rattle.modes_frame.specs.Claims.{claim_of, address_field, assigned, co
 
 use crate::claims::{CheckFault, Claim};
 use crate::frame::Frame;
-use crate::parity::remainder;
+use crate::parity_by_place::remainder_by_place;
 
 /// Whom a frame speaks for, by its downlink format and the remainder of the whole frame (ICAO Annex 10 Volume IV,
 /// 3.1.2.3.3). An address is below 2^24.
@@ -15,7 +15,7 @@ pub fn claim(frame: &Frame) -> Result<Claim, CheckFault>
     ensures below { IfOk result (λ claim. claim.address < 2 ^ 24) }
 {
     let df = frame.df();
-    let remainder = remainder(frame);
+    let remainder = remainder_by_place(frame);
     match df {
         0 | 4 | 5 | 16 | 20 | 21 => Ok(Claim {
             address: remainder,
