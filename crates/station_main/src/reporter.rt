@@ -76,12 +76,16 @@ fn report_at<const N: usize, L: Total, R: Wait + Clock, S: Sink, M: Moments>(
 {
     let mut has_failed = false;
     let mut due = pace.first_due();
+    let mut sleeps: u32 = 0;
     for _ in rt.forever() {
         if has_failed || have_ended.load(Ordering::SeqCst) {
             break;
         }
-        match act_at(moments.now(), due, pace.every) {
-            Act::Sleep(pause) => thread::sleep(rt, pause),
+        match act_at(moments.now(), due, sleeps, pace.every) {
+            Act::Sleep(pause) => {
+                thread::sleep(rt, pause);
+                sleeps = sleeps.saturating_add(1);
+            }
             Act::Print { at, next_due } => {
                 let _ = station.tick(rt, &mut seat, at);
                 let (shown, written) = print_table(seat, &mut out);

@@ -1,6 +1,7 @@
 mod outputs;
 mod rounds;
 mod run;
+mod sleeps;
 mod staged;
 mod through_time;
 

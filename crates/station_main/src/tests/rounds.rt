@@ -6,7 +6,7 @@ use super::run::{
 use super::staged::{Staged, lasting_path};
 use super::{Closed, NO_LINES, NO_MEMORY, Ran, run_words, stream, text};
 use crate::program::program;
-use std::fs::{File, OpenOptions};
+use std::fs::{self, File, OpenOptions};
 use std::io::{self, Write};
 use std::process::Abort;
 use std::rt::Files;
@@ -127,6 +127,53 @@ fn a_failed_write_ends_the_run_after_its_round(rt: HostRuntime) -> io::Result<()
     let fault = text(&ran.err).strip_prefix(ONE_FRAME_EACH);
     assert_eq!(rt; fault, Some("groundstation: write failed\n"));
     assert_eq!(rt; ran.status, 1);
+    remove(&rt, &files)
+}
+
+// Takes tables, and removes a path at the first.
+#[derive(Drop)]
+struct Removing<'a, R> {
+    rt: &'a R,
+    path: &'a str,
+    taken: &'a mut Vec<u8>,
+}
+
+impl<'a, R: Files> Write for Removing<'a, R> {
+    fn write(&mut self, piece: &[u8]) -> io::Result<usize> {
+        if self.taken.is_empty() {
+            fs::remove_file(self.rt, self.path)?;
+        }
+        self.taken.write(piece)
+    }
+
+    fn flush(&mut self) -> io::Result<()> {
+        Ok(())
+    }
+}
+
+#[test]
+fn a_path_that_is_gone_is_told_after_the_round_before(rt: HostRuntime) -> io::Result<()> {
+    let files = two_files(&rt, IDENTIFICATION, VELOCITY)?;
+    let (first, second) = (path_text(&files.first)?, path_text(&files.second)?);
+    let words = [
+        "groundstation",
+        "run",
+        "--every=3600000",
+        "--rounds=2",
+        first,
+        second,
+    ];
+    let (mut taken, mut err) = (Vec::new(rt.alloc()), Vec::new(rt.alloc()));
+    let out = Removing {
+        rt: &rt,
+        path: second,
+        taken: &mut taken,
+    };
+    let status = program(&rt, rt.alloc(), words.as_slice(), NO_LINES, out, &mut err);
+    let told = format!(in rt.alloc(); "{ONE_FRAME_EACH}groundstation: cannot open {second}\n")?;
+    assert_eq!(rt; text(&taken), TABLE_OF_BOTH);
+    assert_eq!(rt; text(&err), told.as_str());
+    assert_eq!(rt; status, 1);
     remove(&rt, &files)
 }
 

@@ -1,11 +1,12 @@
 // What tests of `run` stand on: a clock that shows the moments of a test, a path that lasts, and a wait with a bound.
 use std::alloc::{Allocator, Global};
+use std::array;
 use std::fs::{File, Metadata, OpenOptions};
 use std::io::{self, PipeReader, PipeWriter, Write};
 use std::os::fd::AsRawFd;
 use std::rt::Files;
 use std::sync::Wait;
-use std::sync::atomic::{AtomicBool, AtomicUsize, Ordering};
+use std::sync::atomic::{AtomicBool, AtomicU64, AtomicUsize, Ordering};
 use std::thread::{self, Threads};
 use std::time::{Clock, Duration};
 
@@ -18,6 +19,8 @@ pub struct Staged<'a, R> {
     // How many moments it may show.
     most: AtomicUsize,
     sleeps: AtomicUsize,
+    // The milliseconds of the first sleeps.
+    slept: [AtomicU64; 10],
     has_ended: &'a AtomicBool,
 }
 
@@ -28,8 +31,14 @@ impl<'a, R> Staged<'a, R> {
             moments,
             most: AtomicUsize::new(moments.len()),
             sleeps: AtomicUsize::new(0),
+            slept: array::from_fn(|_| AtomicU64::new(0)),
             has_ended,
         }
+    }
+
+    /// The milliseconds of the first sleeps.
+    pub fn slept(&self) -> &[AtomicU64] {
+        self.slept.as_slice()
     }
 
     /// Holds the clock at the last of so many moments, 1 at least. It goes on from where it was held before.
@@ -64,6 +73,9 @@ impl<'a, R: Clock> Clock for Staged<'a, R> {
         thread::sleep(self.rt, Duration::from_millis(1));
         if duration <= Duration::from_millis(50) {
             let before = self.sleeps.fetch_add(1, Ordering::SeqCst);
+            if let Some(slept) = self.slept.get(before) {
+                slept.store(duration.as_millis() as u64, Ordering::SeqCst);
+            }
             if before >= self.most.load(Ordering::SeqCst) {
                 self.has_ended.store(true, Ordering::SeqCst);
             }
