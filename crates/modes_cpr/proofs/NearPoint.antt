@@ -2,7 +2,7 @@
 use Rattle.std.proofs.Common.{◌≡◌, ℕ, zero, suc, ◌+◌, ◌<◌, ◌≤◌, ℤ, pos, ◌+ℤ◌, ◌-ℤ◌, ◌*ℤ◌, ap, ◌∙◌, refl, sym, subst, arith, Bool, true, false, Some}
 use Rattle.std.specs.Prelude.{if◌then◌else◌, IsSomeAnd}
 use Rattle.std.proofs.lemmas.Int.{ints}
-use Rattle.modes_fields.specs.declared.types.Place.{Place}
+use Rattle.modes_fields.specs.declared.place.Place.{Place}
 use Rattle.modes_cpr.specs.Floor.{floor, modulo}
 use Rattle.modes_cpr.specs.declared.points.Degrees.{Degrees}
 use Rattle.modes_cpr.specs.declared.points.Position.{Position}

@@ -3,7 +3,7 @@ use Rattle.std.proofs.Common.{◌≡◌, ℕ, ℤ, ap, ◌∙◌, sym, Bool, tru
 use Rattle.std.specs.Prelude.{◌==◌, ◌&&◌, if◌then◌else◌}
 use Rattle.std.proofs.lemmas.Bool.{eq-eqb, ne_eqb, and_from, and_left, and_right}
 use Rattle.std.proofs.lemmas.Int.{to_z-of_z}
-use Rattle.modes_fields.specs.declared.types.Place.{Place}
+use Rattle.modes_fields.specs.declared.place.Place.{Place}
 use Rattle.modes_cpr.specs.declared.points.Degrees.{Degrees}
 use Rattle.modes_cpr.specs.declared.points.Position.{Position}
 use Rattle.modes_cpr.specs.Pair.{longitude_zones, decoded, zone_index, is_latitude, position_by}

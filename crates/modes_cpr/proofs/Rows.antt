@@ -1,6 +1,6 @@
 -- Worked examples, computed by the checker from the definitions alone.
 use Rattle.std.proofs.Common.{◌≡◌, ℕ, ℤ, pos, neg_ℤ, refl, true, false, Some, None, Option}
-use Rattle.modes_fields.specs.declared.types.Place.{Place}
+use Rattle.modes_fields.specs.declared.place.Place.{Place}
 use Rattle.modes_cpr.specs.Floor.{floor}
 use Rattle.modes_cpr.specs.declared.points.Position.{Position}
 use Rattle.modes_cpr.specs.Zones.{zone_count, transitions}

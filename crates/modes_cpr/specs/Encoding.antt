@@ -1,7 +1,7 @@
 -- The place that is sent for a point.
 use Rattle.std.specs.Prelude.{ℕ, ◌*◌, ℤ, pos, ◌+ℤ◌, ◌*ℤ◌, unsigned_abs, Bool}
 use Rattle.modes_cpr.specs.declared.points.Degrees.{Degrees}
-use Rattle.modes_fields.specs.declared.types.Place.{Place}
+use Rattle.modes_fields.specs.declared.place.Place.{Place}
 use Rattle.modes_cpr.specs.Floor.{floor, modulo}
 use Rattle.modes_cpr.specs.Zones.{zone_count}
 use Rattle.modes_cpr.specs.Pair.{bins, latitude_zones, longitude_zones, angle}

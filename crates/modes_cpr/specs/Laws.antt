@@ -1,7 +1,7 @@
 -- What encoding and pairing have to do with each other.
 -- NL is any number from 1 to 59 that the latitude decides: no law uses the table.
 use Rattle.std.specs.Prelude.{ℕ, ◌*◌, ◌<◌, ◌≤◌, ◌^◌, ◌≡◌, ℤ, pos, ◌+ℤ◌, ◌-ℤ◌, ◌*ℤ◌, unsigned_abs, Bool, true, false, if◌then◌else◌, Some, IsSomeAnd}
-use Rattle.modes_fields.specs.declared.types.Place.{Place}
+use Rattle.modes_fields.specs.declared.place.Place.{Place}
 use Rattle.modes_fields.specs.Places.{IsPlace}
 use Rattle.modes_cpr.specs.declared.points.Degrees.{Degrees}
 use Rattle.modes_cpr.specs.declared.points.Position.{Position}

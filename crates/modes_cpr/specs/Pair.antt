@@ -1,7 +1,7 @@
 -- The position that an even and an odd place tell together.
 -- In each grid the circle of 360 degrees has a number of zones, and each zone has 2^17 bins.
 use Rattle.std.specs.Prelude.{ℕ, ◌-◌, ◌*◌, ◌<◌, max, ℤ, pos, ◌+ℤ◌, ◌-ℤ◌, ◌*ℤ◌, int_le, unsigned_abs, nat_le, ◌==◌, Bool, ◌&&◌, if◌then◌else◌, Option, Some, None}
-use Rattle.modes_fields.specs.declared.types.Place.{Place}
+use Rattle.modes_fields.specs.declared.place.Place.{Place}
 use Rattle.modes_cpr.specs.declared.points.Degrees.{Degrees}
 use Rattle.modes_cpr.specs.declared.points.Position.{Position}
 use Rattle.modes_cpr.specs.Floor.{floor, modulo}

@@ -11,8 +11,8 @@ use Rattle.modes_fields.specs.Characters.{callsign_of}
 use Rattle.modes_fields.specs.Velocities.{velocity_in, vertical_in}
 use Rattle.modes_fields.specs.Places.{IsPlace, place_in}
 use Rattle.modes_fields.specs.Carried.{no_fields, is_type, message_fields, has_ac, has_id, fields_of}
-use Rattle.modes_fields.specs.declared.types.Place.{Place}
-use Rattle.modes_fields.specs.declared.types.Fields.{Fields}
+use Rattle.modes_fields.specs.declared.place.Place.{Place}
+use Rattle.modes_fields.specs.declared.fields.Fields.{Fields}
 use Rattle.modes_fields.proofs.NumberLemmas.{number-lt}
 
 -- a place, where there is one, has numbers of 17 bits

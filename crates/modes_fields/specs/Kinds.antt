@@ -1,9 +1,9 @@
 -- What a frame carries, by its kind, as fields.
 use Rattle.std.specs.Prelude.{Some}
 use Rattle.modes_fields.specs.Carried.{no_fields}
-use Rattle.modes_fields.specs.declared.types.Fields.{Fields}
-use Rattle.modes_fields.specs.declared.types.Carried.{Carried}
-use Rattle.modes_fields.specs.declared.types.Carried.TheVariants.{Nothing, Altitude, Squawk, Callsign, AirbornePosition, GnssPosition, AirborneVelocity}
+use Rattle.modes_fields.specs.declared.fields.Fields.{Fields}
+use Rattle.modes_fields.specs.declared.fields.Carried.{Carried}
+use Rattle.modes_fields.specs.declared.fields.Carried.TheVariants.{Nothing, Altitude, Squawk, Callsign, AirbornePosition, GnssPosition, AirborneVelocity}
 
 -- the fields of a frame that carries this: those that no frame of the kind has are none
 abbrev pub fields_by : Carried → Fields

@@ -3,7 +3,7 @@ ghost use Rattle.std.specs.Prelude.{◌≡◌, ◌+◌, ◌-◌, ◌^◌, ◌<�
 ghost use Rattle.modes_frame.specs.Frames.{bits_of};
 ghost use Rattle.modes_fields.specs.Bits.{number, field as field_of};
 
-use modes_frame::frame::Frame;
+use modes_frame::Frame;
 use std::marker::Model;
 
 /// Up to eight bytes as one word, the first byte highest.

@@ -4,7 +4,7 @@ ghost use Rattle.modes_fields.specs.Bits.{field as field_of};
 ghost use Rattle.modes_fields.specs.Velocities.{signed_by, steps_of, step_of, knots_of, ground_of, air_of, vertical_in, velocity_in};
 
 use crate::message::Message;
-use crate::types::Velocity;
+use crate::velocity::Velocity;
 
 /// What `v` counts in steps, unless it is 0.
 fn steps(step: u16, v: u16) -> Option<u16>

@@ -3,7 +3,7 @@ use Rattle.std.proofs.Common.{◌≡◌, ℕ, ◌+◌, ◌<◌, false, List, [],
 use Rattle.std.proofs.lemmas.Bool.{false≢true}
 use mathlib.Core.List.{reverse}
 use Rattle.std.proofs.lemmas.List.{length-reverse, reverse-append, take_more}
-use Rattle.station_journal.specs.declared.Entry.{Entry}
+use Rattle.station_journal.specs.declared.entry.Entry.{Entry}
 use Rattle.station_journal.specs.Resume.{Sound}
 use Rattle.station_book.specs.Steps.{step_of}
 use Rattle.station_book.specs.State.{State, fits}

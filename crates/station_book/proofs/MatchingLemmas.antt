@@ -10,8 +10,8 @@ use Rattle.modes_frame.specs.declared.claims.Claim.{Claim}
 use Rattle.modes_frame.specs.declared.claims.CheckFault.{CheckFault}
 use Rattle.modes_frame.specs.Claims.{claim_of}
 use Rattle.modes_fields.specs.Carried.{fields_of}
-use Rattle.station_journal.specs.declared.Entry.{Entry}
-use Rattle.station_journal.specs.declared.Entry.TheVariants.{Tick, Heard}
+use Rattle.station_journal.specs.declared.entry.Entry.{Entry}
+use Rattle.station_journal.specs.declared.entry.Entry.TheVariants.{Tick, Heard}
 use Rattle.station_journal.specs.Past.{clock, speaks_for}
 use Rattle.station_journal.specs.Past.{IsTimed}
 use Rattle.station_book.specs.declared.tracks.Track.{Track}

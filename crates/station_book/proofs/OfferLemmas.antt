@@ -2,7 +2,7 @@
 use Rattle.std.proofs.Common.{◌≡◌, ◌⊎◌, ℕ, Bool, true, false, List, [], ◌∷◌, ◌++◌, refl}
 use Rattle.std.specs.Prelude.{nat_lt}
 use mathlib.Core.Logic.{inl, inr}
-use Rattle.station_journal.specs.declared.Entry.{Entry}
+use Rattle.station_journal.specs.declared.entry.Entry.{Entry}
 use Rattle.station_journal.specs.Log.{most_entries}
 use Rattle.station_book.specs.Steps.{step_of}
 use Rattle.station_book.specs.State.{State, offered, fits}

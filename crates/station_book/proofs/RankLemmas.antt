@@ -3,12 +3,12 @@ use Rattle.std.proofs.Common.{◌≡◌, ℕ, zero, suc, ◌<◌, ◌≤◌, ◌
 use Rattle.std.specs.List.{insert, refill}
 use Rattle.std.specs.Prelude.{slice_get, unwrap_or}
 use Rattle.std.proofs.lemmas.Option.{slice_get-get_or}
-use Rattle.modes_fields.specs.declared.types.Fields.{Fields}
+use Rattle.modes_fields.specs.declared.fields.Fields.{Fields}
 use Rattle.std.specs.List.Sorted.{IsPartitionPoint}
 use Rattle.std.proofs.Math.Seq.{take-append_seam}
 use Rattle.std.proofs.lemmas.Bool.Decides.{nat_tests}
 use Rattle.std.proofs.lemmas.List.{length-map}
-use Rattle.station_journal.proofs.RisingLemmas.{AllOver, IsRising}
+use Rattle.station_journal.specs.Rising.{AllOver, IsRising}
 use Rattle.station_book.specs.declared.tracks.Track.{Track}
 use Rattle.station_book.specs.Tracks.{blank, updated, find_track, put_track, track_or_blank, address_of, Rising, IsRank, IsPlace, with_track}
 use Rattle.station_book.proofs.TracksLemmas.{find_below, found_address}

@@ -3,11 +3,12 @@ use Rattle.std.proofs.Common.{◌≡◌, ℕ, Bool, true, false, if◌then◌els
 use Rattle.std.specs.Prelude.{◌==◌}
 use Rattle.std.proofs.lemmas.Bool.Decides.{nat_tests}
 use Rattle.std.proofs.lemmas.List.{length-map}
-use Rattle.station_journal.specs.declared.Entry.{Entry}
-use Rattle.station_journal.specs.declared.Aircraft.{Aircraft}
+use Rattle.station_journal.specs.declared.entry.Entry.{Entry}
+use Rattle.station_journal.specs.declared.aircraft.Aircraft.{Aircraft}
 use Rattle.station_journal.specs.Past.{clock, live}
 use Rattle.station_journal.specs.Table.{row, table, live_addresses, find_row}
-use Rattle.station_journal.proofs.RisingLemmas.{AllOver, IsRising, is_in, same_rising, rising_live, in_live}
+use Rattle.station_journal.specs.Rising.{AllOver, IsRising}
+use Rattle.station_journal.proofs.RisingLemmas.{is_in, same_rising, rising_live, in_live}
 use Rattle.station_book.specs.declared.tracks.Track.{Track}
 use Rattle.station_book.specs.Tracks.{address_of, find_track, track_row, AllAbove, Rising}
 use Rattle.station_book.specs.State.{State, rows}

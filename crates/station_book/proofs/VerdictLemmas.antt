@@ -7,11 +7,11 @@ use Rattle.modes_frame.specs.declared.claims.CheckFault.{CheckFault}
 use Rattle.modes_frame.specs.Claims.{claim_of, is_unassigned}
 use Rattle.station_journal.proofs.SoundLemmas.{accepted_fits}
 use Rattle.std.specs.Prelude.{◌&&◌}
-use Rattle.station_journal.specs.declared.Entry.{Entry}
-use Rattle.station_journal.specs.declared.Entry.TheVariants.{Tick, Heard}
-use Rattle.station_journal.specs.declared.Limits.{Limits}
-use Rattle.station_journal.specs.declared.Refusal.{Refusal}
-use Rattle.station_journal.specs.declared.Refusal.TheVariants.{Unknown, JournalFull, BookFull, NotLater, Repeated}
+use Rattle.station_journal.specs.declared.entry.Entry.{Entry}
+use Rattle.station_journal.specs.declared.entry.Entry.TheVariants.{Tick, Heard}
+use Rattle.station_journal.specs.declared.limits.Limits.{Limits}
+use Rattle.station_journal.specs.declared.refusal.Refusal.{Refusal}
+use Rattle.station_journal.specs.declared.refusal.Refusal.TheVariants.{Unknown, JournalFull, BookFull, NotLater, Repeated}
 use Rattle.station_journal.specs.Past.{Frame, clock, live, or_older}
 use Rattle.station_journal.specs.Table.{live_addresses}
 use Rattle.station_journal.specs.Repeats.{is_repeated}

@@ -1,7 +1,7 @@
 -- When a book and a list of entries match: each aircraft apart, and then the whole.
 use Rattle.std.specs.Prelude.{◌≡◌, ℕ, ◌≤◌, true, false, List, [], ◌∷◌, Option, Some, None, length, reverse}
-use Rattle.station_journal.specs.declared.Entry.{Entry}
-use Rattle.station_journal.specs.declared.Stamped.{Stamped}
+use Rattle.station_journal.specs.declared.entry.Entry.{Entry}
+use Rattle.station_journal.specs.declared.aircraft.Stamped.{Stamped}
 use Rattle.station_journal.specs.Past.{clock, live, fresh, newest, newest_fix, sighting_of, callsign_of, even_place_of, odd_place_of}
 use Rattle.station_journal.specs.Table.{altitude_of, squawk_of, velocity_of, vertical_of, table}
 use Rattle.station_journal.specs.Repeats.{first_heard}

@@ -3,10 +3,10 @@ use Rattle.std.specs.Prelude.{ℕ, ◌+◌, Bool, false, not, ◌&&◌, nat_lt, 
 use Rattle.modes_frame.specs.declared.claims.Claim.{Claim}
 use Rattle.modes_frame.specs.declared.claims.CheckFault.{CheckFault}
 use Rattle.modes_frame.specs.Claims.{is_unassigned}
-use Rattle.station_journal.specs.declared.Aircraft.{Aircraft}
-use Rattle.station_journal.specs.declared.Entry.{Entry}
-use Rattle.station_journal.specs.declared.Refusal.{Refusal}
-use Rattle.station_journal.specs.declared.Refusal.TheVariants.{Unknown, BookFull, NotLater, Repeated}
+use Rattle.station_journal.specs.declared.aircraft.Aircraft.{Aircraft}
+use Rattle.station_journal.specs.declared.entry.Entry.{Entry}
+use Rattle.station_journal.specs.declared.refusal.Refusal.{Refusal}
+use Rattle.station_journal.specs.declared.refusal.Refusal.TheVariants.{Unknown, BookFull, NotLater, Repeated}
 use Rattle.station_journal.specs.Log.{most_entries}
 use Rattle.station_journal.specs.Past.{Frame, or_older}
 use Rattle.station_journal.specs.Repeats.{is_one_of, with_heard}

@@ -3,8 +3,8 @@ use Rattle.std.specs.Prelude.{Result, Ok, Err, Option, Some, None}
 use Rattle.modes_frame.specs.declared.claims.Claim.{Claim}
 use Rattle.modes_frame.specs.declared.claims.CheckFault.{CheckFault}
 use Rattle.modes_frame.specs.Claims.{claim_of}
-use Rattle.station_journal.specs.declared.Entry.{Entry}
-use Rattle.station_journal.specs.declared.Entry.TheVariants as entry
+use Rattle.station_journal.specs.declared.entry.Entry.{Entry}
+use Rattle.station_journal.specs.declared.entry.Entry.TheVariants as entry
 use Rattle.station_journal.specs.Past.{Frame}
 use Rattle.station_book.specs.declared.steps.Sighting.{Sighting}
 use Rattle.station_book.specs.declared.steps.Step.{Step}

@@ -1,11 +1,11 @@
 -- What is kept of an aircraft, and of the live aircraft by rising address.
 use Rattle.std.specs.Prelude.{◌≡◌, ℕ, ◌-◌, ◌<◌, Bool, true, false, ◌==◌, nat_le, nat_lt, if◌then◌else◌, List, [], ◌∷◌, Option, Some, None, Result, Ok, Err, unwrap_or, is_some, filter, length, slice_index_or, ◌≤◌, slice_get, insert, slice_set}
-use Rattle.modes_fields.specs.declared.types.Place.{Place}
+use Rattle.modes_fields.specs.declared.place.Place.{Place}
 use Rattle.modes_cpr.specs.declared.points.Position.{Position}
-use Rattle.modes_fields.specs.declared.types.Fields.{Fields}
+use Rattle.modes_fields.specs.declared.fields.Fields.{Fields}
 use Rattle.modes_fields.specs.Carried.{fields_of}
 use Rattle.modes_frame.specs.declared.claims.CheckFault.{CheckFault}
-use Rattle.station_journal.specs.declared.Aircraft.{Aircraft}
+use Rattle.station_journal.specs.declared.aircraft.Aircraft.{Aircraft}
 use Rattle.station_journal.specs.Past.{stamp, or_older, fresh, with_parity, pair_with}
 use Rattle.station_book.specs.declared.tracks.Track.{Track}
 use Rattle.station_book.specs.declared.steps.Sighting.{Sighting}

@@ -2,7 +2,7 @@
 //! by.
 
 ghost use Rattle.std.specs.Prelude.{◌≡◌, ℕ, true, List, ◌∷◌, [], ◌++◌, ◌<◌, length, None, Some};
-ghost use Rattle.station_journal.specs.declared.Entry.{Entry};
+ghost use Rattle.station_journal.specs.declared.entry.Entry.{Entry};
 ghost use Rattle.station_journal.specs.Log.{Log, IsLegal, table_of, clock_of, refusal_of, most_entries};
 ghost use Rattle.station_book.specs.declared.steps.Step.{Step};
 ghost use Rattle.station_book.specs.declared.steps.Change.{Change};

@@ -1,7 +1,7 @@
 //! Entries as a book takes them: decoded once.
 
 ghost use Rattle.std.specs.Prelude.{◌≡◌};
-ghost use Rattle.station_journal.specs.declared.Entry.{Entry};
+ghost use Rattle.station_journal.specs.declared.entry.Entry.{Entry};
 ghost use Rattle.station_book.specs.declared.steps.Step.TheVariants as step;
 ghost use Rattle.station_book.specs.Steps.{step_of, sighting_of, change_of};
 

@@ -1,7 +1,7 @@
 //! The tracks of the live aircraft, by rising address.
 
 ghost use Rattle.std.specs.Prelude.{◌≡◌, IsTrue, Ok, ◌<◌, ◌≤◌, ◌==◌, List, [], length, map, slice_get, None, Some};
-ghost use Rattle.station_journal.proofs.RisingLemmas.{IsRising};
+ghost use Rattle.station_journal.specs.Rising.{IsRising};
 ghost use Rattle.modes_fields.specs.Carried.{fields_of};
 ghost use Rattle.station_book.specs.Tracks.{updated, find_track, put_track, with_track, swept, track_or_blank};
 ghost use Rattle.station_book.specs.Tracks.{address_of, IsRank, IsPlace, HeardFrom};

@@ -3,10 +3,10 @@ use Rattle.std.proofs.Common.{◌≡◌, ℕ, ◌+◌, ◌≤◌, List, [], ◌�
 use Rattle.std.specs.Prelude.{OnOk, IfErr}
 use mathlib.Core.List.{reverse}
 use Rattle.std.proofs.lemmas.List.{length-reverse, reverse-append, length-take-le, take-append-drop}
-use Rattle.station_journal.specs.declared.Entry.{Entry}
+use Rattle.station_journal.specs.declared.entry.Entry.{Entry}
 use Rattle.station_journal.specs.Follow.{IsFirstUnsound}
 use Rattle.station_journal.specs.Resume.{Sound, IsSound, LegalFrom, IsUnsoundAt}
-use Rattle.station_journal.specs.declared.Limits.{Limits}
+use Rattle.station_journal.specs.declared.limits.Limits.{Limits}
 use Rattle.station_journal.proofs.SoundLemmas.{sound_by_counts, sound_by_fits, legal_resumed}
 use Rattle.station_book.specs.State.{State as BookState}
 use Rattle.station_book.specs.Matching.{Matches}

@@ -1,7 +1,7 @@
 -- A frame fed to a desk.
 use Rattle.std.specs.Prelude.{ℕ, List, Result, Ok, Err, length}
-use Rattle.station_journal.specs.declared.Entry.TheVariants.{Heard}
-use Rattle.station_journal.specs.declared.Refusal.{Refusal}
+use Rattle.station_journal.specs.declared.entry.Entry.TheVariants.{Heard}
+use Rattle.station_journal.specs.declared.refusal.Refusal.{Refusal}
 use Rattle.station_journal.specs.Log.{Log, Steps}
 
 -- one step of a journal for a frame that a seat heard, whose answer tells no index

@@ -1,7 +1,7 @@
 -- Values with their moments: how they age, and when two of them are alike from a moment on.
 use Rattle.std.proofs.Common.{◌≡◌, ℕ, ◌≤◌, Option, Some, None, refl, sym, arith}
 use Rattle.std.proofs.lemmas.Bool.Decides.{nat_tests}
-use Rattle.station_journal.specs.declared.Stamped.{Stamped}
+use Rattle.station_journal.specs.declared.aircraft.Stamped.{Stamped}
 use Rattle.station_journal.specs.Past.{or_older, fresh}
 
 -- from now on both show the same

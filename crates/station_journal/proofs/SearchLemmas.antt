@@ -4,9 +4,9 @@ use Rattle.std.specs.Prelude.{nat_le}
 use Rattle.std.proofs.lemmas.Bool.Decides.{nat_tests}
 use Rattle.station_journal.specs.Past.{Frame}
 use Rattle.modes_cpr.specs.declared.points.Position.{Position}
-use Rattle.station_journal.specs.declared.Entry.{Entry}
-use Rattle.station_journal.specs.declared.Entry.TheVariants.{Tick, Heard}
-use Rattle.station_journal.specs.declared.Stamped.{Stamped}
+use Rattle.station_journal.specs.declared.entry.Entry.{Entry}
+use Rattle.station_journal.specs.declared.entry.Entry.TheVariants.{Tick, Heard}
+use Rattle.station_journal.specs.declared.aircraft.Stamped.{Stamped}
 use Rattle.station_journal.specs.Past.{clock, speaks_for, heard_within, stamp, or_older, fresh, read_for, newest, newest_fix, fix_by, place_of, sighting_of, IsTimed}
 
 module _ {V : Type 0} where

@@ -8,3 +8,4 @@ pub mod Found
 pub mod Looked
 pub mod Newest
 pub mod Resume
+pub mod Rising

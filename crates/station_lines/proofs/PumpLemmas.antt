@@ -12,8 +12,8 @@ use Rattle.modes_frame.specs.declared.line.Line.{Line}
 use Rattle.modes_frame.specs.declared.line.Line.TheVariants.{Frame, ModeAc, Blank}
 use Rattle.modes_frame.specs.declared.line.LineFault.{LineFault}
 use Rattle.modes_frame.specs.Reading.{reading_of}
-use Rattle.station_journal.specs.declared.Refusal.{Refusal}
-use Rattle.station_journal.specs.declared.Refusal.TheVariants.{Unsupported, BadParity, Unassigned, Unknown, JournalFull, BookFull, NoMemory, NotLater, Repeated}
+use Rattle.station_journal.specs.declared.refusal.Refusal.{Refusal}
+use Rattle.station_journal.specs.declared.refusal.Refusal.TheVariants.{Unsupported, BadParity, Unassigned, Unknown, JournalFull, BookFull, NoMemory, NotLater, Repeated}
 use Rattle.station_lines.specs.Source.{one_more, counted_up}
 use Rattle.station_lines.specs.Calls.{heard, heard_line, frame_in, frames_of}
 use Rattle.station_lines.specs.Command.{of_line}

@@ -1,7 +1,7 @@
 -- Frames fed one after another.
 use Rattle.std.specs.Prelude.{◌≡◌, ℕ, Bool, true, false, List, [], ◌∷◌, Result, Ok, Err}
-use Rattle.station_journal.specs.declared.Refusal.{Refusal}
-use Rattle.station_journal.specs.declared.Refusal.TheVariants.{Unsupported, BadParity, Unassigned, Unknown, JournalFull, BookFull, NoMemory, NotLater, Repeated}
+use Rattle.station_journal.specs.declared.refusal.Refusal.{Refusal}
+use Rattle.station_journal.specs.declared.refusal.Refusal.TheVariants.{Unsupported, BadParity, Unassigned, Unknown, JournalFull, BookFull, NoMemory, NotLater, Repeated}
 
 -- steps of a feed for these frames in order, with these answers, and no other step
 abbrev pub Feeds : {F : Type 0} → (F → List ℕ → Result (Unit {0}) Refusal → F → Type 0) → F → List (List ℕ) → List (Result (Unit {0}) Refusal) → F → Type 0

@@ -4,8 +4,8 @@ use Rattle.std.specs.List.{list_all}
 use Rattle.std.specs.declared.alloc.AllocError.{AllocError}
 use Rattle.modes_frame.specs.declared.cutter.Cut.{Cut}
 use Rattle.modes_frame.specs.declared.line.Line.TheVariants.{Frame}
-use Rattle.station_journal.specs.declared.Refusal.{Refusal}
-use Rattle.station_journal.specs.declared.Refusal.TheVariants.{NoMemory}
+use Rattle.station_journal.specs.declared.refusal.Refusal.{Refusal}
+use Rattle.station_journal.specs.declared.refusal.Refusal.TheVariants.{NoMemory}
 use Rattle.station_lines.specs.Calls.{heard, frames_of}
 use Rattle.station_lines.specs.Counting.{CountsLines, Counts}
 use Rattle.station_lines.specs.Drawing.{Drawn, Ending, AtEnd, ReadFailed, TurnsOver, LineStopped, Draws}

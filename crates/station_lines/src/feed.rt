@@ -6,7 +6,7 @@ use std::sync::Wait;
 /// What takes frames, one after another.
 pub trait Feed {
     ghost use Rattle.std.specs.Prelude.{ℕ, List, Result};
-    ghost use Rattle.station_journal.specs.declared.Refusal.{Refusal};
+    ghost use Rattle.station_journal.specs.declared.refusal.Refusal.{Refusal};
 
     /// One call: the state before it, the frame, the answer, and the state after it.
     ghost gives: { Self → List ℕ → Result (Unit {0}) Refusal → Self → Type 0 };

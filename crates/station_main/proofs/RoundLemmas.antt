@@ -3,10 +3,10 @@ use Rattle.std.proofs.Common.{◌≡◌, ◌∙◌, inl, inr, ℕ, zero, suc, �
 use Rattle.std.specs.Prelude.{fold, map, max}
 use Rattle.std.specs.List.{flat_map}
 use Rattle.std.proofs.lemmas.List.{length-map, length-reverse, length-take-le}
-use Rattle.station_journal.specs.declared.Entry.{Entry}
-use Rattle.station_journal.specs.declared.Limits.{Limits}
-use Rattle.station_journal.specs.declared.ResumeFault.{ResumeFault}
-use Rattle.station_journal.specs.declared.ResumeFault.TheVariants.{TooManyEntries, Unsound, NoMemory}
+use Rattle.station_journal.specs.declared.entry.Entry.{Entry}
+use Rattle.station_journal.specs.declared.limits.Limits.{Limits}
+use Rattle.station_journal.specs.declared.recent.ResumeFault.{ResumeFault}
+use Rattle.station_journal.specs.declared.recent.ResumeFault.TheVariants.{TooManyEntries, Unsound, NoMemory}
 use Rattle.station_journal.specs.Resume.{IsSound, Refuses, recent_base}
 use Rattle.station_journal.proofs.SoundLemmas.{sound_by_fits}
 use Rattle.station_journal.proofs.StandsLemmas.{length_sound, recent_stands, sound_from_legal}

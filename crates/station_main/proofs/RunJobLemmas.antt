@@ -4,7 +4,7 @@ use Rattle.std.specs.Prelude.{is_err, fold, map, max}
 use Rattle.std.specs.Io.KnownBytes.{Keeps, append_known}
 use Rattle.std.proofs.Math.Seq.{take-append_seam}
 use Rattle.std.proofs.lemmas.List.Folds.{fold-map}
-use Rattle.station_journal.specs.declared.Entry.{Entry}
+use Rattle.station_journal.specs.declared.entry.Entry.{Entry}
 use Rattle.station_report.specs.declared.sinks.WriteFault.{WriteFault}
 use Rattle.station_desk.specs.Start.{Start}
 use Rattle.station_shared.specs.Seats.{Seated, Looks, newcomer, newcomers}

@@ -1,6 +1,6 @@
 -- The limits of the program.
 use Rattle.std.specs.Prelude.{ℕ, ◌-◌, ◌^◌}
-use Rattle.station_journal.specs.declared.Limits.{Limits}
+use Rattle.station_journal.specs.declared.limits.Limits.{Limits}
 
 -- 16,777,216 entries in the journal, and 512 aircraft live at once
 abbrev pub program_limits : Limits

@@ -1,8 +1,8 @@
 -- When the reporter acts, and what it prints.
 use Rattle.std.specs.Prelude.{◌≡◌, ℕ, ◌+◌, ◌-◌, ◌*◌, ◌^◌, ◌≤◌, ◌<◌, ◌⊎◌, Bool, List, [], ◌∷◌, Option, IfSome, map, min, nat_lt, unwrap_or, if◌then◌else◌}
 use Rattle.std.specs.Duration.{as_nanos}
-use Rattle.station_journal.specs.declared.Entry.TheVariants.{Tick}
-use Rattle.station_journal.specs.declared.Refusal.{Refusal}
+use Rattle.station_journal.specs.declared.entry.Entry.TheVariants.{Tick}
+use Rattle.station_journal.specs.declared.refusal.Refusal.{Refusal}
 use Rattle.station_desk.specs.History.{Known}
 use Rattle.station_desk.specs.Start.{Start}
 use Rattle.station_shared.specs.Seats.{Seated, Accepted, Refused, Looks}

@@ -1,7 +1,7 @@
 -- What the job `run` leaves: its rounds, one after another.
 use Rattle.std.specs.Prelude.{◌≡◌, ◌≤◌, ◌⊎◌, ℕ, zero, suc, List, [], length, reverse, Option, Some, None, option_map, ⊤}
 use mathlib.Core.List.{IsPrefix}
-use Rattle.station_journal.specs.declared.Entry.{Entry}
+use Rattle.station_journal.specs.declared.entry.Entry.{Entry}
 use Rattle.station_journal.specs.Log.{IsLegal, clock_of}
 use Rattle.station_journal.specs.Resume.{recent_base, recent_of}
 use Rattle.station_desk.specs.History.{base_of}

@@ -1,7 +1,7 @@
 -- The tables that are printed, one and many.
 use Rattle.std.specs.Prelude.{◌≡◌, ℕ, ◌⊎◌, Bool, true, false, List, [], ◌∷◌, ◌++◌, Option, Some, None, Result, Ok}
 use Rattle.std.specs.Io.KnownBytes.{Appends}
-use Rattle.station_journal.specs.declared.Entry.{Entry}
+use Rattle.station_journal.specs.declared.entry.Entry.{Entry}
 use Rattle.station_journal.specs.Log.{clock_of, table_of}
 use Rattle.station_report.specs.Sink.{TakesAll, counted}
 use Rattle.station_report.specs.Text.{text}

@@ -3,12 +3,12 @@ use Rattle.std.specs.Prelude.{ℕ, ◌+◌, ◌-◌, ◌*◌, ◌/◌, ◌%◌, 
 use Rattle.std.specs.List.{flat_map}
 use Rattle.std.specs.Int.{is_negative}
 use Rattle.std.specs.Fmt.{decimal, signed_decimal}
-use Rattle.modes_fields.specs.declared.types.Velocity.{Velocity}
-use Rattle.modes_fields.specs.declared.types.Velocity.TheVariants.{Ground, Air}
+use Rattle.modes_fields.specs.declared.velocity.Velocity.{Velocity}
+use Rattle.modes_fields.specs.declared.velocity.Velocity.TheVariants.{Ground, Air}
 use Rattle.modes_cpr.specs.declared.points.Degrees.{Degrees}
 use Rattle.modes_cpr.specs.declared.points.Position.{Position}
 use Rattle.modes_cpr.specs.Pair.{IsWhole}
-use Rattle.station_journal.specs.declared.Aircraft.{Aircraft}
+use Rattle.station_journal.specs.declared.aircraft.Aircraft.{Aircraft}
 
 -- ---- columns
 

@@ -9,7 +9,7 @@ use Rattle.modes_frame.specs.Lines.{pending, ended_cuts}
 use Rattle.station_book.specs.Steps.{sighting_of}
 use Rattle.station_book.specs.declared.steps.Step.{Step}
 use Rattle.station_book.specs.declared.steps.Step.TheVariants.{Heard}
-use Rattle.station_journal.specs.declared.Refusal.{Refusal}
+use Rattle.station_journal.specs.declared.refusal.Refusal.{Refusal}
 use Rattle.station_shared.specs.LinesAhead.{told_of, told_all, Tells, TakesFront}
 use Rattle.station_lines.specs.Calls.{heard, frame_in}
 use Rattle.station_lines.specs.Counting.{is_frame, is_mode_ac, is_blank}

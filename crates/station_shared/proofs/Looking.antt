@@ -1,6 +1,6 @@
 -- What a look shows.
 use Rattle.std.proofs.Common.{◌≡◌, ℕ, List, Option, Some, IfSome, refl, sym, ap, ◌∙◌, subst, length}
-use Rattle.station_journal.specs.declared.Entry.{Entry}
+use Rattle.station_journal.specs.declared.entry.Entry.{Entry}
 use Rattle.station_journal.specs.Log.{IsLegal, clock_of, table_of}
 use Rattle.station_book.specs.State.{State as BookState, rows}
 use Rattle.station_book.specs.Matching.{Matches, Shows}

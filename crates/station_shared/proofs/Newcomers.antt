@@ -1,7 +1,7 @@
 -- Seats that have seen no more than their station began with, one more of them.
 use Rattle.std.proofs.Common.{◌≡◌, ℕ, ◌+◌, List, [], ◌∷◌, ◌++◌, length, refl, sym, ap, ◌∙◌, add-one}
-use Rattle.station_journal.specs.declared.Entry.{Entry}
-use Rattle.station_journal.specs.declared.Limits.{Limits}
+use Rattle.station_journal.specs.declared.entry.Entry.{Entry}
+use Rattle.station_journal.specs.declared.limits.Limits.{Limits}
 use Rattle.station_journal.specs.Log.{Log, resumed_log}
 use Rattle.station_desk.specs.History.{Name, base_of}
 use Rattle.station_desk.specs.Start.{Start, start_at, log_of}

@@ -1,9 +1,9 @@
 -- What seats, receipts and looks are seen as, and what a call tells of them.
 use Rattle.std.specs.Prelude.{◌≡◌, ℕ, zero, suc, ◌+◌, ◌⊎◌, eqb, List, [], ◌∷◌, ◌++◌, None, count_by, drop}
 use mathlib.Core.List.{IsPrefix}
-use Rattle.station_journal.specs.declared.Entry.{Entry}
-use Rattle.station_journal.specs.declared.Entry.TheVariants.{Tick, Heard}
-use Rattle.station_journal.specs.declared.Refusal.{Refusal}
+use Rattle.station_journal.specs.declared.entry.Entry.{Entry}
+use Rattle.station_journal.specs.declared.entry.Entry.TheVariants.{Tick, Heard}
+use Rattle.station_journal.specs.declared.refusal.Refusal.{Refusal}
 use Rattle.station_journal.specs.Log.{IsLegal, refusal_of, verdict_behind}
 use Rattle.station_desk.specs.History.{Known}
 use Rattle.station_desk.specs.Start.{Start, log_of}

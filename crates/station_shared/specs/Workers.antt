@@ -1,8 +1,8 @@
 -- What frames leave that are fed through a seat, and what a worker's pump leaves.
 use Rattle.std.specs.Prelude.{◌≡◌, ℕ, ◌+◌, ◌⊎◌, List, [], ◌∷◌, ◌++◌, Option, Some, Result, Ok, Err, is_ok, count_by, length, map}
-use Rattle.station_journal.specs.declared.Entry.{Entry}
-use Rattle.station_journal.specs.declared.Entry.TheVariants.{Heard}
-use Rattle.station_journal.specs.declared.Refusal.{Refusal}
+use Rattle.station_journal.specs.declared.entry.Entry.{Entry}
+use Rattle.station_journal.specs.declared.entry.Entry.TheVariants.{Heard}
+use Rattle.station_journal.specs.declared.refusal.Refusal.{Refusal}
 use Rattle.station_lines.specs.Calls.{frames_of}
 use Rattle.station_lines.specs.Drawing.{Drawn}
 use Rattle.station_desk.specs.History.{Known}

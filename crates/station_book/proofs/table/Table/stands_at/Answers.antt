@@ -1,5 +1,5 @@
 use Rattle.std.proofs.Common.{◌≡◌, ◌<◌, length, map, get_or}
-use Rattle.station_journal.proofs.RisingLemmas.{IsRising}
+use Rattle.station_journal.specs.Rising.{IsRising}
 use Rattle.station_book.specs.Tracks.{address_of}
 use Rattle.station_book.proofs.TableLemmas.{rising_addresses}
 use Rattle.station_book.proofs.RankLemmas.{place_at_rank, rank_where_it_stands}
