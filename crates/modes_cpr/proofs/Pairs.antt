@@ -16,6 +16,10 @@ decoded_at limit z y i j a fits e h = ap (λ v. decoded limit z v y) (sym (to_z-
 pub zones_at_num : (nl : ℤ → ℕ → ℕ) (a : Degrees) → FitsSigned w64 a.num → (n : ℕ) → n ≡ nl (to_z w64 (of_z w64 a.num)) a.den → n ≡ nl a.num a.den
 zones_at_num nl a fits n e = e ∙ ap (λ v. nl v a.den) (to_z-of_z w64 a.num fits)
 
+-- whether NL is n, where the code tested it
+pub zones_tested : (nl : ℤ → ℕ → ℕ) (a : Degrees) → FitsSigned w64 a.num → (n : ℕ) (r : Bool) → r ≡ (nl (to_z w64 (of_z w64 a.num)) a.den == n) → r ≡ (nl a.num a.den == n)
+zones_tested nl a fits n r e = e ∙ ap (λ v. nl v a.den == n) (to_z-of_z w64 a.num fits)
+
 module _ (nl : ℤ → ℕ → ℕ) (even odd : Place) (newest : Bool) (a0 a1 : Degrees)
     (d0 : decoded 270 60 (zone_index 60 even.lat odd.lat) even.lat ≡ a0)
     (d1 : decoded 270 59 (zone_index 60 even.lat odd.lat) odd.lat ≡ a1) where

@@ -6,7 +6,7 @@ ghost use Rattle.modes_cpr.specs.Pair.{zone_index as zone_index_of, wrapped as w
 use crate::grids::{BINS, angle, longitude_zones};
 use crate::points::{Degrees, Position};
 use crate::rounding::{floor, modulo};
-use crate::transitions::zones;
+use crate::transitions::{has_zones, zones};
 use modes_fields::Place;
 
 /// The position that an even and an odd place tell together, as seen by the newest of them.
@@ -24,7 +24,7 @@ pub fn pair(even: Place, odd: Place, newest_odd: bool) -> Option<Position>
         return None;
     }
     let count = zones(even_lat.num, even_lat.den);
-    if count != zones(odd_lat.num, odd_lat.den) {
+    if !has_zones(odd_lat.num, odd_lat.den, count) {
         return None;
     }
     let (lat, bin) = if newest_odd {
