@@ -8,6 +8,7 @@ mod digits;
 pub mod frame;
 pub mod line;
 pub mod parity;
+pub mod plain;
 pub mod readers;
 
 pub use blanks::trim_blanks;
@@ -16,8 +17,11 @@ pub use cutter::{Cut, Cutter, LineBuf};
 pub use frame::Frame;
 pub use line::{Line, LineFault, LineReader, read_line};
 pub use parity::remainder;
+pub use plain::PlainLine;
 
 #[cfg(test)]
 mod byte_tests;
+#[cfg(test)]
+mod plain_tests;
 #[cfg(test)]
 mod tests;
