@@ -1,4 +1,4 @@
-// Callsigns.
+//! Callsigns.
 ghost use Rattle.std.specs.Prelude.{◌≡◌, ◌-◌, ◌≤◌, length, take, drop, replicate};
 
 use std::marker::Model;

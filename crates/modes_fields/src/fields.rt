@@ -1,4 +1,4 @@
-// What frames carry.
+//! What frames carry.
 ghost use Rattle.std.specs.Prelude.{◌≡◌};
 ghost use Rattle.modes_fields.specs.Kinds.{fields_by};
 

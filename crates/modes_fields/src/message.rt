@@ -1,4 +1,4 @@
-// The words that bytes and messages write.
+//! The words that bytes and messages write.
 ghost use Rattle.std.specs.Prelude.{◌≡◌, ◌+◌, ◌-◌, ◌^◌, ◌<◌, ◌≤◌, length};
 ghost use Rattle.modes_frame.specs.Frames.{bits_of};
 ghost use Rattle.modes_fields.specs.Bits.{number, field as field_of};

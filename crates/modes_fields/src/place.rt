@@ -1,4 +1,4 @@
-// Places in compact position reporting.
+//! Places in compact position reporting.
 
 /// A place in compact position reporting, as an airborne position sends it.
 #[derive(Clone, Copy, Debug, PartialEq, Eq)]

@@ -1,4 +1,4 @@
-// Transponder codes.
+//! Transponder codes.
 ghost use Rattle.std.specs.Prelude.{◌≡◌, ◌<◌};
 
 use std::marker::Model;

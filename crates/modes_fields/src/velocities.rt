@@ -1,4 +1,4 @@
-// Velocities and vertical rates: messages of type code 19.
+//! Velocities and vertical rates: messages of type code 19.
 ghost use Rattle.std.specs.Prelude.{◌≡◌, ◌+◌, ◌*◌, ◌^◌, ◌<◌, ◌≤◌, IfSome};
 ghost use Rattle.modes_fields.specs.Bits.{field as field_of};
 ghost use Rattle.modes_fields.specs.Velocities.{signed_by, steps_of, step_of, knots_of, ground_of, air_of, vertical_in, velocity_in};

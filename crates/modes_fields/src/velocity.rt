@@ -1,4 +1,4 @@
-// Velocities.
+//! Velocities.
 
 /// A velocity, as messages of type code 19 tell it.
 #[derive(Clone, Copy, Debug, PartialEq, Eq)]

@@ -159,12 +159,12 @@ ends-with : (cs : List ℕ) (d : ℕ) → 0 < length cs → get_or cs (length cs
 ends-with cs d some e =
     sym (take_all (length cs - 1 + 1) cs (omega arith)) ∙ take_more cs (length cs - 1) 0 (omega arith) ∙ ap (λ n. take (length cs - 1) cs ++ n ∷ []) e
 
-ends-at : (digits : List ℕ) (d : ℕ) → get_or (digits ++ d ∷ []) (length (digits ++ d ∷ []) - 1) 0 ≡ d
+pub ends-at : (digits : List ℕ) (d : ℕ) → get_or (digits ++ d ∷ []) (length (digits ++ d ∷ []) - 1) 0 ≡ d
 ends-at digits d =
     let n : length (digits ++ d ∷ []) - 1 ≡ length digits = omega (arith, length-append digits (d ∷ [])) in
     ap (λ k. get_or (digits ++ d ∷ []) k 0) n ∙ get_or-append_seam digits d [] 0
 
-abbrev is_ended : List ℕ → Bool
+abbrev pub is_ended : List ℕ → Bool
 is_ended cs = nat_lt 0 (length cs) && get_or cs (length cs - 1) 0 == 59
 
 ended-by : (cs : List ℕ) → is_ended cs ≡ true → cs ≡ take (length cs - 1) cs ++ 59 ∷ []
@@ -173,7 +173,7 @@ ended-by cs e =
     let last : get_or cs (length cs - 1) 0 ≡ 59 = grind arith in
     ends-with cs 59 some last
 
-ended-test : (digits : List ℕ) → is_ended (digits ++ 59 ∷ []) ≡ true
+pub ended-test : (digits : List ℕ) → is_ended (digits ++ 59 ∷ []) ≡ true
 ended-test digits =
     let last = ends-at digits 59 in
     let more = length-append digits (59 ∷ []) in

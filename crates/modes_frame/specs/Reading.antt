@@ -70,11 +70,6 @@ line_of (start ∷ rest) = if is_start start then body_of start rest else Err No
 abbrev pub reading_of : List ℕ → Result Line LineFault
 reading_of line = if nat_lt 64 (length line) then Err Faults.TooLong else line_of (trimmed line)
 
--- what a line says as it was cut
-abbrev pub cut_reading : Cut → Result Line LineFault
-cut_reading (Whole line) = line_of (trimmed line)
-cut_reading TooLong = Err Faults.TooLong
-
 -- ---- the digits' bytes
 
 -- the bytes of the digits, or the place of the first that is none, counted from 1

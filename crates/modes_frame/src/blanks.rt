@@ -1,4 +1,4 @@
-// The blanks at the ends of a line.
+//! The blanks at the ends of a line.
 ghost use Rattle.std.specs.Prelude.{◌≡◌, ◌≤◌, length};
 ghost use Rattle.modes_frame.specs.Reading.{is_blank, front_trimmed, back_trimmed, trimmed};
 

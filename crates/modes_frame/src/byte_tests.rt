@@ -1,4 +1,4 @@
-// Every single byte, and a known line with every byte in each place: the answer by the rules of lines.
+//! Every single byte, and a known line with every byte in each place: the answer by the rules of lines.
 ghost use Rattle.std.specs.Prelude.{◌<◌, ◌≤◌, IfSome};
 
 use crate::{Cut, Cutter, Frame, Line, LineFault, LineReader, read_line};

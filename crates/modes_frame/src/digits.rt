@@ -1,9 +1,11 @@
-// Hexadecimal digits.
-ghost use Rattle.std.specs.Prelude.{◌≡◌, ◌≤◌, ◌<◌, ◌*◌, ◌↔◌, IsTrue, Ok, length};
+//! Hexadecimal digits.
+ghost use Rattle.std.specs.Prelude.{◌≡◌, ◌≤◌, ◌<◌, ◌*◌, ◌↔◌, ◌⊎◌, IsTrue, IfSome, Ok, length};
 ghost use Rattle.std.specs.List.{AllPass};
 ghost use Rattle.hex.specs.Hex.{decode_pairs, hex_digit_value, is_hex_digit};
+ghost use Rattle.modes_frame.specs.Frames.{IsFrame};
 ghost use Rattle.modes_frame.specs.Reading.{Decodes};
 
+use crate::frame::Frame;
 use hex::FromHexError;
 use std::marker::Model;
 
@@ -59,6 +61,23 @@ impl DigitTable {
             values[byte] = digit_value(byte as u8).unwrap_or(NO_DIGIT);
         }
         DigitTable { values }
+    }
+
+    /// The frame that 14 or 28 digits write. None where one of them is no digit, or their number doesn't fit the
+    /// downlink format.
+    #[inline(always)]
+    pub(crate) fn frame(&self, digits: &[u8]) -> Option<Frame>
+        requires { (length digits.now ≡ 14) ⊎ (length digits.now ≡ 28) }
+        ensures value { IfSome result (λ frame. decode_pairs 0 digits.now ≡ Ok frame) }
+        ensures frame { IfSome result (λ frame. IsFrame frame) }
+    {
+        let mut buffer = [0; 14];
+        let bytes = &mut buffer[..digits.len() / 2];
+        if self.decode(digits, bytes) {
+            Frame::from_bytes(bytes)
+        } else {
+            None
+        }
     }
 
     /// Whether all are digits; then these are their bytes.

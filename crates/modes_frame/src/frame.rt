@@ -1,4 +1,4 @@
-// Frames (ICAO Annex 10 Volume IV, 3.1.2.3).
+//! Frames (ICAO Annex 10 Volume IV, 3.1.2.3).
 ghost use Rattle.std.specs.Prelude.{◌≡◌, ◌≤◌, ◌<◌, ◌↔◌, ◌*◌, ℕ, List, IsSome, IfSome, length};
 ghost use Rattle.modes_frame.specs.Frames.{df_of};
 

@@ -1,4 +1,4 @@
-// Parity with a table for each place of a byte: no look-up waits for another.
+//! Parity with a table for each place of a byte: no look-up waits for another.
 ghost use Rattle.std.specs.Prelude.{◌≡◌, ◌≤◌, ◌<◌, ◌+◌, ◌^◌, ◌∷◌, length, replicate};
 ghost use Rattle.modes_frame.specs.Frames.{bits_of, number_of, remainder_of, parity_of};
 

@@ -1,4 +1,4 @@
-// Both forms of parity: known frames, and every byte in each place.
+//! Both forms of parity: known frames, and every byte in each place.
 use crate::parity_by_place::remainder_by_place;
 use crate::{Frame, remainder};
 use std::process::Abort;

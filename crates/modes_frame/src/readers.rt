@@ -1,4 +1,4 @@
-// Readers named as types.
+//! Readers named as types.
 ghost use Rattle.std.specs.Prelude.{◌≡◌, ◌^◌, ◌<◌, ◌==◌, not, IfOk, length};
 ghost use Rattle.std.specs.Bool.{OnTrue};
 ghost use Rattle.modes_frame.specs.Claims.{claim_of, address_field, assigned, control_field, is_squitter_frame};

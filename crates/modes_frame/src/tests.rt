@@ -1,4 +1,4 @@
-// Values from known lines and frames.
+//! Values from known lines and frames.
 use crate::parity::parity_of_byte;
 use crate::readers::claim;
 use crate::{CheckFault, Claim, Cut, Cutter, Frame, Line, LineFault, read_line, remainder};
