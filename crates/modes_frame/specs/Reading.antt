@@ -10,8 +10,6 @@ use Rattle.modes_frame.specs.declared.line.Line.TheVariants.{Frame, ModeAc, Blan
 use Rattle.modes_frame.specs.declared.line.LineFault.{LineFault}
 use Rattle.modes_frame.specs.declared.line.LineFault.TheVariants.{NoStart, NoEnd, BadLength, BadDigit, WrongLength}
 use Rattle.modes_frame.specs.declared.line.LineFault.TheVariants as Faults
-use Rattle.modes_frame.specs.declared.cutter.Cut.{Cut}
-use Rattle.modes_frame.specs.declared.cutter.Cut.TheVariants.{Whole, TooLong}
 
 -- a space, a tab or a carriage return
 abbrev pub is_blank : ℕ → Bool
