@@ -21,3 +21,4 @@ pub mod Sequences
 pub mod Starts
 pub mod Turning
 pub mod WalkLemmas
+pub mod PlainLemmas
