@@ -2,5 +2,6 @@ pub mod CommandLemmas
 pub mod DigitLemmas
 pub mod DrawingLemmas
 pub mod EndLemmas
+pub mod PlainLemmas
 pub mod PumpLemmas
 pub mod TallyLemmas

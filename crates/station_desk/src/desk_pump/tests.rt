@@ -76,6 +76,28 @@ fn lines_are_counted_by_kind(rt: HostRuntime) {
 }
 
 #[test]
+fn plain_lines_are_taken_however_they_are_read(rt: HostRuntime) {
+    let lines = b"*8D4840D6202CC371C32CE0576098;\nx\n*5D484FDEA248E3;\n*8D4840D6202CC3;\n*2A00516D492B80;\n";
+    let want = Tally {
+        lines: 5,
+        frames: 3,
+        ticks: 0,
+        shows: 0,
+        blank: 0,
+        mode_ac: 0,
+        faults: 2,
+        accepted: 2,
+        refused: 1,
+    };
+    for most in 1..=90 {
+        let mut source = Pieces::new(lines);
+        source.most = most;
+        let counted = pumped(&rt, rt.alloc(), source, 200);
+        assert_eq!(rt; counted, Ok(want), "reads of {most} bytes");
+    }
+}
+
+#[test]
 fn ticks_and_questions_are_faults(rt: HostRuntime) {
     let want = Tally {
         lines: 3,
