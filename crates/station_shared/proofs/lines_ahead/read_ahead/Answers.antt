@@ -1,4 +1,4 @@
-use Rattle.std.proofs.Common.{◌≡◌, sym, ◌+◌, ◌++◌, ◌∷◌, [], ◌∙◌, ap, take, length-set, arith}
+use Rattle.std.proofs.Common.{sym, ◌+◌, ◌++◌, ◌∷◌, [], ◌∙◌, ap, take, length-set, arith}
 use Rattle.std.specs.Option.{option_to_list}
 use Rattle.std.proofs.lemmas.List.{take_more_set}
 use Rattle.modes_frame.specs.Lines.{ended_cuts}
