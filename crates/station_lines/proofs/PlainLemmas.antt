@@ -1,9 +1,8 @@
 -- A plain line among the bytes that a call takes.
-use Rattle.std.proofs.Common.{◌≡◌, ℕ, ◌+◌, ◌-◌, ◌==◌, nat_eq, nat_lt, Bool, true, false, cond, List, [], ◌∷◌, ◌++◌, Result, Ok, Err, length, take, drop, take-append-drop, refl, sym, ap, ◌∙◌, inl, inr}
+use Rattle.std.proofs.Common.{◌≡◌, ℕ, ◌+◌, ◌-◌, nat_eq, nat_lt, Bool, true, false, cond, List, [], ◌∷◌, ◌++◌, Result, Ok, Err, length, take, drop, take-append-drop, refl, sym, ap, ◌∙◌, inl, inr}
 use Rattle.std.proofs.lemmas.Bool.Decides.{eqb_tells}
 use Rattle.modes_frame.specs.declared.cutter.Cut.{Cut}
 use Rattle.modes_frame.specs.declared.cutter.Cut.TheVariants.{Whole}
-use Rattle.modes_frame.specs.declared.line.Line.{Line}
 use Rattle.modes_frame.specs.declared.line.Line.TheVariants.{Frame}
 use Rattle.modes_frame.specs.declared.line.LineFault.TheVariants.{TooLong}
 use Rattle.modes_frame.specs.Plain.{EndsFrame}

@@ -68,6 +68,12 @@ pub(crate) fn read_ahead(
     let mut at = 0;
     let mut count = 0;
     while at < bytes.len() && count < ahead.len() {
+        if let Some(plain) = cutter.plain_line(lines, &bytes[at..]) {
+            at += plain.length;
+            ahead[count] = decoded(plain.frame);
+            count += 1;
+            continue;
+        }
         let (taken, cut) = cutter.push_line(&bytes[at..]);
         at += taken;
         match cut {
