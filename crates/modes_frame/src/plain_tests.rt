@@ -86,9 +86,9 @@ fn a_reader_of_a_few_lines_sees_none(rt: HostRuntime) {
 
 // The frame that a line without its line feed says, as a plain line of 31 bytes.
 fn as_read(line: &[u8]) -> Option<PlainLine> {
-    match read_line(line) {
-        Ok(Line::Frame(frame)) => Some(PlainLine { length: 31, frame }),
-        _ => None,
+    match read_line(line).ok()? {
+        Line::Frame(frame) => Some(PlainLine { length: 31, frame }),
+        Line::ModeAc | Line::Blank => None,
     }
 }
 

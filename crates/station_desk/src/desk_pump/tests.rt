@@ -77,7 +77,8 @@ fn lines_are_counted_by_kind(rt: HostRuntime) {
 
 #[test]
 fn plain_lines_are_taken_however_they_are_read(rt: HostRuntime) {
-    let lines = b"*8D4840D6202CC371C32CE0576098;\nx\n*5D484FDEA248E3;\n*8D4840D6202CC3;\n*2A00516D492B80;\n";
+    let lines =
+        b"*8D4840D6202CC371C32CE0576098;\nx\n*5D484FDEA248E3;\n*8D4840D6202CC3;\n*2A00516D492B80;\n";
     let want = Tally {
         lines: 5,
         frames: 3,
