@@ -6,7 +6,7 @@ use Rattle.modes_frame.specs.Frames.{bits_of}
 use Rattle.modes_frame.specs.Claims.{is_squitter_frame}
 use Rattle.modes_fields.specs.Bits.{number, field, me_of}
 use Rattle.modes_fields.specs.Altitudes.{altitude12_of, altitude13_of}
-use Rattle.modes_fields.specs.Identity.{squawk_of}
+use Rattle.modes_fields.specs.Identity.{squawk_of_code}
 use Rattle.modes_fields.specs.Characters.{callsign_of}
 use Rattle.modes_fields.specs.Velocities.{velocity_in, vertical_in}
 use Rattle.modes_fields.specs.Places.{IsPlace, place_in}
@@ -66,5 +66,5 @@ pub fields_of-IsPlace : (frame : List ℕ) (p : Place) → (fields_of frame).pla
 unfolding fields_of
 fields_of-IsPlace frame =
     chosen (has_ac frame) (record no_fields { altitude = altitude13_of (field 20 32 (bits_of frame)) }) _ holds_none
-    (chosen (has_id frame) (record no_fields { squawk = Some (squawk_of (field 20 32 (bits_of frame))) }) _ holds_none
+    (chosen (has_id frame) (record no_fields { squawk = Some (squawk_of_code (field 20 32 (bits_of frame))) }) _ holds_none
     (chosen (is_squitter_frame frame) (message_fields (me_of frame)) no_fields (message_holds_place (me_of frame)) holds_none))

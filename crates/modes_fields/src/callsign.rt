@@ -15,11 +15,11 @@ impl Model for Callsign {
 
     ghost Value = { List ℕ };
 
-    ghost use Rattle.modes_fields.specs.Kept.{callsign_in, IsKept, kept, kept-callsign_in};
+    ghost use Rattle.modes_fields.specs.Kept.{callsign_in, IsPaddedCallsign, kept, kept-callsign_in};
 
     ghost view = { callsign_in };
 
-    ghost invariant = { IsKept };
+    ghost invariant = { IsPaddedCallsign };
 
     ghost inverse = { kept };
 

@@ -7,7 +7,7 @@ use Rattle.modes_frame.specs.Frames.{byte_bits, bits_of, df_of, number_of, remai
 use Rattle.modes_frame.specs.Claims.{address_field, control_field, is_overlaid_format, is_announced_format, has_parity, is_unassigned, claim_by, claim_of}
 use Rattle.modes_frame.specs.declared.claims.Claim.{Claim}
 use Rattle.modes_frame.specs.declared.claims.CheckFault.{CheckFault}
-use Rattle.modes_frame.proofs.AllBytes.{all_of_width, all_of_width-at}
+use Rattle.modes_frame.proofs.AllByteLemmas.{all_of_width, all_of_width-at}
 use Rattle.modes_frame.proofs.NumberLemmas.{number-lt, number-three}
 use Rattle.modes_frame.proofs.ParityLemmas.{remainder-lt}
 

@@ -3,7 +3,7 @@ use Rattle.std.proofs.Common.{◌≡◌, ℕ, suc, ◌+◌, ◌*◌, ◌^◌, �
 use Rattle.std.proofs.Math.Nat.{two-pow-succ}
 use Rattle.std.proofs.lemmas.List.Sums.{fold-append}
 use Rattle.modes_frame.specs.Frames.{byte_bits, brought_down, number_of}
-use Rattle.modes_frame.proofs.AllBytes.{all_of_width, all_of_width-at}
+use Rattle.modes_frame.proofs.AllByteLemmas.{all_of_width, all_of_width-at}
 
 pub length-byte_bits : (b : ℕ) → length (byte_bits b) ≡ 8
 unfolding byte_bits

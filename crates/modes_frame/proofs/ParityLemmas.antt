@@ -8,7 +8,7 @@ use Rattle.std.proofs.lemmas.Bool.{cases_lt}
 use Rattle.std.proofs.lemmas.List.{drop_more, drop_all}
 use Rattle.std.proofs.lemmas.List.Sums.{fold-append}
 use Rattle.std.proofs.lemmas.Grind.{flat_map-append}
-use Rattle.modes_frame.proofs.AllBytes.{all_of_width, all_of_width-at}
+use Rattle.modes_frame.proofs.AllByteLemmas.{all_of_width, all_of_width-at}
 use Rattle.modes_frame.proofs.NumberLemmas.{number-after, number-three, length-byte_bits}
 use Rattle.modes_frame.specs.Frames.{byte_bits, bits_of, brought_down, generator, reduced, divide, remainder_of, parity_of}
 

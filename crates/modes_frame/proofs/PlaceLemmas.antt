@@ -4,8 +4,8 @@ use Rattle.std.specs.Int.Bits.{xor_zero_r}
 use Rattle.std.proofs.lemmas.List.{append_assoc, length-replicate, length-drop, replicate-append-replicate}
 use Rattle.std.proofs.lemmas.List.Sums.{fold-append}
 use Rattle.std.proofs.lemmas.Grind.{flat_map-append}
-use Rattle.modes_frame.proofs.AllBytes.{all_of_width, all_of_width-at}
-use Rattle.modes_frame.proofs.BitsLemmas.{length-bits_of}
+use Rattle.modes_frame.proofs.AllByteLemmas.{all_of_width, all_of_width-at}
+use Rattle.modes_frame.proofs.BitLemmas.{length-bits_of}
 use Rattle.modes_frame.proofs.NumberLemmas.{number-three}
 use Rattle.modes_frame.proofs.ParityLemmas.{byte-is, divided-xor, parity-is, remainder-lt, table-at, undivided}
 use Rattle.modes_frame.specs.Frames.{byte_bits, bits_of, number_of, divide, remainder_of, parity_of}

@@ -17,8 +17,8 @@ use Rattle.modes_frame.specs.Frames.{df_of, IsFrame}
 use Rattle.modes_frame.specs.Lines.{ended_cuts, pending, lengthened}
 use Rattle.modes_frame.specs.Plain.{IsFrameLine, EndsFrame}
 use Rattle.modes_frame.specs.Reading.{is_blank, front_trimmed, back_trimmed, trimmed, reading_of, line_of, said_by, fits_length, digits_of, body_of}
-use Rattle.modes_frame.proofs.LinesLemmas.{HasNone, pending-lengthened, ended-lengthened, pending-push, ended-push}
-use Rattle.modes_frame.proofs.RulesLemmas.{ends-at, ended-test}
+use Rattle.modes_frame.proofs.LineLemmas.{HasNone, pending-lengthened, ended-lengthened, pending-push, ended-push}
+use Rattle.modes_frame.proofs.RuleLemmas.{ends-at, ended-test}
 
 -- ---- what the line says
 

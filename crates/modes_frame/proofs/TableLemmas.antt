@@ -10,7 +10,7 @@ use Rattle.hex.specs.declared.error.FromHexError.{FromHexError}
 use Rattle.hex.specs.declared.error.FromHexError.TheVariants.{InvalidHexCharacter}
 use Rattle.hex.proofs.Pairs.{prepend, decode_step}
 use Rattle.modes_frame.specs.Kept.{HasValues, value_of}
-use Rattle.modes_frame.proofs.DigitsLemmas.{Outcome}
+use Rattle.modes_frame.proofs.DigitLemmas.{Outcome}
 
 -- ---- one digit
 

@@ -16,7 +16,7 @@ abbrev pub with_zeros : List ℕ → List ℕ
 with_zeros bytes = bytes ++ replicate (16 - length bytes) 0
 
 -- a frame is kept in 16 bytes, of which those that it doesn't have are zeros, with the number of its bytes
-pub record IsKept (number : ℕ) (padded : List ℕ) : Type 0 where
+pub record IsPaddedFrame (number : ℕ) (padded : List ℕ) : Type 0 where
   pub size : length padded ≡ 16
   pub count : number ≡ count_of padded
   pub same : count_of (bytes_in padded) ≡ number

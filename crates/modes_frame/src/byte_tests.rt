@@ -35,7 +35,7 @@ fn each_byte_of_a_line_replaced(rt: HostRuntime) {
 
 #[test]
 fn a_table_reads_the_same(rt: HostRuntime) {
-    let lines = LineReader::with_table();
+    let lines = LineReader::new();
     for line in [
         b"*8D4840D6202CC371C32CE0576098;".as_slice(),
         b"@0123456789AB7700;",
@@ -57,7 +57,7 @@ fn a_table_reads_the_same(rt: HostRuntime) {
 
 #[test]
 fn a_cut_line_reads_the_same(rt: HostRuntime) {
-    let lines = LineReader::with_table();
+    let lines = LineReader::new();
     for line in [b" *0000;\t\n".as_slice(), b"*0000\n", b" \r\n", b"\n"] {
         let (_, cut) = Cutter::new().push_line(line);
         match cut {

@@ -71,16 +71,17 @@ impl DigitTable {
         ensures value { IfSome result (λ frame. decode_pairs 0 digits.now ≡ Ok frame) }
         ensures frame { IfSome result (λ frame. IsFrame frame) }
     {
-        let mut buffer = [0; 14];
-        let bytes = &mut buffer[..digits.len() / 2];
-        if self.decode(digits, bytes) {
-            Frame::from_bytes(bytes)
+        let count = digits.len() / 2;
+        let mut padded = [0; 16];
+        if self.decode(digits, &mut padded[..count]) {
+            Frame::from_padded(count as u8, padded)
         } else {
             None
         }
     }
 
     /// Whether all are digits; then these are their bytes.
+    #[inline(always)]
     pub(crate) fn decode(&self, digits: &[u8], bytes: &mut [u8]) -> bool
         requires even { length digits.now ≡ 2 * length bytes.old }
         ensures size { length bytes.new ≡ length bytes.old }

@@ -1,6 +1,7 @@
 //! Frames (ICAO Annex 10 Volume IV, 3.1.2.3).
-ghost use Rattle.std.specs.Prelude.{◌≡◌, ◌≤◌, ◌<◌, ◌↔◌, ◌*◌, ℕ, List, IsSome, IfSome, length};
+ghost use Rattle.std.specs.Prelude.{◌≡◌, ◌≤◌, ◌<◌, ◌↔◌, ◌⊎◌, ◌*◌, ℕ, List, IsSome, IfSome, length, take};
 ghost use Rattle.modes_frame.specs.Frames.{df_of};
+ghost use Rattle.modes_frame.specs.Kept.{count_of};
 
 use std::marker::Model;
 
@@ -16,13 +17,13 @@ pub struct Frame {
 impl Model for Frame {
     ghost use Rattle.std.specs.Prelude.{ℕ, List};
     ghost use Rattle.std.proofs.Common.{ap, ◌∙◌};
-    ghost use Rattle.modes_frame.specs.Kept.{bytes_in, count_of, with_zeros, IsKept};
+    ghost use Rattle.modes_frame.specs.Kept.{bytes_in, count_of, with_zeros, IsPaddedFrame};
 
     ghost Value = { List ℕ };
 
     ghost view = { λ f. bytes_in f.padded };
 
-    ghost invariant = { λ f. IsKept f.count f.padded };
+    ghost invariant = { λ f. IsPaddedFrame f.count f.padded };
 
     ghost inverse = { λ xs. record { count = count_of xs; padded = with_zeros xs } };
 
@@ -32,31 +33,35 @@ impl Model for Frame {
 
 impl Frame {
     ghost use Rattle.modes_frame.specs.Frames.{IsFrame, bits_of, bit_of};
+    ghost use Rattle.modes_frame.specs.Kept.{with_zeros};
 
     /// The frame of these bytes. None where their number is not the one that their downlink format has.
     pub fn from_bytes(bytes: &[u8]) -> Option<Frame>
         ensures some { IsSome result ↔ IsFrame bytes.now }
         ensures value { IfSome result (λ f. f ≡ bytes.now) }
     {
-        if bytes.is_empty() {
+        if bytes.len() != 7 && bytes.len() != 14 {
             return None;
         }
         let mut padded = [0; 16];
-        let is_short = format_of(bytes) < 16;
-        let count = if is_short {
-            if bytes.len() != 7 {
-                return None;
-            }
-            padded[..7].copy_from_slice(bytes);
-            7
+        padded[..bytes.len()].copy_from_slice(bytes);
+        Frame::from_padded(bytes.len() as u8, padded)
+    }
+
+    /// The frame of the first bytes of 16, 7 or 14, after which there are zeros. None where their number is not the one
+    /// that their downlink format has.
+    #[inline(always)]
+    pub(crate) fn from_padded(count: u8, padded: [u8; 16]) -> Option<Frame>
+        requires count { (count ≡ 7) ⊎ (count ≡ 14) }
+        requires zeros { padded ≡ with_zeros (take count padded) }
+        ensures some { IsSome result ↔ IsFrame (take count padded) }
+        ensures value { IfSome result (λ f. f ≡ take count padded) }
+    {
+        if count == byte_count(&padded) {
+            Some(Frame { count, padded })
         } else {
-            if bytes.len() != 14 {
-                return None;
-            }
-            padded[..14].copy_from_slice(bytes);
-            14
-        };
-        Some(Frame { count, padded })
+            None
+        }
     }
 
     /// The 7 or 14 bytes of the frame.
@@ -91,6 +96,14 @@ impl Frame {
     {
         self.bytes()[(n - 1) / 8] >> (7 - (n - 1) % 8) & 1 == 1
     }
+}
+
+/// How many bytes a frame has that begins with these.
+fn byte_count(bytes: &[u8]) -> u8
+    requires { 0 < length bytes.now }
+    ensures { result ≡ count_of bytes.now }
+{
+    if format_of(bytes) < 16 { 7 } else { 14 }
 }
 
 /// The downlink format with which bytes begin.

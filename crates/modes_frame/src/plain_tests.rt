@@ -12,7 +12,7 @@ const ALL_CALL: [u8; 7] = [0x5D, 0x48, 0x4F, 0xDE, 0xA2, 0x48, 0xE3];
 
 // What a new cutter sees at the front of the bytes.
 fn seen(bytes: &[u8]) -> Option<PlainLine> {
-    Cutter::new().plain_line(&LineReader::with_table(), bytes)
+    Cutter::new().plain_line(&LineReader::new(), bytes)
 }
 
 #[test]
@@ -68,7 +68,7 @@ fn plain_lines_cut_by_the_end_of_the_bytes(rt: HostRuntime) {
 
 #[test]
 fn plain_lines_behind_what_is_held(rt: HostRuntime) {
-    let lines = LineReader::with_table();
+    let lines = LineReader::new();
     let mut cutter = Cutter::new();
     assert_eq!(rt; cutter.push_line(b"*"), (1, None));
     assert_eq!(rt; cutter.plain_line(&lines, &KLM1023_LINE), None);
@@ -80,7 +80,7 @@ fn plain_lines_behind_what_is_held(rt: HostRuntime) {
 
 #[test]
 fn a_reader_of_a_few_lines_sees_none(rt: HostRuntime) {
-    let lines = LineReader::new();
+    let lines = LineReader::without_digits();
     assert_eq!(rt; Cutter::new().plain_line(&lines, &KLM1023_LINE), None);
 }
 
@@ -94,7 +94,7 @@ fn as_read(line: &[u8]) -> Option<PlainLine> {
 
 #[test]
 fn each_byte_of_a_plain_line_replaced(rt: HostRuntime) {
-    let lines = LineReader::with_table();
+    let lines = LineReader::new();
     let cutter = Cutter::new();
     for place in 0..30 {
         for byte in 0..=u8::MAX {

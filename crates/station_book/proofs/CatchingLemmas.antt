@@ -4,17 +4,17 @@ use Rattle.std.specs.Prelude.{nat_lt, not, ◌&&◌}
 use Rattle.modes_frame.specs.Claims.{is_unassigned}
 use Rattle.std.proofs.lemmas.Bool.Decides.{nat_tests}
 use Rattle.std.proofs.lemmas.List.{append-nil, drop-append-le, drop_all}
-use Rattle.station_book.specs.declared.steps.Step.{Step}
-use Rattle.station_book.specs.declared.steps.Step.TheVariants.{Tick, Heard}
-use Rattle.station_book.specs.declared.steps.Change.{Change}
+use Rattle.station_book.specs.declared.decoded_entry.DecodedEntry.{DecodedEntry}
+use Rattle.station_book.specs.declared.decoded_entry.DecodedEntry.TheVariants.{Tick, Heard}
+use Rattle.station_book.specs.declared.decoded_entry.Change.{Change}
 use Rattle.station_journal.specs.Past.{Frame}
 use Rattle.station_journal.specs.Repeats.{most_looked_at, with_heard}
 use Rattle.station_book.specs.declared.tracks.Track.{Track}
 use Rattle.modes_fields.specs.Carried.{fields_of}
-use Rattle.station_book.specs.Steps.{change_of}
-use Rattle.station_book.specs.State.{State, applied_step, caught_up, fits, with_frame_ahead}
+use Rattle.station_book.specs.Decoded.{change_of}
+use Rattle.station_book.specs.State.{BookState, applied_decoded, caught_up, fits, with_frame_ahead}
 use Rattle.station_book.specs.Tracks.{find_track, put_track, updated, track_or_blank, with_track, has_place}
-use Rattle.station_book.proofs.TracksLemmas.{find_put_as, found_address}
+use Rattle.station_book.proofs.TrackLemmas.{find_put_as, found_address}
 
 place_from_fit : (unassigned place : Bool) → not unassigned && place ≡ true → place ≡ true
 place_from_fit true place fit = cc
@@ -35,18 +35,18 @@ frame_copied frame frames = by_room (nat_lt (length frames) most_looked_at) refl
     by_room true is = rw (drop-append-le (length frames) frames (frame ∷ []) (omega arith), drop_all (length frames) frames (omega arith)) refl
     by_room false is = rw (drop_all (length frames) frames (omega arith)) (append-nil frames)
 
-by_step : (n : ℕ) (book : State) (step : Step) → fits n book step ≡ true →
-    IfSome (change_of step) (λ change. caught_up n (applied_step book step) change book ≡ applied_step book step)
-by_step n book (Tick at) fit = refl
-by_step n book (Heard (Ok sighting)) fit =
+by_decoded : (n : ℕ) (book : BookState) (decoded : DecodedEntry) → fits n book decoded ≡ true →
+    IfSome (change_of decoded) (λ change. caught_up n (applied_decoded book decoded) change book ≡ applied_decoded book decoded)
+by_decoded n book (Tick at) fit = refl
+by_decoded n book (Heard (Ok sighting)) fit =
     let a = sighting.claim.address in
     let place = place_from_fit (is_unassigned a) _ fit in
     let tracks = copied n a (updated book.moment (fields_of sighting.frame) (track_or_blank a book.tracks)) book.tracks (found_address a book.tracks) place in
     rw (tracks, frame_copied sighting.frame book.first_frames) refl
-by_step n book (Heard (Err fault)) fit = tt
+by_decoded n book (Heard (Err fault)) fit = tt
 
--- the book that takes over a change is the one that took the step
-pub catches_up : (n : ℕ) (book : State) (step : Step) (change : Change) → fits n book step ≡ true → change_of step ≡ Some change →
-    caught_up n (applied_step book step) change book ≡ applied_step book step
-catches_up n book step change fit is =
-    subst (λ (c : Option Change). IfSome c (λ change. caught_up n (applied_step book step) change book ≡ applied_step book step)) is (by_step n book step fit)
+-- the book that takes over a change is the one that took the entry
+pub catches_up : (n : ℕ) (book : BookState) (decoded : DecodedEntry) (change : Change) → fits n book decoded ≡ true → change_of decoded ≡ Some change →
+    caught_up n (applied_decoded book decoded) change book ≡ applied_decoded book decoded
+catches_up n book decoded change fit is =
+    subst (λ (c : Option Change). IfSome c (λ change. caught_up n (applied_decoded book decoded) change book ≡ applied_decoded book decoded)) is (by_decoded n book decoded fit)

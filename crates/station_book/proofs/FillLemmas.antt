@@ -5,20 +5,20 @@ use mathlib.Core.List.{reverse}
 use Rattle.std.proofs.lemmas.List.{length-reverse, reverse-append, take_more}
 use Rattle.station_journal.specs.declared.entry.Entry.{Entry}
 use Rattle.station_journal.specs.Resume.{Sound}
-use Rattle.station_book.specs.Steps.{step_of}
-use Rattle.station_book.specs.State.{State, fits}
+use Rattle.station_book.specs.Decoded.{decoded_of}
+use Rattle.station_book.specs.State.{BookState, fits}
 use Rattle.station_journal.specs.Follow.{IsFirstUnsound}
 use Rattle.station_book.specs.Matching.{Matches}
 use Rattle.station_book.proofs.VerdictLemmas.{fits_from}
 
-module _ (n base : ℕ) (book : State) (entries : List Entry) (i : ℕ) (entry : Entry) (within : i < length entries) (is : entry ≡ get_or entries i entry) (m : Matches n base book (take i entries)) where
+module _ (n base : ℕ) (book : BookState) (entries : List Entry) (i : ℕ) (entry : Entry) (within : i < length entries) (is : entry ≡ get_or entries i entry) (m : Matches n base book (take i entries)) where
   pub count_is : book.entries ≡ i
   count_is = m.entries ∙ (length-reverse (take i entries) ∙ length-take-le i entries (omega (arith, within)))
 
   more : reverse (take (i + 1) entries) ≡ entry ∷ reverse (take i entries)
   more = ap (λ (l : List Entry). reverse l) (take_more entries i entry within ∙ ap (λ e. take i entries ++ e ∷ []) (sym is)) ∙ reverse-append (take i entries) (entry ∷ [])
 
-  pub out_of_place : fits n book (step_of entry) ≡ false → (place : ℕ) → place ≡ book.entries → IsFirstUnsound n base entries place
+  pub out_of_place : fits n book (decoded_of entry) ≡ false → (place : ℕ) → place ≡ book.entries → IsFirstUnsound n base entries place
   out_of_place refused place at = subst (λ k. IsFirstUnsound n base entries k) (sym (at ∙ count_is)) (record {
     within = within;
     before = m.sound;

@@ -8,14 +8,14 @@ use Rattle.station_journal.specs.declared.entry.Entry.{Entry}
 use Rattle.station_journal.specs.Log.{Log, IsLegal, table_of, clock_of, past_of, refusal_of, most_entries}
 use Rattle.station_journal.specs.Resume.{Sound}
 use Rattle.station_journal.proofs.SoundLemmas.{sound_legal}
-use Rattle.station_book.specs.Steps.{step_of}
-use Rattle.station_book.specs.State.{State, applied, offered, rows, fits}
+use Rattle.station_book.specs.Decoded.{decoded_of}
+use Rattle.station_book.specs.State.{BookState, applied, offered, rows, fits}
 use Rattle.station_book.specs.Matching.{MatchesPast, Matches, Shows, book_of_past, book_after}
 use Rattle.station_book.proofs.MatchingLemmas.{matches_starting, matches_applied, matches_push}
 use Rattle.station_book.proofs.TableLemmas.{rows_are_table}
 use Rattle.station_book.proofs.VerdictLemmas.{same_tick_refusal, same_refusal, fits_from_accepts, fits_from, fits_back}
 
-pub shows_from_match : (n base : ℕ) (book : State) (entries : List Entry) → Matches n base book entries → Shows n base book entries
+pub shows_from_match : (n base : ℕ) (book : BookState) (entries : List Entry) → Matches n base book entries → Shows n base book entries
 shows_from_match n base book entries m = record {
   table = rows_are_table n base (reverse entries) book m;
   moment = m.moment;
@@ -24,25 +24,25 @@ shows_from_match n base book entries m = record {
   entry = same_refusal n base (reverse entries) book m;
 }
 
-pub match_after_accepted : (log : Log) (book : State) (entry : Entry) → refusal_of log entry ≡ None → Matches log.limits.aircraft log.base book log.entries → Matches log.limits.aircraft log.base (applied book entry) (log.entries ++ entry ∷ [])
+pub match_after_accepted : (log : Log) (book : BookState) (entry : Entry) → refusal_of log entry ≡ None → Matches log.limits.aircraft log.base book log.entries → Matches log.limits.aircraft log.base (applied book entry) (log.entries ++ entry ∷ [])
 match_after_accepted log book entry accepted m =
     matches_push log.limits.aircraft log.base log.entries entry book (fits_from_accepts log.limits log.base (past_of log) entry m.sound accepted) m
 
-pub match_after_fit : (n base : ℕ) (book : State) (journal : List Entry) (entry : Entry) → fits n book (step_of entry) ≡ true → Matches n base book journal → Matches n base (applied book entry) (journal ++ entry ∷ [])
+pub match_after_fit : (n base : ℕ) (book : BookState) (journal : List Entry) (entry : Entry) → fits n book (decoded_of entry) ≡ true → Matches n base book journal → Matches n base (applied book entry) (journal ++ entry ∷ [])
 match_after_fit n base book journal entry fit m = matches_push n base journal entry book (fits_back n base (reverse journal) book m entry fit) m
 
-pub accepted_fits_book : (log : Log) (book : State) (entry : Entry) → refusal_of log entry ≡ None → Matches log.limits.aircraft log.base book log.entries → fits log.limits.aircraft book (step_of entry) ≡ true
+pub accepted_fits_book : (log : Log) (book : BookState) (entry : Entry) → refusal_of log entry ≡ None → Matches log.limits.aircraft log.base book log.entries → fits log.limits.aircraft book (decoded_of entry) ≡ true
 accepted_fits_book log book entry accepted m =
     fits_from log.limits.aircraft log.base (past_of log) book m entry (fits_from_accepts log.limits log.base (past_of log) entry m.sound accepted)
 
-pub offer_is_taken : (log : Log) (book : State) (entry : Entry) → refusal_of log entry ≡ None → length log.entries < most_entries → Matches log.limits.aircraft log.base book log.entries → offered log.limits.aircraft book entry ≡ applied book entry
+pub offer_is_taken : (log : Log) (book : BookState) (entry : Entry) → refusal_of log entry ≡ None → length log.entries < most_entries → Matches log.limits.aircraft log.base book log.entries → offered log.limits.aircraft book entry ≡ applied book entry
 offer_is_taken log book entry accepted few m =
-    let fit : fits log.limits.aircraft book (step_of entry) ≡ true = accepted_fits_book log book entry accepted m in
+    let fit : fits log.limits.aircraft book (decoded_of entry) ≡ true = accepted_fits_book log book entry accepted m in
     let count : book.entries ≡ length log.entries = m.entries ∙ length-reverse log.entries in
     let test : nat_lt book.entries most_entries ≡ true = rw count (grind (arith, nat_tests)) in
     rw (fit, test) refl
 
-pub match_after_offer : (log : Log) (book : State) (entry : Entry) → refusal_of log entry ≡ None → length log.entries < most_entries → Matches log.limits.aircraft log.base book log.entries → Matches log.limits.aircraft log.base (offered log.limits.aircraft book entry) (log.entries ++ entry ∷ [])
+pub match_after_offer : (log : Log) (book : BookState) (entry : Entry) → refusal_of log entry ≡ None → length log.entries < most_entries → Matches log.limits.aircraft log.base book log.entries → Matches log.limits.aircraft log.base (offered log.limits.aircraft book entry) (log.entries ++ entry ∷ [])
 match_after_offer log book entry accepted few m = rw (offer_is_taken log book entry accepted few m) (match_after_accepted log book entry accepted m)
 
 -- after the entries of a sound list the book matches it

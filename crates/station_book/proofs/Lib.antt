@@ -1,5 +1,5 @@
-pub mod OneAircraft
-pub mod TracksLemmas
+pub mod AircraftLemmas
+pub mod TrackLemmas
 pub mod RankLemmas
 pub mod FillLemmas
 pub mod HeardLemmas

@@ -15,14 +15,14 @@ use Rattle.station_journal.specs.declared.entry.Entry.TheVariants.{Tick, Heard}
 use Rattle.station_journal.specs.Past.{clock, speaks_for}
 use Rattle.station_journal.specs.Past.{IsTimed}
 use Rattle.station_book.specs.declared.tracks.Track.{Track}
-use Rattle.station_book.specs.Steps.{with_frame}
+use Rattle.station_book.specs.Decoded.{with_frame}
 use Rattle.station_book.specs.Tracks.{blank, updated, find_track, with_sighting}
-use Rattle.station_book.specs.State.{State, applied, starting}
+use Rattle.station_book.specs.State.{BookState, applied, starting}
 use Rattle.station_book.specs.Matching.{Tracks, TracksAt, MatchesPast, Matches}
 use Rattle.station_journal.specs.Resume.{ClaimFits, Fits, Sound}
 use Rattle.station_journal.proofs.RepeatLemmas.{first_heard_next}
-use Rattle.station_book.proofs.OneAircraft.{kept_by_tick, swept_by_tick, absent_after_tick, unchanged_by_other, heard_of_own}
-use Rattle.station_book.proofs.TracksLemmas.{keep_if, find_put_as, find_filter, rising_put, rising_filter}
+use Rattle.station_book.proofs.AircraftLemmas.{kept_by_tick, swept_by_tick, absent_after_tick, unchanged_by_other, heard_of_own}
+use Rattle.station_book.proofs.TrackLemmas.{keep_if, find_put_as, find_filter, rising_put, rising_filter}
 
 -- in a sound past each tick is later than the clock before it
 pub timed_from_sound : (n base : ℕ) (past : List Entry) → Sound n base past → IsTimed base past
@@ -44,7 +44,7 @@ module _ (n base : ℕ) (past : List Entry) where
       by_test true recent = kept_by_tick base a past seat at track timed later recent tracks
       by_test false old = swept_by_tick base a past seat at track timed old tracks
 
-  pub matches_tick : (seat at : ℕ) (book : State) → MatchesPast n base book past → clock base past < at → MatchesPast n base (applied book (Tick seat at)) (Tick seat at ∷ past)
+  pub matches_tick : (seat at : ℕ) (book : BookState) → MatchesPast n base book past → clock base past < at → MatchesPast n base (applied book (Tick seat at)) (Tick seat at ∷ past)
   matches_tick seat at book m later = record {
     sound = (later, m.sound);
     moment = refl;
@@ -79,7 +79,7 @@ module _ (n base : ℕ) (past : List Entry) where
     pub after_frame : (b : ℕ) → TracksAt base (Heard seat frame ∷ past) b (find_track b (with_sighting (clock base past) (with_frame frame (Ok claim)) tracks))
     after_frame b = rw (find_put_as claim.address b (track_after frame claim.address tracks) tracks (address_of_found claim.address (find_track claim.address tracks) (each claim.address))) (by_test b (claim.address == b) refl)
 
-  pub matches_frame : (seat : ℕ) (frame : Frame) (claim : Result Claim CheckFault) (book : State) → claim_of frame ≡ claim → ClaimFits n base past claim → MatchesPast n base book past → MatchesPast n base (applied book (Heard seat frame)) (Heard seat frame ∷ past)
+  pub matches_frame : (seat : ℕ) (frame : Frame) (claim : Result Claim CheckFault) (book : BookState) → claim_of frame ≡ claim → ClaimFits n base past claim → MatchesPast n base book past → MatchesPast n base (applied book (Heard seat frame)) (Heard seat frame ∷ past)
   matches_frame seat frame (Err fault) book is fit m = elim fit [ ]
   matches_frame seat frame (Ok claim) book is fit m = record {
     sound = (rw is fit, m.sound);
@@ -91,10 +91,10 @@ module _ (n base : ℕ) (past : List Entry) where
   }
 
   -- one more entry that fits
-  pub matches_applied : (entry : Entry) (book : State) → Fits n base past entry → MatchesPast n base book past → MatchesPast n base (applied book entry) (entry ∷ past)
+  pub matches_applied : (entry : Entry) (book : BookState) → Fits n base past entry → MatchesPast n base book past → MatchesPast n base (applied book entry) (entry ∷ past)
   matches_applied (Tick seat at) book fit m = matches_tick seat at book m fit
   matches_applied (Heard seat frame) book fit m = matches_frame seat frame (claim_of frame) book refl fit m
 
 -- the same, with the oldest entry first
-pub matches_push : (n base : ℕ) (entries : List Entry) (entry : Entry) (book : State) → Fits n base (reverse entries) entry → Matches n base book entries → Matches n base (applied book entry) (entries ++ entry ∷ [])
+pub matches_push : (n base : ℕ) (entries : List Entry) (entry : Entry) (book : BookState) → Fits n base (reverse entries) entry → Matches n base book entries → Matches n base (applied book entry) (entries ++ entry ∷ [])
 matches_push n base entries entry book fit m = rw (reverse-append entries (entry ∷ [])) (matches_applied n base (reverse entries) entry book fit m)

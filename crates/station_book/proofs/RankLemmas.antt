@@ -10,8 +10,8 @@ use Rattle.std.proofs.lemmas.Bool.Decides.{nat_tests}
 use Rattle.std.proofs.lemmas.List.{length-map}
 use Rattle.station_journal.specs.Rising.{AllOver, IsRising}
 use Rattle.station_book.specs.declared.tracks.Track.{Track}
-use Rattle.station_book.specs.Tracks.{blank, updated, find_track, put_track, track_or_blank, address_of, Rising, IsRank, IsPlace, with_track}
-use Rattle.station_book.proofs.TracksLemmas.{find_below, found_address}
+use Rattle.station_book.specs.Tracks.{blank, updated, find_track, put_track, track_or_blank, address_of, Rising, IsRank, StandsAt, with_track}
+use Rattle.station_book.proofs.TrackLemmas.{find_below, found_address}
 
 -- a slice written back whole
 pub refill_same : (xs ws : List Track) → length ws ≡ length xs → refill (length xs) xs ws ≡ ws
@@ -50,13 +50,13 @@ find_at_gap a (x ∷ xs) zero d up r gap = grind (arith, nat_tests, r.after d (o
 find_at_gap a (x ∷ xs) (suc i) d up r gap = grind (arith, nat_tests, r.before 0 d (omega arith), find_at_gap a xs i d up.1 (rank_tail x.address (map address_of xs) a i r) (λ lt. gap (omega arith)))
 
 -- the place of an address whose track stands at its rank
-pub place_at_rank : (a : ℕ) (xs : List Track) (i d : ℕ) → IsRank (map address_of xs) a i → i < length (map address_of xs) → get_or (map address_of xs) i d ≡ a → IsPlace xs a (Ok i)
+pub place_at_rank : (a : ℕ) (xs : List Track) (i d : ℕ) → IsRank (map address_of xs) a i → i < length (map address_of xs) → get_or (map address_of xs) i d ≡ a → StandsAt xs a (Ok i)
 place_at_rank a xs i d r lt same =
     let within : i < length xs = omega (arith, length-map xs address_of) in
     (within, find_at_rank a xs i d r within same, λ t is. set_is_put t xs i d (subst (λ x. IsRank (map address_of xs) x i) (sym is) r) within (same ∙ sym is))
 
 -- the place of one that has none there
-pub place_at_gap : (a : ℕ) (xs : List Track) (i d : ℕ) → Rising xs → IsRank (map address_of xs) a i → (i < length (map address_of xs) → get_or (map address_of xs) i d ≢ a) → IsPlace xs a (Err i)
+pub place_at_gap : (a : ℕ) (xs : List Track) (i d : ℕ) → Rising xs → IsRank (map address_of xs) a i → (i < length (map address_of xs) → get_or (map address_of xs) i d ≢ a) → StandsAt xs a (Err i)
 place_at_gap a xs i d up r gap =
     let gap' : i < length xs → get_or (map address_of xs) i d ≢ a = λ lt. gap (omega (arith, length-map xs address_of)) in
     let bound : i ≤ length xs = omega (arith, length-map xs address_of, r.in_range) in
@@ -115,18 +115,18 @@ map_insert t (x ∷ xs) zero = refl
 map_insert t (x ∷ xs) (suc i) = ap (λ rest. x.address ∷ rest) (map_insert t xs i)
 
 -- the track at the place of its address, updated, is put there
-pub update_there : (a i now : ℕ) (fields : Fields) (xs : List Track) (d : Track) → IsPlace xs a (Ok i) → set xs i (updated now fields (get_or xs i d)) ≡ put_track (updated now fields (track_or_blank a xs)) xs
+pub update_there : (a i now : ℕ) (fields : Fields) (xs : List Track) (d : Track) → StandsAt xs a (Ok i) → set xs i (updated now fields (get_or xs i d)) ≡ put_track (updated now fields (track_or_blank a xs)) xs
 update_there a i now fields xs d place =
     let stood : get_or xs i d ≡ track_or_blank a xs = ap (λ o. unwrap_or o (blank a)) (sym (slice_get-get_or xs i d place.0) ∙ place.1) in
     let address : (updated now fields (get_or xs i d)).address ≡ a = ap address_of stood ∙ found_address a xs in
     place.2 (updated now fields (get_or xs i d)) address ∙ ap (λ t. put_track (updated now fields t) xs) stood
 
 -- the track at the place of an address is of that address
-pub stands_there : (a i : ℕ) (xs : List Track) (d : Track) → IsPlace xs a (Ok i) → (get_or xs i d).address ≡ a
+pub stands_there : (a i : ℕ) (xs : List Track) (d : Track) → StandsAt xs a (Ok i) → (get_or xs i d).address ≡ a
 stands_there a i xs d place = ap (λ o. (unwrap_or o (blank a)).address) (sym (slice_get-get_or xs i d place.0) ∙ place.1) ∙ found_address a xs
 
 -- a track is copied over the one of its address
-pub copy_there : (n i : ℕ) (t : Track) (xs : List Track) → IsPlace xs t.address (Ok i) → set xs i t ≡ with_track n (Some t) xs
+pub copy_there : (n i : ℕ) (t : Track) (xs : List Track) → StandsAt xs t.address (Ok i) → set xs i t ≡ with_track n (Some t) xs
 copy_there n i t xs place =
     let known : is_some (find_track t.address xs) ≡ true = ap is_some (sym place.1 ∙ slice_get-get_or xs i t place.0) in
     rw known (place.2 t refl)

@@ -11,9 +11,9 @@ use Rattle.station_journal.specs.Rising.{AllOver, IsRising}
 use Rattle.station_journal.proofs.RisingLemmas.{is_in, same_rising, rising_live, in_live}
 use Rattle.station_book.specs.declared.tracks.Track.{Track}
 use Rattle.station_book.specs.Tracks.{address_of, find_track, track_row, AllAbove, Rising}
-use Rattle.station_book.specs.State.{State, rows}
+use Rattle.station_book.specs.State.{BookState, rows}
 use Rattle.station_book.specs.Matching.{Tracks, TracksAt, MatchesPast}
-use Rattle.station_book.proofs.TracksLemmas.{find_below}
+use Rattle.station_book.proofs.TrackLemmas.{find_below}
 
 over_from_above : (a : ℕ) (tracks : List Track) → AllAbove a tracks → AllOver a (map address_of tracks)
 over_from_above a [] above = tt
@@ -36,7 +36,7 @@ rows_agree f g (track ∷ rest) rising agree =
     let tails : map f rest ≡ map g (map address_of rest) = rows_agree f g rest rising.1 (λ a t e. agree a t (found a t e)) in
     cc
 
-module _ (n base : ℕ) (past : List Entry) (book : State) (m : MatchesPast n base book past) where
+module _ (n base : ℕ) (past : List Entry) (book : BookState) (m : MatchesPast n base book past) where
   found_is_live : (a : ℕ) (kept : Option Track) → TracksAt base past a kept → is_some kept ≡ live base past a
   found_is_live a None absent = sym absent
   found_is_live a (Some track) t = sym t.live

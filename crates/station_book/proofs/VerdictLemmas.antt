@@ -17,9 +17,9 @@ use Rattle.station_journal.specs.Table.{live_addresses}
 use Rattle.station_journal.specs.Repeats.{is_repeated}
 use Rattle.station_journal.specs.Verdict.{refuse_if, claim_refusal, tick_refusal, refusal, is_full, Accepts}
 use Rattle.station_book.specs.declared.tracks.Track.{Track}
-use Rattle.station_book.specs.Steps.{with_frame, claim_in, step_of}
+use Rattle.station_book.specs.Decoded.{with_frame, claim_in, decoded_of}
 use Rattle.station_book.specs.Tracks.{find_track}
-use Rattle.station_book.specs.State.{State, book_claim_refusal, book_tick_refusal, book_refusal, repeats, claim_fits, fits}
+use Rattle.station_book.specs.State.{BookState, book_claim_refusal, book_tick_refusal, book_refusal, repeats, claim_fits, fits}
 use Rattle.station_book.specs.Matching.{MatchesPast}
 use Rattle.station_journal.specs.Resume.{ClaimFits, Fits, Sound}
 use Rattle.station_book.proofs.TableLemmas.{kept_is_live, same_count}
@@ -41,7 +41,7 @@ claim_kept : (frame : Frame) (claim : Result Claim CheckFault) → claim_in (wit
 claim_kept frame (Ok claim) = refl
 claim_kept frame (Err fault) = refl
 
-module _ (n base : ℕ) (past : List Entry) (book : State) (m : MatchesPast n base book past) where
+module _ (n base : ℕ) (past : List Entry) (book : BookState) (m : MatchesPast n base book past) where
   -- the book's refusal of a frame with this claim is that of a journal that isn't full
   same_claim_refusal : (frame : Frame) (claim : Result Claim CheckFault) →
       book_claim_refusal n book (repeats book (with_frame frame claim)) (claim_in (with_frame frame claim)) ≡ claim_refusal false (is_repeated past frame) n base past claim
@@ -79,11 +79,11 @@ module _ (n base : ℕ) (past : List Entry) (book : State) (m : MatchesPast n ba
       by_room false e = grind (arith, nat_tests)
 
   -- an entry fits the book exactly where it fits the past
-  pub fits_from : (entry : Entry) → Fits n base past entry → fits n book (step_of entry) ≡ true
+  pub fits_from : (entry : Entry) → Fits n base past entry → fits n book (decoded_of entry) ≡ true
   fits_from (Tick seat at) fit = rw m.moment (grind (arith, nat_tests))
   fits_from (Heard seat frame) fit = rw (claim_kept frame (claim_of frame)) (claim_fits_from (claim_of frame) fit)
 
-  pub fits_back : (entry : Entry) → fits n book (step_of entry) ≡ true → Fits n base past entry
+  pub fits_back : (entry : Entry) → fits n book (decoded_of entry) ≡ true → Fits n base past entry
   fits_back (Tick seat at) fit = let fit' : nat_lt (clock base past) at ≡ true = rw m.moment at fit in grind (arith, nat_tests)
   fits_back (Heard seat frame) fit = claim_fits_back (claim_of frame) (rw (claim_kept frame (claim_of frame)) at fit)
 
@@ -115,11 +115,11 @@ accepted_with_room full n base past (Tick seat at) e = without_last (refuse_if (
 accepted_with_room full n base past (Heard seat frame) e = room_claim full (is_repeated past frame) n base past (claim_of frame) e
 
 -- what a book that matches doesn't refuse fits
-pub fits_unless_refused : (n base : ℕ) (past : List Entry) (book : State) (entry : Entry) → MatchesPast n base book past → book_refusal n book entry ≡ None → fits n book (step_of entry) ≡ true
+pub fits_unless_refused : (n base : ℕ) (past : List Entry) (book : BookState) (entry : Entry) → MatchesPast n base book past → book_refusal n book entry ≡ None → fits n book (decoded_of entry) ≡ true
 fits_unless_refused n base past book entry m free = fits_from n base past book m entry (accepted_fits false n base past entry m.sound (sym (same_refusal n base past book m entry) ∙ free))
 
 -- a claim that fits is of an aircraft that is kept, or finds a place
-pub room_from_fits : (n : ℕ) (book : State) (a : ℕ) (tracks : List Track) → book.tracks ≡ tracks → (if is_some (find_track a book.tracks) then true else nat_lt (length book.tracks) n) ≡ true → is_some (find_track a tracks) ≡ false → length tracks < n
+pub room_from_fits : (n : ℕ) (book : BookState) (a : ℕ) (tracks : List Track) → book.tracks ≡ tracks → (if is_some (find_track a book.tracks) then true else nat_lt (length book.tracks) n) ≡ true → is_some (find_track a tracks) ≡ false → length tracks < n
 room_from_fits n book a tracks same fit absent =
     let fit' : (if is_some (find_track a tracks) then true else nat_lt (length tracks) n) ≡ true = rw same at fit in
     let room : nat_lt (length tracks) n ≡ true = rw absent at fit' in

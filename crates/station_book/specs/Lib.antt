@@ -1,4 +1,4 @@
-pub mod Steps
+pub mod Decoded
 pub mod Tracks
 pub mod Digests
 pub mod State

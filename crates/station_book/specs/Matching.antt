@@ -2,14 +2,14 @@
 use Rattle.std.specs.Prelude.{◌≡◌, ℕ, ◌≤◌, true, false, List, [], ◌∷◌, Option, Some, None, length, reverse}
 use Rattle.station_journal.specs.declared.entry.Entry.{Entry}
 use Rattle.station_journal.specs.declared.aircraft.Stamped.{Stamped}
-use Rattle.station_journal.specs.Past.{clock, live, fresh, newest, newest_fix, sighting_of, callsign_of, even_place_of, odd_place_of}
+use Rattle.station_journal.specs.Past.{clock, live, fresh, newest, newest_fix, sighting_of, callsign_of, even_place_of, odd_place_of, life_ms, pair_ms}
 use Rattle.station_journal.specs.Table.{altitude_of, squawk_of, velocity_of, vertical_of, table}
 use Rattle.station_journal.specs.Repeats.{first_heard}
 use Rattle.station_journal.specs.Resume.{Sound}
 use Rattle.station_journal.specs.Verdict.{tick_refusal, refusal}
 use Rattle.station_book.specs.declared.tracks.Track.{Track}
 use Rattle.station_book.specs.Tracks.{find_track, Rising}
-use Rattle.station_book.specs.State.{State, rows, starting, applied, book_tick_refusal, book_refusal}
+use Rattle.station_book.specs.State.{BookState, rows, starting, applied, book_tick_refusal, book_refusal}
 
 -- from now on both values show the same, by this limit of age
 abbrev pub AgreeFrom : {V : Type 0} → ℕ → ℕ → Option (Stamped V) → Option (Stamped V) → Type 0
@@ -20,14 +20,14 @@ pub record Tracks (base : ℕ) (past : List Entry) (a : ℕ) (track : Track) : T
   pub address : track.address ≡ a
   pub live : live base past a ≡ true
   pub heard : newest sighting_of base a past ≡ Some (record { value = 0; at = track.heard })
-  pub callsign : AgreeFrom 60000 (clock base past) track.callsign (newest callsign_of base a past)
-  pub altitude : AgreeFrom 60000 (clock base past) track.altitude (newest altitude_of base a past)
-  pub squawk : AgreeFrom 60000 (clock base past) track.squawk (newest squawk_of base a past)
-  pub velocity : AgreeFrom 60000 (clock base past) track.velocity (newest velocity_of base a past)
-  pub vertical : AgreeFrom 60000 (clock base past) track.vertical (newest vertical_of base a past)
-  pub even : AgreeFrom 10000 (clock base past) track.even (newest even_place_of base a past)
-  pub odd : AgreeFrom 10000 (clock base past) track.odd (newest odd_place_of base a past)
-  pub position : AgreeFrom 60000 (clock base past) track.position (newest_fix base a past)
+  pub callsign : AgreeFrom life_ms (clock base past) track.callsign (newest callsign_of base a past)
+  pub altitude : AgreeFrom life_ms (clock base past) track.altitude (newest altitude_of base a past)
+  pub squawk : AgreeFrom life_ms (clock base past) track.squawk (newest squawk_of base a past)
+  pub velocity : AgreeFrom life_ms (clock base past) track.velocity (newest velocity_of base a past)
+  pub vertical : AgreeFrom life_ms (clock base past) track.vertical (newest vertical_of base a past)
+  pub even : AgreeFrom pair_ms (clock base past) track.even (newest even_place_of base a past)
+  pub odd : AgreeFrom pair_ms (clock base past) track.odd (newest odd_place_of base a past)
+  pub position : AgreeFrom life_ms (clock base past) track.position (newest_fix base a past)
 
 -- a track is kept of the aircraft exactly where it is live
 abbrev pub TracksAt : ℕ → List Entry → ℕ → Option Track → Type 0
@@ -35,7 +35,7 @@ TracksAt base past a None = live base past a ≡ false
 TracksAt base past a (Some track) = Tracks base past a track
 
 -- the book matches the past
-pub record MatchesPast (n base : ℕ) (book : State) (past : List Entry) : Type 0 where
+pub record MatchesPast (n base : ℕ) (book : BookState) (past : List Entry) : Type 0 where
   pub sound : Sound n base past
   pub moment : book.moment ≡ clock base past
   pub entries : book.entries ≡ length past
@@ -44,11 +44,11 @@ pub record MatchesPast (n base : ℕ) (book : State) (past : List Entry) : Type 
   pub first_frames : book.first_frames ≡ first_heard past
 
 -- the book matches the list of entries, the oldest first
-abbrev pub Matches : ℕ → ℕ → State → List Entry → Type 0
+abbrev pub Matches : ℕ → ℕ → BookState → List Entry → Type 0
 Matches n base book entries = MatchesPast n base book (reverse entries)
 
 -- what a match promises: the table, the clock, the count, and every refusal but JournalFull
-pub record Shows (n base : ℕ) (book : State) (entries : List Entry) : Type 0 where
+pub record Shows (n base : ℕ) (book : BookState) (entries : List Entry) : Type 0 where
   pub table : rows book ≡ table base (reverse entries)
   pub moment : book.moment ≡ clock base (reverse entries)
   pub count : book.entries ≡ length entries
@@ -56,10 +56,10 @@ pub record Shows (n base : ℕ) (book : State) (entries : List Entry) : Type 0 w
   pub entry : (entry : Entry) → book_refusal n book entry ≡ refusal false n base (reverse entries) entry
 
 -- the book that is given each entry of the past in turn
-abbrev pub book_of_past : ℕ → List Entry → State
+abbrev pub book_of_past : ℕ → List Entry → BookState
 book_of_past base [] = starting base
 book_of_past base (entry ∷ past) = applied (book_of_past base past) entry
 
 -- the book that is given the entries
-abbrev pub book_after : ℕ → List Entry → State
+abbrev pub book_after : ℕ → List Entry → BookState
 book_after base entries = book_of_past base (reverse entries)

@@ -11,34 +11,34 @@ use Rattle.station_journal.specs.Log.{most_entries}
 use Rattle.station_journal.specs.Past.{Frame, or_older}
 use Rattle.station_journal.specs.Repeats.{is_one_of, with_heard}
 use Rattle.station_journal.specs.Verdict.{refuse_if, fault_refusal}
-use Rattle.station_book.specs.declared.steps.Sighting.{Sighting}
-use Rattle.station_book.specs.declared.steps.Step.{Step}
-use Rattle.station_book.specs.declared.steps.Step.TheVariants.{Tick, Heard}
+use Rattle.station_book.specs.declared.decoded_entry.Sighting.{Sighting}
+use Rattle.station_book.specs.declared.decoded_entry.DecodedEntry.{DecodedEntry}
+use Rattle.station_book.specs.declared.decoded_entry.DecodedEntry.TheVariants.{Tick, Heard}
 use Rattle.station_book.specs.declared.tracks.Track.{Track}
-use Rattle.station_book.specs.declared.steps.Change.{Change}
-use Rattle.station_book.specs.declared.steps.Change.TheVariants as change
-use Rattle.station_book.specs.Steps.{step_of, claim_in}
+use Rattle.station_book.specs.declared.decoded_entry.Change.{Change}
+use Rattle.station_book.specs.declared.decoded_entry.Change.TheVariants as change
+use Rattle.station_book.specs.Decoded.{decoded_of, claim_in}
 use Rattle.station_book.specs.Tracks.{find_track, swept, with_sighting, has_place, with_track, track_row}
 
 -- the clock, how many entries were taken, what is kept of each live aircraft, and the first frames heard since the
 -- newest tick
-pub record State : Type 0 where
+pub record BookState : Type 0 where
   pub moment : ℕ
   pub entries : ℕ
   pub tracks : List Track
   pub first_frames : List Frame
 
 -- a book without entries, whose clock is at the base
-abbrev pub starting : ℕ → State
+abbrev pub starting : ℕ → BookState
 starting base = record { moment = base; entries = 0; tracks = []; first_frames = [] }
 
 -- the rows that the book shows
-abbrev pub rows : State → List Aircraft
+abbrev pub rows : BookState → List Aircraft
 rows book = map (track_row book.moment) book.tracks
 
 -- the book's refusal of a claim, whose frame repeats one or doesn't: the first that applies of its fault, Unknown,
 -- Repeated and BookFull
-abbrev pub book_claim_refusal : ℕ → State → Bool → Result Claim CheckFault → Option Refusal
+abbrev pub book_claim_refusal : ℕ → BookState → Bool → Result Claim CheckFault → Option Refusal
 book_claim_refusal n book repeated (Err fault) = Some (fault_refusal fault)
 book_claim_refusal n book repeated (Ok claim) =
     or_older (refuse_if (if claim.overlaid then not (is_some (find_track claim.address book.tracks)) else false) (Unknown claim.address))
@@ -46,22 +46,22 @@ book_claim_refusal n book repeated (Ok claim) =
     (refuse_if (if is_some (find_track claim.address book.tracks) then false else nat_le n (length book.tracks)) BookFull))
 
 -- the frame that was decoded is one of the first
-abbrev pub repeats : State → Result Sighting CheckFault → Bool
+abbrev pub repeats : BookState → Result Sighting CheckFault → Bool
 repeats book (Err fault) = false
 repeats book (Ok sighting) = is_one_of book.first_frames sighting.frame
 
 -- its refusal of a tick
-abbrev pub book_tick_refusal : State → ℕ → Option Refusal
+abbrev pub book_tick_refusal : BookState → ℕ → Option Refusal
 book_tick_refusal book at = refuse_if (nat_le at book.moment) (NotLater book.moment)
 
 -- its refusal of a decoded entry
-abbrev pub step_refusal : ℕ → State → Step → Option Refusal
-step_refusal n book (Tick at) = book_tick_refusal book at
-step_refusal n book (Heard sighting) = book_claim_refusal n book (repeats book sighting) (claim_in sighting)
+abbrev pub decoded_refusal : ℕ → BookState → DecodedEntry → Option Refusal
+decoded_refusal n book (Tick at) = book_tick_refusal book at
+decoded_refusal n book (Heard sighting) = book_claim_refusal n book (repeats book sighting) (claim_in sighting)
 
 -- its refusal of an entry
-abbrev pub book_refusal : ℕ → State → Entry → Option Refusal
-book_refusal n book entry = step_refusal n book (step_of entry)
+abbrev pub book_refusal : ℕ → BookState → Entry → Option Refusal
+book_refusal n book entry = decoded_refusal n book (decoded_of entry)
 
 -- the first frames, with that of a sighting
 abbrev pub with_frame_of : Result Sighting CheckFault → List Frame → List Frame
@@ -69,9 +69,9 @@ with_frame_of (Err fault) frames = frames
 with_frame_of (Ok sighting) frames = with_heard sighting.frame frames
 
 -- the book with one decoded entry more
-abbrev pub applied_step : State → Step → State
-applied_step book (Tick at) = record { moment = at; entries = book.entries + 1; tracks = swept at book.tracks; first_frames = [] }
-applied_step book (Heard sighting) = record {
+abbrev pub applied_decoded : BookState → DecodedEntry → BookState
+applied_decoded book (Tick at) = record { moment = at; entries = book.entries + 1; tracks = swept at book.tracks; first_frames = [] }
+applied_decoded book (Heard sighting) = record {
   moment = book.moment;
   entries = book.entries + 1;
   tracks = with_sighting book.moment sighting book.tracks;
@@ -79,27 +79,27 @@ applied_step book (Heard sighting) = record {
 }
 
 -- the book with one entry more
-abbrev pub applied : State → Entry → State
-applied book entry = applied_step book (step_of entry)
+abbrev pub applied : BookState → Entry → BookState
+applied book entry = applied_decoded book (decoded_of entry)
 
 -- the claim is of an aircraft that is kept or finds a place
-abbrev pub claim_fits : ℕ → State → Result Claim CheckFault → Bool
+abbrev pub claim_fits : ℕ → BookState → Result Claim CheckFault → Bool
 claim_fits n book (Ok claim) = not (is_unassigned claim.address) && has_place n claim.address book.tracks
 claim_fits n book (Err fault) = false
 
 -- the decoded entry fits the book: what may be applied
-abbrev pub fits : ℕ → State → Step → Bool
+abbrev pub fits : ℕ → BookState → DecodedEntry → Bool
 fits n book (Tick at) = nat_lt book.moment at
 fits n book (Heard sighting) = claim_fits n book (claim_in sighting)
 
 -- what is offered is applied where the book refuses nothing and counts fewer than the most entries, and else changes nothing
-abbrev pub offered_step : ℕ → State → Step → State
-offered_step n book step =
-    if fits n book step && nat_lt book.entries most_entries then applied_step book step else book
+abbrev pub offered_decoded : ℕ → BookState → DecodedEntry → BookState
+offered_decoded n book decoded =
+    if fits n book decoded && nat_lt book.entries most_entries then applied_decoded book decoded else book
 
 -- the same, of an entry
-abbrev pub offered : ℕ → State → Entry → State
-offered n book entry = offered_step n book (step_of entry)
+abbrev pub offered : ℕ → BookState → Entry → BookState
+offered n book entry = offered_decoded n book (decoded_of entry)
 
 -- the first frames, with the one more that others have who are a frame ahead
 abbrev pub with_frame_ahead : List Frame → List Frame → List Frame
@@ -107,7 +107,7 @@ with_frame_ahead ahead frames = frames ++ take 1 (drop (length frames) ahead)
 
 -- the book brought up to one that is an entry ahead: its clock and count, and what the entry changed of its tracks and its
 -- first frames
-abbrev pub caught_up : ℕ → State → Change → State → State
+abbrev pub caught_up : ℕ → BookState → Change → BookState → BookState
 caught_up n ahead change.Clock book =
     record { moment = ahead.moment; entries = ahead.entries; tracks = swept ahead.moment book.tracks; first_frames = [] }
 caught_up n ahead (change.Track a) book = record {

@@ -6,9 +6,9 @@ use Rattle.modes_fields.specs.declared.fields.Fields.{Fields}
 use Rattle.modes_fields.specs.Carried.{fields_of}
 use Rattle.modes_frame.specs.declared.claims.CheckFault.{CheckFault}
 use Rattle.station_journal.specs.declared.aircraft.Aircraft.{Aircraft}
-use Rattle.station_journal.specs.Past.{stamp, or_older, fresh, with_parity, pair_with}
+use Rattle.station_journal.specs.Past.{stamp, or_older, fresh, with_parity, pair_with, life_ms, pair_ms}
 use Rattle.station_book.specs.declared.tracks.Track.{Track}
-use Rattle.station_book.specs.declared.steps.Sighting.{Sighting}
+use Rattle.station_book.specs.declared.decoded_entry.Sighting.{Sighting}
 
 -- an aircraft of which nothing is kept
 abbrev pub blank : ℕ → Track
@@ -27,7 +27,7 @@ blank a = record {
 
 -- the kept place of the other parity, at most 10,000 ms old
 abbrev pub kept_partner : ℕ → Track → Bool → Option Place
-kept_partner now track odd = if odd then fresh 10000 now track.even else fresh 10000 now track.odd
+kept_partner now track odd = if odd then fresh pair_ms now track.even else fresh pair_ms now track.odd
 
 -- the position that a place gives with the kept place of the other parity
 abbrev pub kept_fix : ℕ → Track → Option Place → Option Position
@@ -61,12 +61,12 @@ updated now fields track = record {
 abbrev pub track_row : ℕ → Track → Aircraft
 track_row now track = record {
   address = track.address;
-  callsign = fresh 60000 now track.callsign;
-  altitude = fresh 60000 now track.altitude;
-  squawk = fresh 60000 now track.squawk;
-  velocity = fresh 60000 now track.velocity;
-  vertical = fresh 60000 now track.vertical;
-  position = fresh 60000 now track.position;
+  callsign = fresh life_ms now track.callsign;
+  altitude = fresh life_ms now track.altitude;
+  squawk = fresh life_ms now track.squawk;
+  velocity = fresh life_ms now track.velocity;
+  vertical = fresh life_ms now track.vertical;
+  position = fresh life_ms now track.position;
   heard = track.heard;
 }
 
@@ -84,7 +84,7 @@ put_track track (other ∷ rest) =
 
 -- the tracks heard at most 60,000 ms before now
 abbrev pub swept : ℕ → List Track → List Track
-swept now tracks = filter (λ track. nat_le (now - track.heard) 60000) tracks
+swept now tracks = filter (λ track. nat_le (now - track.heard) life_ms) tracks
 
 -- the track of the address, or a blank one
 abbrev pub track_or_blank : ℕ → List Track → Track
@@ -129,6 +129,6 @@ HeardFrom moment [] = Unit {0}
 HeardFrom moment (track ∷ rest) = (moment ≤ track.heard) × HeardFrom moment rest
 
 -- the track of the address stands at this place, or would stand there
-abbrev pub IsPlace : List Track → ℕ → Result ℕ ℕ → Type 0
-IsPlace tracks a (Ok i) = (i < length tracks) × (slice_get tracks i ≡ find_track a tracks) × ((track : Track) → track.address ≡ a → slice_set tracks i track ≡ put_track track tracks)
-IsPlace tracks a (Err i) = (i ≤ length tracks) × (find_track a tracks ≡ None) × ((track : Track) → track.address ≡ a → insert tracks i track ≡ put_track track tracks)
+abbrev pub StandsAt : List Track → ℕ → Result ℕ ℕ → Type 0
+StandsAt tracks a (Ok i) = (i < length tracks) × (slice_get tracks i ≡ find_track a tracks) × ((track : Track) → track.address ≡ a → slice_set tracks i track ≡ put_track track tracks)
+StandsAt tracks a (Err i) = (i ≤ length tracks) × (find_track a tracks ≡ None) × ((track : Track) → track.address ≡ a → insert tracks i track ≡ put_track track tracks)

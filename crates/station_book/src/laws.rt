@@ -4,10 +4,10 @@
 ghost use Rattle.std.specs.Prelude.{◌≡◌, ℕ, true, List, ◌∷◌, [], ◌++◌, ◌<◌, length, None, Some};
 ghost use Rattle.station_journal.specs.declared.entry.Entry.{Entry};
 ghost use Rattle.station_journal.specs.Log.{Log, IsLegal, table_of, clock_of, refusal_of, most_entries};
-ghost use Rattle.station_book.specs.declared.steps.Step.{Step};
-ghost use Rattle.station_book.specs.declared.steps.Change.{Change};
-ghost use Rattle.station_book.specs.Steps.{step_of, change_of};
-ghost use Rattle.station_book.specs.State.{State, starting, applied, applied_step, offered, fits, rows, caught_up, book_refusal};
+ghost use Rattle.station_book.specs.declared.decoded_entry.DecodedEntry.{DecodedEntry};
+ghost use Rattle.station_book.specs.declared.decoded_entry.Change.{Change};
+ghost use Rattle.station_book.specs.Decoded.{decoded_of, change_of};
+ghost use Rattle.station_book.specs.State.{BookState, starting, applied, applied_decoded, offered, fits, rows, caught_up, book_refusal};
 ghost use Rattle.station_book.specs.Matching.{Matches, Shows, book_after};
 
 /// A book without entries matches the list without entries, whatever the base of its clock.
@@ -18,34 +18,34 @@ pub fn a_new_book_matches()
 /// A book that matches a list shows what the search finds in it, and refuses what a journal would,
 /// JournalFull apart.
 pub fn a_match_shows_the_search()
-    ensures { (n : ℕ) (base : ℕ) (book : State) (entries : List Entry) →
+    ensures { (n : ℕ) (base : ℕ) (book : BookState) (entries : List Entry) →
         Matches n base book entries → Shows n base book entries }
 {}
 
 /// What a journal accepts fits each book that matches it.
 pub fn an_accepted_entry_fits()
-    ensures { (log : Log) (book : State) (entry : Entry) → refusal_of log entry ≡ None →
+    ensures { (log : Log) (book : BookState) (entry : Entry) → refusal_of log entry ≡ None →
         Matches log.limits.aircraft log.base book log.entries →
-        fits log.limits.aircraft book (step_of entry) ≡ true }
+        fits log.limits.aircraft book (decoded_of entry) ≡ true }
 {}
 
 /// What a book that matches accepts fits it.
 pub fn an_entry_that_is_not_refused_fits()
-    ensures { (n : ℕ) (base : ℕ) (book : State) (entries : List Entry) (entry : Entry) →
+    ensures { (n : ℕ) (base : ℕ) (book : BookState) (entries : List Entry) (entry : Entry) →
         Matches n base book entries → book_refusal n book entry ≡ None →
-        fits n book (step_of entry) ≡ true }
+        fits n book (decoded_of entry) ≡ true }
 {}
 
 /// An accepted entry leaves a match.
 pub fn a_match_stays()
-    ensures { (log : Log) (book : State) (entry : Entry) → refusal_of log entry ≡ None →
+    ensures { (log : Log) (book : BookState) (entry : Entry) → refusal_of log entry ≡ None →
         Matches log.limits.aircraft log.base book log.entries →
         Matches log.limits.aircraft log.base (applied book entry) (log.entries ++ entry ∷ []) }
 {}
 
 /// So does one that is offered, while the book counts fewer than the most entries.
 pub fn an_offer_keeps_a_match()
-    ensures { (log : Log) (book : State) (entry : Entry) → refusal_of log entry ≡ None →
+    ensures { (log : Log) (book : BookState) (entry : Entry) → refusal_of log entry ≡ None →
         length log.entries < most_entries →
         Matches log.limits.aircraft log.base book log.entries →
         Matches log.limits.aircraft log.base (offered log.limits.aircraft book entry)
@@ -62,7 +62,7 @@ pub fn the_book_equals_the_search()
 
 /// A book that takes over what an entry changed is the one that took the entry.
 pub fn a_change_brings_up()
-    ensures { (n : ℕ) (book : State) (step : Step) (change : Change) → fits n book step ≡ true →
-        change_of step ≡ Some change →
-        caught_up n (applied_step book step) change book ≡ applied_step book step }
+    ensures { (n : ℕ) (book : BookState) (decoded : DecodedEntry) (change : Change) → fits n book decoded ≡ true →
+        change_of decoded ≡ Some change →
+        caught_up n (applied_decoded book decoded) change book ≡ applied_decoded book decoded }
 {}

@@ -2,10 +2,10 @@
 //! what a search of all of them finds.
 #![tactic(auto)]
 
+pub mod decoded_entry;
 mod first_frames;
 pub mod laws;
 pub mod running;
-pub mod steps;
 #[cfg(test)]
 mod stream_tests;
 mod table;
@@ -13,5 +13,5 @@ mod table;
 mod tests;
 mod tracks;
 
+pub use decoded_entry::{Change, DecodedEntry, Sighting};
 pub use running::Book;
-pub use steps::{Change, Sighting, Step};

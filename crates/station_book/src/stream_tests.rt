@@ -1,7 +1,7 @@
 //! A long stream of made frames, given to a journal and to a book.
 ghost use Rattle.std.specs.Prelude.{◌<◌};
 
-use crate::{Book, Step};
+use crate::{Book, DecodedEntry};
 use modes_frame::{Frame, remainder};
 use station_journal::{Entry, Journal, Limits, Refusal};
 use std::process::Abort;
@@ -150,15 +150,15 @@ fn a_long_stream_shows_the_same_in_both(rt: HostRuntime) -> Result<(), Fail> {
 fn give_change(rt: &impl Abort, shown: &mut Book<6>, spare: &mut Book<6>, entry: &Entry) {
     let before = shown.entries();
     shown.offer(entry);
-    if let Some(change) = Step::of(entry).change() {
+    if let Some(change) = DecodedEntry::of(entry).change() {
         if shown.entries() > before {
             spare.catch_up(shown, change);
         }
     }
     assert_eq!(rt; spare.entries(), shown.entries());
     assert_eq!(rt; spare.now(), shown.now());
-    let step = Step::of(entry);
-    assert_eq!(rt; spare.verdict_of(&step), shown.verdict_of(&step));
+    let decoded = DecodedEntry::of(entry);
+    assert_eq!(rt; spare.verdict_of(&decoded), shown.verdict_of(&decoded));
     for address in 0x406200..0x406207 {
         assert_eq!(rt; spare.get(address), shown.get(address));
     }

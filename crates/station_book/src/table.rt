@@ -4,11 +4,12 @@ ghost use Rattle.std.specs.Prelude.{◌≡◌, IsTrue, Ok, ◌<◌, ◌≤◌, �
 ghost use Rattle.station_journal.specs.Rising.{IsRising};
 ghost use Rattle.modes_fields.specs.Carried.{fields_of};
 ghost use Rattle.station_book.specs.Tracks.{updated, find_track, put_track, with_track, swept, track_or_blank};
-ghost use Rattle.station_book.specs.Tracks.{address_of, IsRank, IsPlace, HeardFrom};
+ghost use Rattle.station_book.specs.Tracks.{address_of, IsRank, StandsAt, HeardFrom};
 
 use crate::tracks::{Track, blank, update};
 use arrayvec::ArrayVec;
 use modes_frame::Frame;
+use station_journal::LIFE_MS;
 use std::marker::Model;
 
 /// How many hints are kept, one for each value of an address' low bits.
@@ -81,7 +82,7 @@ impl<const N: usize> Table<N> {
 
     /// Where the track of the address stands, or where it would stand.
     pub fn locate(&self, address: u32) -> Result<usize, usize>
-        ensures { IsPlace self.now address result }
+        ensures { StandsAt self.now address result }
     {
         let hint = usize::from(self.hints[address as usize % HINTS]);
         if self.stands_at(hint, address) {
@@ -93,7 +94,7 @@ impl<const N: usize> Table<N> {
 
     // Whether the track of the address stands at the place.
     fn stands_at(&self, place: usize, address: u32) -> bool
-        ensures { IsTrue result → IsPlace self.now address (Ok place) }
+        ensures { IsTrue result → StandsAt self.now address (Ok place) }
     {
         if place < self.addresses.len() {
             let there = self.addresses[place];
@@ -106,7 +107,7 @@ impl<const N: usize> Table<N> {
 
     // The place of the address, by halves.
     fn search(&self, address: u32) -> Result<usize, usize>
-        ensures { IsPlace self.now address result }
+        ensures { StandsAt self.now address result }
     {
         let rank = rank_of(self.addresses.as_slice(), address);
         if rank < self.addresses.len() {
@@ -121,7 +122,7 @@ impl<const N: usize> Table<N> {
     /// Takes what a frame of the address carries, heard at the moment now. The place is that of the
     /// address.
     pub fn hear(&mut self, place: Result<usize, usize>, now: u64, address: u32, frame: &Frame)
-        requires place { IsPlace self.old address place }
+        requires place { StandsAt self.old address place }
         requires room { find_track address self.old ≡ None → length self.old < N }
         ensures { self.new ≡ put_track (updated now (fields_of frame.now) (track_or_blank address self.old)) self.old }
     {
@@ -174,7 +175,7 @@ impl<const N: usize> Table<N> {
     pub fn sweep(&mut self, now: u64)
         ensures { self.new ≡ swept now self.old }
     {
-        if now.saturating_sub(self.oldest) > 60_000 {
+        if now.saturating_sub(self.oldest) > LIFE_MS {
             retain_recent(&mut self.tracks, now);
             set_addresses(&mut self.addresses, self.tracks.as_slice());
             self.oldest = oldest_of(self.tracks.as_slice());
@@ -194,7 +195,7 @@ fn rank_of(addresses: &[u32], address: u32) -> usize
 fn retain_recent<const N: usize>(tracks: &mut ArrayVec<Track, N>, now: u64)
     ensures { tracks.new.items ≡ swept now tracks.old.items }
 {
-    tracks.retain(|track| now.saturating_sub(track.heard) <= 60_000);
+    tracks.retain(|track| now.saturating_sub(track.heard) <= LIFE_MS);
 }
 
 // Makes the addresses those of the tracks.

@@ -11,7 +11,7 @@ use modes_fields::readers::carried;
 use modes_fields::{Callsign, Carried, Place, Squawk, Velocity};
 use modes_frame::Frame;
 use station_journal::aging::{fresh, or_older, pair_with, stamp, with_parity};
-use station_journal::{Aircraft, Stamped};
+use station_journal::{Aircraft, LIFE_MS, PAIR_MS, Stamped};
 
 /// What is kept of an aircraft: of each field the newest value, the newest even and odd place, and the newest position.
 #[derive(Clone, Copy, Debug, Default)]
@@ -54,9 +54,9 @@ fn kept_fix(now: u64, track: &Track, place: Option<Place>) -> Option<Position>
     match place {
         Some(place) => {
             if place.odd {
-                pair_with(place, fresh(10_000, now, track.even))
+                pair_with(place, fresh(PAIR_MS, now, track.even))
             } else {
-                pair_with(place, fresh(10_000, now, track.odd))
+                pair_with(place, fresh(PAIR_MS, now, track.odd))
             }
         }
         None => None,
@@ -119,12 +119,12 @@ pub fn track_row(now: u64, track: &Track) -> Aircraft
 {
     Aircraft {
         address: track.address,
-        callsign: fresh(60_000, now, track.callsign),
-        altitude: fresh(60_000, now, track.altitude),
-        squawk: fresh(60_000, now, track.squawk),
-        velocity: fresh(60_000, now, track.velocity),
-        vertical: fresh(60_000, now, track.vertical),
-        position: fresh(60_000, now, track.position),
+        callsign: fresh(LIFE_MS, now, track.callsign),
+        altitude: fresh(LIFE_MS, now, track.altitude),
+        squawk: fresh(LIFE_MS, now, track.squawk),
+        velocity: fresh(LIFE_MS, now, track.velocity),
+        vertical: fresh(LIFE_MS, now, track.vertical),
+        position: fresh(LIFE_MS, now, track.position),
         heard: track.heard,
     }
 }

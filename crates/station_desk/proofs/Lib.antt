@@ -1,10 +1,10 @@
-pub mod Adding
+pub mod HistoryLemmas
 pub mod DeskLemmas
 pub mod EndingLemmas
-pub mod Fronts
+pub mod FrontLemmas
 pub mod RowLemmas
-pub mod Rules
-pub mod Sequences
-pub mod Starts
-pub mod Turning
+pub mod PublishRuleLemmas
+pub mod CallLemmas
+pub mod StartLemmas
+pub mod TurnLemmas
 pub mod WalkLemmas

@@ -6,7 +6,7 @@ use Rattle.station_journal.specs.Log.{Log}
 use Rattle.station_lines.specs.Calls.{heard, journal_after}
 use Rattle.station_lines.specs.Counting.{Counts}
 use Rattle.station_lines.specs.Drawing.{Drawn, Draws}
-use Rattle.station_lines.specs.Pump.{tally_of, want_of, ending_of}
+use Rattle.station_lines.specs.Pump.{tally_of_pump, want_of, ending_of}
 use Rattle.station_desk.specs.Replay.{EndsWithCall}
 use Rattle.station_lines.specs.declared.pumping.PumpFault.{PumpFault}
 use Rattle.station_lines.specs.declared.tally.Tally.{Tally}
@@ -23,7 +23,7 @@ pub record PumpsDesk (seat : ℕ) (before after : Log) (source_old source_new : 
   pub lines : List Cut
   pub draws : Draws source_old source_new turns (ending_of result) lines
   pub runs : Runs seat before after lines (want_of result)
-  pub counts : Counts heard (tally_of result) lines
-  pub no_ticks : (tally_of result).ticks ≡ 0
-  pub no_shows : (tally_of result).shows ≡ 0
-  pub accepted : (tally_of result).accepted + length before.entries ≡ length after.entries
+  pub counts : Counts heard (tally_of_pump result) lines
+  pub no_ticks : (tally_of_pump result).ticks ≡ 0
+  pub no_shows : (tally_of_pump result).shows ≡ 0
+  pub accepted : (tally_of_pump result).accepted + length before.entries ≡ length after.entries

@@ -3,5 +3,5 @@ pub mod DeskFeed
 pub mod DeskPump
 pub mod History
 pub mod Replay
-pub mod Shown
+pub mod Published
 pub mod Start

@@ -1,5 +1,6 @@
 //! A lent desk that takes frames as one seat.
 ghost use Rattle.std.specs.Prelude.{◌≡◌, ◌≤◌};
+ghost use Rattle.station_desk.specs.Desk.{most_aircraft};
 
 use crate::desk::Desk;
 use modes_frame::Frame;
@@ -12,7 +13,7 @@ use std::sync::Wait;
 pub struct DeskFeed<'a, const N: usize> {
     pub desk: &'a mut Desk<N>,
     pub seat: u8,
-    pub ghost small: { N ≤ 4096 },
+    pub ghost small: { N ≤ most_aircraft },
 }
 
 impl<'a, const N: usize> Feed for DeskFeed<'a, N> {

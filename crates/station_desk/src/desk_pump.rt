@@ -2,6 +2,7 @@
 ghost use Rattle.std.specs.Prelude.{◌≡◌, ◌≤◌};
 ghost use Rattle.station_desk.specs.DeskPump.{PumpsDesk};
 ghost use Rattle.station_lines.specs.Drawing.{drawn_of};
+ghost use Rattle.station_desk.specs.Desk.{most_aircraft};
 
 #[cfg(test)]
 mod tests;
@@ -34,7 +35,7 @@ pub fn pump_desk<const N: usize, S: Source, R: Wait>(
     from: &mut S,
     turns: u32,
 ) -> Result<Tally, PumpFault>
-    requires small { N ≤ 4096 }
+    requires small { N ≤ most_aircraft }
     ensures { PumpsDesk seat desk.old.log desk.new.log
         (drawn_of S.left S.reads S.ends S.failures from.old)
         (drawn_of S.left S.reads S.ends S.failures from.new) turns result }

@@ -6,12 +6,13 @@ ghost use Rattle.station_journal.specs.Log.{most_entries};
 ghost use Rattle.station_journal.specs.Resume.{Refuses};
 ghost use Rattle.station_book.specs.Matching.{Matches};
 ghost use Rattle.station_desk.specs.History.{base_of};
-ghost use Rattle.station_desk.specs.Shown.{IsOf};
+ghost use Rattle.station_desk.specs.Published.{IsOf};
+ghost use Rattle.station_desk.specs.Desk.{most_aircraft};
 
 use crate::history::History;
-use crate::press::{begin, blank, new_place};
-use crate::rule::{Place, Press, Published};
-use crate::shown::{Mark, Origin, Shown, Unlogged};
+use crate::publish_rule::{PublishRule, ReaderPlace};
+use crate::published::{Mark, Origin, PublishedTable, Unlogged};
+use crate::publisher::{Publisher, begin, blank, new_place};
 use crossbeam_utils::rule::Protocol;
 use left_right::Absorb;
 use station_journal::{Entry, Limits, NoMemory, ResumeFault};
@@ -24,38 +25,38 @@ use std::sync::Wait;
 /// Places can't be dropped: a station takes them.
 pub struct Places<const N: usize>
 where
-    Shown<N>: Absorb<Unlogged, State = ()>,
-    Published: Protocol<Shown<N>, Option<Mark>>,
+    PublishedTable<N>: Absorb<Unlogged, State = ()>,
+    PublishRule: Protocol<PublishedTable<N>, Option<Mark>>,
 {
     base: u64,
     history: History,
-    press: Press<N>,
-    places: Vec<Place<N>>,
-    ghost small: { N ≤ 4096 },
+    publisher: Publisher<N>,
+    places: Vec<ReaderPlace<N>>,
+    ghost small: { N ≤ most_aircraft },
 }
 
 impl<const N: usize> Model for Places<N>
 where
-    Shown<N>: Absorb<Unlogged, State = ()>,
-    Published: Protocol<Shown<N>, Option<Mark>>,
+    PublishedTable<N>: Absorb<Unlogged, State = ()>,
+    PublishRule: Protocol<PublishedTable<N>, Option<Mark>>,
 {
     ghost use Rattle.std.specs.Prelude.{◌≡◌, [], None, vec_len};
     ghost use Rattle.station_book.specs.State.{starting};
     ghost use Rattle.station_desk.specs.History.{base_of};
-    ghost use Rattle.station_desk.specs.Shown.{Prepared};
+    ghost use Rattle.station_desk.specs.Published.{Prepared};
 
     ghost Value = { Prepared };
 
     ghost view = { λ p. record {
       history = p.history.name;
       places = vec_len p.places;
-      shown = p.press.desk.shown.value.book;
+      shown = p.publisher.desk.shown.value.book;
     } };
 
     ghost invariant = { λ p. (p.history.entries ≡ [])
-        × (p.press.desk.shown.value.front ≡ p.history)
-        × (p.press.desk.shown.value.book ≡ starting p.base)
-        × (p.press.desk.shown.value.origin ≡ None)
+        × (p.publisher.desk.shown.value.front ≡ p.history)
+        × (p.publisher.desk.shown.value.book ≡ starting p.base)
+        × (p.publisher.desk.shown.value.origin ≡ None)
         × (base_of p.history.name ≡ p.base) };
 }
 
@@ -64,19 +65,19 @@ impl<const N: usize> Places<N> {
     /// milliseconds. Refused at want of memory.
     pub fn new<R: Wait>(rt: &R, alloc: Global, base: u64, seats: u8) -> Result<Places<N>, NoMemory>
         requires seats { 0 < seats }
-        requires small { N ≤ 4096 }
+        requires small { N ≤ most_aircraft }
         ensures places { IfOk result (λ p. p.places ≡ seats) }
         ensures base { IfOk result (λ p. base_of p.history ≡ base) }
         ensures shown { IfOk result (λ p. Matches N base p.shown []) }
     {
         let mut places = Vec::with_capacity(alloc, usize::from(seats))?;
         let history = History::new(base);
-        let first = blank(&history, base, None);
-        let second = blank(&history, base, None);
-        let mut press = Press::new(alloc, first, second, usize::from(seats))?;
+        let first = blank(&history, base);
+        let second = blank(&history, base);
+        let mut publisher = Publisher::new(alloc, first, second, usize::from(seats))?;
         for _made in 0..seats {
-            let Ok(place) = new_place(&mut press) else {
-                press.take(rt);
+            let Ok(place) = new_place(&mut publisher) else {
+                publisher.take(rt);
                 return Err(AllocError);
             };
             places.push_reserved(place);
@@ -84,7 +85,7 @@ impl<const N: usize> Places<N> {
         Ok(Places {
             base,
             history,
-            press,
+            publisher,
             places,
         })
     }
@@ -96,7 +97,7 @@ impl<const N: usize> Places<N> {
         rt: &R,
         limits: Limits,
         entries: &[Entry],
-    ) -> Result<(History, Press<N>, Vec<Place<N>>), ResumeFault>
+    ) -> Result<(History, Publisher<N>, Vec<ReaderPlace<N>>), ResumeFault>
         requires aircraft { limits.aircraft ≡ N }
         requires few { (length entries.now ≤ limits.entries) × (limits.entries ≤ most_entries) }
         ensures history { IfOk result (λ t. (t.0.name ≡ self.entry.history) × (t.0.entries ≡ entries.now)) }
@@ -113,7 +114,7 @@ impl<const N: usize> Places<N> {
         let Places {
             base,
             mut history,
-            press,
+            publisher,
             mut places,
         } = self;
         let count = places.len();
@@ -125,18 +126,18 @@ impl<const N: usize> Places<N> {
             limits,
             resumed: entries.len() as u64,
         };
-        let mut press = match begin(rt, press, base, history.front(), origin, entries) {
-            Ok(press) => press,
+        let mut publisher = match begin(rt, publisher, base, history.front(), origin, entries) {
+            Ok(publisher) => publisher,
             Err(place) => return Err(ResumeFault::Unsound(place)),
         };
         for _made in 0..count {
-            let Ok(place) = new_place(&mut press) else {
-                press.take(rt);
+            let Ok(place) = new_place(&mut publisher) else {
+                publisher.take(rt);
                 return Err(ResumeFault::NoMemory);
             };
             places.push_reserved(place);
         }
-        Ok((history, press, places))
+        Ok((history, publisher, places))
     }
 
     /// Gives them up.
@@ -144,9 +145,9 @@ impl<const N: usize> Places<N> {
         let Places {
             base: _,
             history: _,
-            press,
+            publisher,
             places: _,
         } = self;
-        press.take(rt);
+        publisher.take(rt);
     }
 }

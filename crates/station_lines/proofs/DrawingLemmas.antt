@@ -7,7 +7,7 @@ use Rattle.std.proofs.lemmas.List.{map-append, take_all}
 use Rattle.std.proofs.Math.Seq.{take-add}
 use Rattle.modes_frame.specs.declared.cutter.Cut.{Cut}
 use Rattle.modes_frame.specs.Lines.{pieces, cut, cuts, last_line, pending, ended_cuts, told}
-use Rattle.modes_frame.proofs.LinesLemmas.{ended-push}
+use Rattle.modes_frame.proofs.LineLemmas.{ended-push}
 use Rattle.station_lines.specs.Source.{one_more, counted_up}
 use Rattle.station_lines.specs.Drawing.{Drawn, Ending, AtEnd, ReadFailed, TurnsOver, LineStopped, EndsAs, is_read_failed, Draws, TakesBytes, TakesLast}
 

@@ -20,7 +20,7 @@ use Rattle.station_lines.specs.Command.{of_line}
 use Rattle.station_lines.specs.Counting.{Counts, is_tick, is_show}
 use Rattle.station_lines.specs.Drawing.{Drawn, AtEnd, ReadFailed, TurnsOver, LineStopped, TakesLast}
 use Rattle.station_lines.specs.Feeds.{Feeds, is_reply}
-use Rattle.station_lines.specs.Pump.{Wants, Pumping, Pumps, PumpsFrame, PumpsAll, answer_of, tally_of, want_of, ending_of}
+use Rattle.station_lines.specs.Pump.{Wants, Pumping, Pumps, PumpsFrame, PumpsAll, answer_of, tally_of_pump, want_of, ending_of}
 use Rattle.station_lines.specs.declared.command.Command.TheVariants.{Line as Received}
 use Rattle.station_lines.specs.declared.pumping.PumpFault.{PumpFault}
 use Rattle.station_lines.specs.declared.pumping.PumpFault.TheVariants as Faults
@@ -134,9 +134,9 @@ none_by p none (c ∷ cs) = let here = none c in rw here (none_by p none cs)
 
 module _ {F : Type 0} (gives : F → List ℕ → Result (Unit {0}) Refusal → F → Type 0) {x z : Pumping F} {old new : Drawn} {turns : ℕ} (empty : x.tally.lines ≡ 0) where
   -- what all lines taken leave, by the answer
-  PumpsAll-taken : (result : Result Tally PumpFault) → tally_of result ≡ z.tally → Taken (Pumps gives) old new turns (ending_of result) x z (want_of result) → PumpsAll gives x.feed z.feed old new turns result
+  PumpsAll-taken : (result : Result Tally PumpFault) → tally_of_pump result ≡ z.tally → Taken (Pumps gives) old new turns (ending_of result) x z (want_of result) → PumpsAll gives x.feed z.feed old new turns result
   PumpsAll-taken result told all =
-      let counts : Counts heard (tally_of result) all.lines = rw told (Counts-from heard x.tally z.tally all.lines empty all.took.counts) in
+      let counts : Counts heard (tally_of_pump result) all.lines = rw told (Counts-from heard x.tally z.tally all.lines empty all.took.counts) in
       record {
         lines = all.lines;
         answers = all.took.answers;

@@ -69,11 +69,11 @@ answer_of (Ok done) tally = Ok tally
 answer_of (Err want) tally = Err (Faults.NoMemory tally)
 
 -- what was counted, whatever the answer
-abbrev pub tally_of : Result Tally PumpFault → Tally
-tally_of (Ok tally) = tally
-tally_of (Err (Faults.Read tally)) = tally
-tally_of (Err (Faults.TooManyTurns tally)) = tally
-tally_of (Err (Faults.NoMemory tally)) = tally
+abbrev pub tally_of_pump : Result Tally PumpFault → Tally
+tally_of_pump (Ok tally) = tally
+tally_of_pump (Err (Faults.Read tally)) = tally
+tally_of_pump (Err (Faults.TooManyTurns tally)) = tally
+tally_of_pump (Err (Faults.NoMemory tally)) = tally
 
 -- whether memory was wanting, by the answer
 abbrev pub want_of : Result Tally PumpFault → Result (Unit {0}) AllocError
@@ -97,7 +97,7 @@ pub record PumpsAll {F : Type 0} (gives : F → List ℕ → Result (Unit {0}) R
   pub draws : Draws source_old source_new turns (ending_of result) lines
   pub feeds : Feeds gives before (frames_of lines) answers after
   pub wants : Wants lines answers (want_of result)
-  pub counts : Counts heard (tally_of result) lines
-  pub no_ticks : (tally_of result).ticks ≡ 0
-  pub no_shows : (tally_of result).shows ≡ 0
-  pub accepted : (tally_of result).accepted ≡ count_by is_ok answers
+  pub counts : Counts heard (tally_of_pump result) lines
+  pub no_ticks : (tally_of_pump result).ticks ≡ 0
+  pub no_shows : (tally_of_pump result).shows ≡ 0
+  pub accepted : (tally_of_pump result).accepted ≡ count_by is_ok answers

@@ -1,9 +1,9 @@
 -- Showings of the reporter, one more at the end.
-use Rattle.std.proofs.Common.{rules, ◌≡◌, ◌∙◌, ◌⊎◌, inl, inr, ℕ, ◌≤◌, ◌<◌, Bool, true, false, List, [], ◌∷◌, ◌++◌, Option, Some, None, Result, Ok, Err, IsOk, is_ok, IfSome, refl, sym, ap, subst, append_assoc, append-nil, cond, map}
+use Rattle.std.proofs.Common.{rules, ◌≡◌, ◌∙◌, ◌⊎◌, inl, inr, ℕ, ◌≤◌, ◌<◌, Bool, true, false, List, [], ◌∷◌, ◌++◌, Option, Some, None, Result, Ok, Err, IfSome, refl, sym, ap, subst, append_assoc, append-nil, cond, map}
 use Rattle.std.proofs.lemmas.Bool.{lt-ltb, le-ltb}
 use Rattle.std.specs.Prelude.{is_err, IfOk, IfErr, nat_lt}
-use Rattle.std.specs.Io.KnownBytes.{Appends, Keeps}
-use Rattle.std.proofs.KnownBytes.{Appends-nil, Appends-trans, Appends-kept}
+use Rattle.std.specs.Io.KnownBytes.{Appends}
+use Rattle.std.proofs.KnownBytes.{Appends-nil, Appends-trans}
 use Rattle.station_journal.specs.declared.entry.Entry.TheVariants.{Tick}
 use Rattle.station_journal.specs.declared.refusal.Refusal.{Refusal}
 use Rattle.station_report.specs.Sink.{TakesAll, counted}
@@ -144,16 +144,6 @@ end_of station ticked new at None (inl p) = sym p.1
 end_of station ticked new at None (inr p) = absurd (search rules)
 end_of station ticked new at (Some look) (inl p) = absurd (search rules)
 end_of station ticked new at (Some look) (inr p) = cc
-
--- one more table that was written and flushed
-pub flushed : {E F : Type 0} (a b c : Option (List ℕ)) (k m n : ℕ) (all : List ℕ) (written : Result (Unit {0}) E) (result : Result (Unit {0}) F) → IsOk written → TakesAll a b k m all written
-    → Keeps b c → n ≡ counted (is_ok result) m → TakesAll a c k n all result
-flushed a b c k m n all (Err fault) result well takes kept failed = absurd (search rules)
-flushed a b c k m n all (Ok done) (Ok well) ok takes kept failed = record { bytes = Appends-kept a b c all takes.bytes kept; failures = failed ∙ takes.failures }
-flushed a b c k m n all (Ok done) (Err fault) ok takes kept failed = record {
-  bytes = record { front = all; rest = []; parts = sym (append-nil all); grown = Appends-kept a b c all takes.bytes kept };
-  failures = failed ∙ ap (λ n. counted false n) takes.failures;
-}
 
 looked_is : (station : Start) (ticked new : Seated) (look : Option Seated) → (look ≡ None) × (new ≡ ticked) ⊎ (look ≡ Some new) × Looks station ticked new → IfSome look (λ l. Looks station ticked l)
 looked_is station ticked new None p = tt

@@ -15,9 +15,9 @@ use Rattle.station_desk.specs.Start.{Start}
 use Rattle.station_shared.specs.Seats.{Seated, newcomer}
 use Rattle.station_lines.specs.declared.pumping.PumpFault.{PumpFault}
 use Rattle.station_lines.specs.declared.tally.Tally.{Tally}
-use Rattle.station_desk.proofs.Starts.{sound_at, sound_front}
+use Rattle.station_desk.proofs.StartLemmas.{sound_at, sound_front}
 use Rattle.station_main.specs.Limits.{program_limits}
-use Rattle.station_main.specs.Rounds.{Asked, Given, GoesOnFrom, HandsOn, IsCutShort, IsKept, IsRound, Runs}
+use Rattle.station_main.specs.Rounds.{Asked, Given, GoesOnFrom, HandsOn, IsCutShort, KeepsRecent, IsRound, Runs}
 use Rattle.station_main.specs.Run.{Leaves}
 use Rattle.station_main.specs.Status.{answer_status, fault_status}
 use Rattle.station_main.specs.Telling.{Tells, Told, answer_lines, output_lines}
@@ -35,7 +35,7 @@ wants_memory limits base entries (Unsound k) sound refuses other =
 wants_memory limits base entries NoMemory sound refuses other = other refl
 
 -- what is kept of a station under the limits of the program may be resumed from under them
-pub kept_sound : (start : Start) (closing : Seated) (kept : Given) → start.limits ≡ program_limits → IsKept start closing kept → IsSound program_limits kept.base (reverse kept.entries)
+pub kept_sound : (start : Start) (closing : Seated) (kept : Given) → start.limits ≡ program_limits → KeepsRecent start closing kept → IsSound program_limits kept.base (reverse kept.entries)
 kept_sound start closing kept limits is =
     let base = base_of start.history in
     let past = reverse is.journal in

@@ -43,7 +43,7 @@ pub record IsRound (asked : Asked) (given : Given) (start : Start) (closing : Se
   pub ends : Ends start asked.every given.last_tick asked.inputs (newcomer given.entries asked.inputs) closing before after err_old err_new status
 
 -- what is kept of the journal of a closed station, which begins with all that a seat has seen: its recent entries
-pub record IsKept (start : Start) (closing : Seated) (kept : Given) : Type 0 where
+pub record KeepsRecent (start : Start) (closing : Seated) (kept : Given) : Type 0 where
   pub journal : List Entry
   pub legal : IsLegal (log_of start journal)
   pub shown : IsPrefix closing.seen journal
@@ -56,7 +56,7 @@ pub record HandsOn (asked : Asked) (given : Given) (before after : Option (List 
   pub start : Start
   pub closing : Seated
   pub round : IsRound asked given start closing before after err_old err_new 0
-  pub is_kept : IsKept start closing kept
+  pub is_kept : KeepsRecent start closing kept
 
 -- a fault between two rounds
 abbrev pub IsBetween : Fault → Type 0

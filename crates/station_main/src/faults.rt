@@ -1,4 +1,4 @@
-// What the program tells on standard error.
+//! What the program tells on standard error.
 ghost use Rattle.std.specs.Prelude.{◌≡◌, ◌++◌};
 ghost use Rattle.station_main.specs.Telling.{Tells, fault_line, tally_line, told_of};
 

@@ -1,4 +1,4 @@
-// The limits of the program.
+//! The limits of the program.
 use station_journal::Limits;
 
 /// How many aircraft may be live.

@@ -1,4 +1,4 @@
-// The output of a job, out of its buffer.
+//! The output of a job, out of its buffer.
 ghost use Rattle.std.specs.Prelude.{◌≡◌, None, true};
 ghost use Rattle.std.specs.Io.Buffered.{writer_contents};
 ghost use Rattle.station_main.specs.Output.{GivesBack};

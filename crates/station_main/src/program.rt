@@ -1,4 +1,4 @@
-// The whole program, over any streams.
+//! The whole program, over any streams.
 ghost use Rattle.clap.specs.Words.{kind_of, takes};
 ghost use Rattle.clap.specs.declared.error.kind.ErrorKind.TheVariants.{DisplayHelp, DisplayVersion};
 ghost use Rattle.station_main.specs.Command.{IsInRange, station};

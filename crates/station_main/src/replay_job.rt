@@ -1,4 +1,4 @@
-// The job `replay`.
+//! The job `replay`.
 ghost use Rattle.std.specs.Prelude.{◌≡◌, ◌≤◌, IfSome, None, max};
 ghost use Rattle.std.specs.Io.Buffered.{writer_contents};
 ghost use Rattle.station_main.specs.Limits.{program_limits};

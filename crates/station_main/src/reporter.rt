@@ -1,14 +1,14 @@
-// The reporter: the table of its own seat's looks, now and then.
-ghost use Rattle.std.specs.Prelude.{◌≡◌, ℕ, List, is_ok};
-ghost use Rattle.std.specs.Io.KnownBytes.{Appends, Keeps};
+//! The reporter: the table of its own seat's looks, now and then.
+ghost use Rattle.std.specs.Prelude.{◌≡◌, ℕ, List};
+ghost use Rattle.std.specs.Io.KnownBytes.{Appends};
 ghost use Rattle.station_main.specs.Output.{sink_of};
 ghost use Rattle.station_main.specs.Reporter.{Reports, ReportsByAClock};
 ghost use Rattle.station_main.specs.Tables.{PrintsAtMost, text_of};
-ghost use Rattle.station_report.specs.Sink.{TakesAll, counted};
+ghost use Rattle.station_report.specs.Sink.{TakesAll};
 
 use crate::schedule::{Act, Moments, Pace, Since, act_at};
-use station_report::{Sink, WriteFault, table};
-use station_shared::{Look, Seat, Station, Total};
+use station_report::{Sink, WriteFault, flush_after, table};
+use station_shared::{Look, Seat, Station, StationName};
 use std::snapshot::Snapshot;
 use std::sync::Wait;
 use std::sync::atomic::{AtomicBool, Ordering};
@@ -33,7 +33,8 @@ pub struct Given<S, O> {
     pub out: Snapshot<O>,
 }
 
-impl<const N: usize, L: Total, S: Sink> Promise<Reported<Seat<N, L>, S>> for Given<Seat<N, L>, S> {
+impl<const N: usize, L: StationName, S: Sink> Promise<Reported<Seat<N, L>, S>>
+    for Given<Seat<N, L>, S> {
     ghost use Rattle.station_main.specs.Output.{sink_of};
     ghost use Rattle.station_main.specs.Reporter.{ReportsByAClock};
 
@@ -44,7 +45,7 @@ impl<const N: usize, L: Total, S: Sink> Promise<Reported<Seat<N, L>, S>> for Giv
 /// Ticks and prints the table each time that the pace's milliseconds more have passed, until all receivers have ended or
 /// a write failed. Moments are milliseconds since the start. The seat comes back, and the sink has taken the tables of
 /// its looks and nothing else.
-pub fn report<const N: usize, L: Total, R: Wait + Clock, S: Sink>(
+pub fn report<const N: usize, L: StationName, R: Wait + Clock, S: Sink>(
     rt: &R,
     station: &Station<N, L>,
     have_ended: &AtomicBool,
@@ -61,7 +62,7 @@ pub fn report<const N: usize, L: Total, R: Wait + Clock, S: Sink>(
 }
 
 // The same at the moments of any clock: a table at each of them that is due, and at no other.
-fn report_at<const N: usize, L: Total, R: Wait + Clock, S: Sink, M: Moments>(
+fn report_at<const N: usize, L: StationName, R: Wait + Clock, S: Sink, M: Moments>(
     rt: &R,
     station: &Station<N, L>,
     have_ended: &AtomicBool,
@@ -103,7 +104,7 @@ fn report_at<const N: usize, L: Total, R: Wait + Clock, S: Sink, M: Moments>(
 }
 
 /// Prints the table as the seat sees it, and hands the seat back. A refused look prints nothing.
-pub fn print_table<const N: usize, L: Total, S: Sink>(
+pub fn print_table<const N: usize, L: StationName, S: Sink>(
     seat: Seat<N, L>,
     out: &mut S,
 ) -> (Seat<N, L>, Result<(), WriteFault>)
@@ -118,7 +119,7 @@ pub fn print_table<const N: usize, L: Total, S: Sink>(
 
 // Writes the table of a look, ends the look, and then flushes: output that waits keeps nobody from the table, where
 // its buffer has room for one.
-fn write_table<const N: usize, L: Total, S: Sink>(
+fn write_table<const N: usize, L: StationName, S: Sink>(
     look: Look<N, L>,
     out: &mut S,
 ) -> (Seat<N, L>, Result<(), WriteFault>)
@@ -128,18 +129,5 @@ fn write_table<const N: usize, L: Total, S: Sink>(
 {
     let written = table(&look, look.now(), out);
     let seat = look.done();
-    match written {
-        Ok(()) => (seat, flush(out)),
-        Err(fault) => (seat, Err(fault)),
-    }
-}
-
-fn flush<S: Sink>(out: &mut S) -> Result<(), WriteFault>
-    ensures bytes { Keeps (S.taken out.old) (S.taken out.new) }
-    ensures failures { S.failures out.new ≡ counted (is_ok result) (S.failures out.old) }
-{
-    match out.flush() {
-        Ok(()) => Ok(()),
-        Err(_) => Err(WriteFault),
-    }
+    (seat, flush_after(written, out))
 }

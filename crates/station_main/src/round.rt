@@ -1,25 +1,28 @@
-// One round of the job `run`: the work of one station.
-ghost use Rattle.std.specs.Prelude.{◌≡◌, ◌+◌, ◌≤◌, ◌∷◌, ℕ, List, Option, All, IfErr, IfOk, is_some, length, option_map, reverse, true};
+//! One round of the job `run`: the work of one station.
+ghost use Rattle.std.specs.Prelude.{◌≡◌, ◌+◌, ◌≤◌, All, IfErr, IfOk, is_some, length, option_map, reverse, true};
 ghost use Rattle.station_journal.specs.Resume.{IsSound};
 ghost use Rattle.station_desk.specs.History.{base_of};
-ghost use Rattle.station_shared.specs.Seats.{Seated, newcomer, newcomers};
+ghost use Rattle.station_shared.specs.Seats.{newcomer};
 ghost use Rattle.station_main.specs.Limits.{program_limits};
 ghost use Rattle.station_main.specs.Output.{buffered_of};
-ghost use Rattle.station_main.specs.Rounds.{Asked, EndsRound, Given, GoesOnFrom, IsBetween, IsKept, IsLast, given_of};
+ghost use Rattle.station_main.specs.Rounds.{EndsRound, IsLast, given_of};
 ghost use Rattle.station_main.specs.Run.{IsEarly, Leaves};
 ghost use Rattle.station_main.specs.Telling.{told_of};
 
-use crate::faults::{Fault, tell};
+mod ending;
+mod opening;
+
+use crate::faults::Fault;
 use crate::kept::Kept;
-use crate::limits::{AIRCRAFT, LIMITS};
+use crate::limits::AIRCRAFT;
 use crate::output::{Ran, Written, without_output};
+use crate::round::ending::{finish, hand_on};
+use crate::round::opening::begin;
 use crate::schedule::Pace;
 use crate::standard_error::StandardError;
-use crate::tallies::tell_end;
 use crate::threads::{Input, Output, Receiver, print_last, run_threads};
-use station_journal::{NoMemory, ResumeFault};
-use station_shared::{Missing, Places, Seat, Station, Total, Worker};
-use std::alloc::{AllocError, Global};
+use station_shared::{Places, Seat, Station, StationName};
+use std::alloc::Global;
 use std::io::Write;
 use std::sync::Wait;
 use std::sync::ledger::Blank;
@@ -48,7 +51,7 @@ pub enum Round<O> {
 }
 
 // A station after its round, and what its threads left.
-struct Worked<L: Total, O> {
+struct Worked<L: StationName, O> {
     station: Station<AIRCRAFT, L>,
     receivers: Vec<Receiver<L>>,
     reporter: Seat<AIRCRAFT, L>,
@@ -57,7 +60,7 @@ struct Worked<L: Total, O> {
 
 /// A round that others follow. It hands on what is recent, unless a fault was told.
 pub fn run_round<
-    L: Total + Send + Sync,
+    L: StationName + Send + Sync,
     R: Threads + Wait + Clock + Sync,
     O: Write + Send + Drop,
     E: Write,
@@ -91,7 +94,7 @@ pub fn run_round<
 
 /// The round that no other follows.
 pub fn run_last<
-    L: Total + Send + Sync,
+    L: StationName + Send + Sync,
     R: Threads + Wait + Clock + Sync,
     O: Write + Send + Drop,
     E: Write,
@@ -126,7 +129,7 @@ pub fn run_last<
 }
 
 // The work of a station's seats, and the last table.
-fn work<L: Total + Send + Sync, R: Threads + Wait + Clock + Sync, O: Write + Send + Drop>(
+fn work<L: StationName + Send + Sync, R: Threads + Wait + Clock + Sync, O: Write + Send + Drop>(
     rt: &R,
     alloc: Global,
     plan: Plan<O>,
@@ -178,181 +181,4 @@ fn work<L: Total + Send + Sync, R: Threads + Wait + Clock + Sync, O: Write + Sen
         reporter,
         written,
     })
-}
-
-// The station that goes on from what is kept, a receiver of each input, and the reporter's seat.
-fn begin<L: Total, R: Wait>(
-    rt: &R,
-    alloc: Global,
-    kept: Kept,
-    inputs: Vec<Input>,
-    blank: Blank,
-    places: Places<AIRCRAFT>,
-) -> Result<(Station<AIRCRAFT, L>, Vec<Receiver<L>>, Seat<AIRCRAFT, L>), NoMemory>
-    requires few { length inputs.items ≤ 8 }
-    requires ledger { (blank.name ≡ L.name) × (blank.parts ≡ L.parts) }
-    requires seats { (L.parts ≡ length inputs.items + 1)
-        × (L.seats ≡ length inputs.items + 1)
-        × (places.places ≡ length inputs.items + 1) }
-    requires start { (L.start.history ≡ places.history)
-        × (L.start.resumed ≡ length kept.recent.entries.items) }
-    requires base { base_of places.history ≡ kept.recent.base }
-    requires limits { L.start.limits ≡ program_limits }
-    requires sound { IsSound program_limits kept.recent.base (reverse kept.recent.entries.items) }
-    ensures many { IfOk result (λ made. length made.1.items ≡ length inputs.items) }
-    ensures reporter { IfOk result (λ made.
-        made.2 ≡ newcomer kept.recent.entries.items (length inputs.items)) }
-{
-    let count = inputs.len() as u8 + 1;
-    let made = Station::<AIRCRAFT, L>::resume(rt, alloc, LIMITS, count, kept.recent, blank, places);
-    let (station, mut seats) = match made {
-        Ok(made) => made,
-        Err(refused) => match refused.fault {
-            ResumeFault::NoMemory => return Err(AllocError),
-            _ => unreachable!(),
-        },
-    };
-    let Some(reporter) = seats.pop() else {
-        unreachable!()
-    };
-    match receivers(alloc, seats, inputs) {
-        Ok(receivers) => Ok((station, receivers, reporter)),
-        Err(_) => {
-            station.end(rt);
-            Err(AllocError)
-        }
-    }
-}
-
-// A receiver of each input, with a seat of its own.
-fn receivers<L: Total>(
-    alloc: Global,
-    seats: Vec<Seat<AIRCRAFT, L>>,
-    inputs: Vec<Input>,
-) -> Result<Vec<Receiver<L>>, NoMemory>
-    requires { length seats.items ≡ length inputs.items }
-    ensures { IfOk result (λ made. length made.items ≡ length inputs.items) }
-{
-    let mut receivers = Vec::new(alloc);
-    for (seat, source) in seats.into_iter().zip(inputs) {
-        receivers.push(Worker {
-            seat,
-            source,
-            answer: None,
-        })?;
-    }
-    Ok(receivers)
-}
-
-// Tells what was counted, and gives the station up.
-fn finish<L: Total, R: Wait, O: Write + Drop, E: Write>(
-    rt: &R,
-    worked: Worked<L, O>,
-    err: &mut StandardError<E>,
-) -> Ran<O>
-    requires { All (λ r. is_some r.answer ≡ true) worked.receivers.items }
-    ensures most { result.status ≤ 1 }
-    ensures last { (asked : Asked) (given : Given) (before : Option (List ℕ)) →
-        length worked.receivers.items ≡ asked.inputs → GoesOnFrom given L.start →
-        Leaves L.start asked.every given.last_tick (newcomer given.entries asked.inputs) worked.reporter
-        before (O.contents worked.written.out) worked.written.has_failed →
-        IsLast asked given before (option_map (λ left. O.contents left) result.out)
-        (told_of E.contents err.old) (told_of E.contents err.new) result.status }
-{
-    let Worked {
-        station,
-        receivers,
-        reporter: _,
-        written: Written { out, has_failed },
-    } = worked;
-    station.end(rt);
-    Ran {
-        status: tell_end(err, &receivers, has_failed),
-        out: Some(out),
-    }
-}
-
-// Tells what was counted, and keeps what is recent, unless a fault was told.
-fn hand_on<L: Total, R: Wait, O: Write + Drop, E: Write>(
-    rt: &R,
-    alloc: Global,
-    worked: Worked<L, O>,
-    err: &mut StandardError<E>,
-) -> Round<O>
-    requires { All (λ r. is_some r.answer ≡ true) worked.receivers.items }
-    ensures { (asked : Asked) (given : Given) (before : Option (List ℕ)) →
-        length worked.receivers.items ≡ asked.inputs → GoesOnFrom given L.start →
-        Leaves L.start asked.every given.last_tick (newcomer given.entries asked.inputs) worked.reporter
-        before (O.contents worked.written.out) worked.written.has_failed →
-        EndsRound O.contents asked given before (told_of E.contents err.old) (told_of E.contents err.new) result }
-{
-    let Worked {
-        station,
-        receivers,
-        reporter,
-        written: Written { out, has_failed },
-    } = worked;
-    let status = tell_end(err, &receivers, has_failed);
-    if status > 0 {
-        station.end(rt);
-        return Round::Over(Ran {
-            status,
-            out: Some(out),
-        });
-    }
-    match keep(rt, alloc, station, receivers, reporter) {
-        Ok(kept) => Round::GoesOn { out, kept },
-        Err(fault) => Round::Over(Ran {
-            status: tell(err, fault),
-            out: Some(out),
-        }),
-    }
-}
-
-// Closes the station, and keeps what is recent of its journal.
-fn keep<L: Total, R: Wait>(
-    rt: &R,
-    alloc: Global,
-    station: Station<AIRCRAFT, L>,
-    receivers: Vec<Receiver<L>>,
-    reporter: Seat<AIRCRAFT, L>,
-) -> Result<Kept, Fault<'static>>
-    ensures kept { IfOk result (λ kept. IsKept L.start reporter (given_of kept)) }
-    ensures between { IfErr result IsBetween }
-{
-    let Ok(seats) = seats_of(alloc, reporter, receivers) else {
-        station.end(rt);
-        return Err(Fault::NoMemory);
-    };
-    match station.close(rt, seats) {
-        Ok(closed) => match Kept::of(alloc, &closed.journal) {
-            Ok(kept) => Ok(kept),
-            Err(_) => Err(Fault::NoMemory),
-        },
-        Err(Missing { station, seats: _ }) => {
-            station.end(rt);
-            Err(Fault::SeatLost)
-        }
-    }
-}
-
-// The reporter's seat, and those of the receivers.
-fn seats_of<L: Total>(
-    alloc: Global,
-    reporter: Seat<AIRCRAFT, L>,
-    receivers: Vec<Receiver<L>>,
-) -> Result<Vec<Seat<AIRCRAFT, L>>, NoMemory>
-    ensures { IfOk result (λ seats. (others : List Seated) × (seats.items ≡ reporter ∷ others)) }
-{
-    let mut seats = Vec::new(alloc);
-    seats.push(reporter)?;
-    for receiver in receivers {
-        let Worker {
-            seat,
-            source: _,
-            answer: _,
-        } = receiver;
-        seats.push(seat)?;
-    }
-    Ok(seats)
 }

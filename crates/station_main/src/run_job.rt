@@ -1,4 +1,4 @@
-// The job `run`: its rounds, one after another.
+//! The job `run`: its rounds, one after another.
 ghost use Rattle.std.specs.Prelude.{◌≡◌, ◌+◌, ◌-◌, ◌≤◌, ◌⊎◌, IfErr, IfOk, length, option_map, reverse};
 ghost use Rattle.station_journal.specs.Resume.{IsSound};
 ghost use Rattle.station_desk.specs.History.{base_of};

@@ -1,4 +1,4 @@
-// When the reporter acts. Moments are milliseconds since the start of the program.
+//! When the reporter acts. Moments are milliseconds since the start of the program.
 ghost use Rattle.std.specs.Prelude.{◌≡◌, ◌-◌, ◌^◌, ◌/◌, ℕ, List, [], ◌∷◌, Option, None, min};
 ghost use Rattle.std.specs.Duration.{as_nanos};
 ghost use Rattle.std.specs.Io.KnownBytes.{Appends};

@@ -1,4 +1,4 @@
-// Standard error, line by line.
+//! Standard error, line by line.
 ghost use Rattle.std.specs.Prelude.{◌≡◌, ◌++◌, ◌∷◌, [], IfSome, false};
 ghost use Rattle.station_main.specs.Telling.{Tells, told_of};
 

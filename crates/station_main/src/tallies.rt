@@ -1,4 +1,4 @@
-// What a round of the job `run` tells at its end.
+//! What a round of the job `run` tells at its end.
 ghost use Rattle.std.specs.Prelude.{◌≡◌, ◌≤◌, ◌++◌, All, fold, is_some, max, true};
 ghost use Rattle.std.specs.List.{flat_map};
 ghost use Rattle.station_main.specs.Status.{answer_status, fault_status, status_of};
@@ -7,11 +7,11 @@ ghost use Rattle.station_main.specs.Telling.{Tells, answer_lines, output_lines, 
 use crate::faults::{Fault, tell, tell_after, write_tally};
 use crate::standard_error::StandardError;
 use crate::threads::Receiver;
-use station_shared::{PumpFault, Tally, Total};
+use station_shared::{PumpFault, StationName, Tally};
 use std::io::Write;
 
 /// Tells what each receiver counted, with a fault directly after it, and at last a fault of writing. Answers the status.
-pub fn tell_end<L: Total, E: Write>(
+pub fn tell_end<L: StationName, E: Write>(
     err: &mut StandardError<E>,
     receivers: &Vec<Receiver<L>>,
     has_failed: bool,
@@ -31,7 +31,10 @@ pub fn tell_end<L: Total, E: Write>(
 }
 
 // Tells what each receiver counted, and a fault directly after it. Answers the status.
-fn tell_answers<L: Total, E: Write>(err: &mut StandardError<E>, receivers: &Vec<Receiver<L>>) -> u8
+fn tell_answers<L: StationName, E: Write>(
+    err: &mut StandardError<E>,
+    receivers: &Vec<Receiver<L>>,
+) -> u8
     requires answered { All (λ r. is_some r.answer ≡ true) receivers.now.items }
     ensures value { result ≡ fold (λ status r. max status (answer_status r.answer)) 0 receivers.now.items }
     ensures most { result ≤ 1 }

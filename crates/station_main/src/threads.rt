@@ -1,4 +1,4 @@
-// The threads of a round of the job `run`, and its last table.
+//! The threads of a round of the job `run`, and its last table.
 ghost use Rattle.std.specs.Prelude.{◌≡◌, All, IfSome, is_some, true};
 ghost use Rattle.station_main.specs.Output.{buffered_of, sink_of};
 ghost use Rattle.station_main.specs.Reporter.{ReportsByAClock};
@@ -9,7 +9,7 @@ use crate::output::{Written, give_up, unbuffered};
 use crate::reporter::{Given, Reported, print_table, report};
 use crate::schedule::Pace;
 use station_report::{Sink, ToWrite};
-use station_shared::{FromRead, Seat, Station, Total, Worker, run_receivers};
+use station_shared::{FromRead, Seat, Station, StationName, Worker, run_receivers};
 use std::fs::File;
 use std::io::{BufReader, BufWriter, Write};
 use std::snapshot::Snapshot;
@@ -29,7 +29,11 @@ type Ended<L, O> = Reported<Seat<AIRCRAFT, L>, Output<O>>;
 
 /// The receivers and the reporter, each in a thread of its own, to their ends. `None` where the reporter's thread can't
 /// be started: then nothing is read.
-pub fn run_threads<L: Total + Send + Sync, R: Threads + Wait + Clock + Sync, S: Sink + Send + Drop>(
+pub fn run_threads<
+    L: StationName + Send + Sync,
+    R: Threads + Wait + Clock + Sync,
+    S: Sink + Send + Drop,
+>(
     rt: &R,
     station: &Station<AIRCRAFT, L>,
     start: Option<Instant>,
@@ -77,7 +81,7 @@ pub fn run_threads<L: Total + Send + Sync, R: Threads + Wait + Clock + Sync, S: 
 }
 
 /// Prints the last table, unless a write failed, and takes the output out of its buffer.
-pub fn print_last<L: Total, O: Write + Drop>(
+pub fn print_last<L: StationName, O: Write + Drop>(
     reported: Ended<L, O>,
 ) -> (Seat<AIRCRAFT, L>, Written<O>)
     ensures { PrintsLast L.start reported.seat result.0 (buffered_of O.contents reported.out) reported.has_failed

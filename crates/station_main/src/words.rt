@@ -1,4 +1,4 @@
-// The words of the command line.
+//! The words of the command line.
 ghost use Rattle.clap.specs.Words.{found_of, rows_of, takes};
 ghost use Rattle.station_main.specs.Command.{GivesJob, IsArg, IsGiven, IsInRange, IsMade, NamesJob, every, path, replay, rounds, run, station};
 ghost use Rattle.station_main.specs.declared.words.WordsFault.TheVariants.{NoMemory};

@@ -1,5 +1,5 @@
-pub mod DegreesLemmas
+pub mod DegreeLemmas
 pub mod LineLemmas
-pub mod Padding
-pub mod RowsLemmas
-pub mod Taken
+pub mod PaddingLemmas
+pub mod RowLemmas
+pub mod TakenLemmas

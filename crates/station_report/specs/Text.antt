@@ -104,6 +104,6 @@ abbrev pub text : List Aircraft → ℕ → List ℕ
 text rows now = first_line now (length rows) ++ header ++ flat_map (row_text now) rows
 
 -- what a row has to be for its line to be written: heard by the moment, with denominators of at least 1
-pub record IsRow (now : ℕ) (a : Aircraft) : Type 0 where
+pub record IsPrintableRow (now : ℕ) (a : Aircraft) : Type 0 where
   pub heard : a.heard ≤ now
   pub whole : IfSome a.position IsWhole

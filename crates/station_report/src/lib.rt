@@ -8,7 +8,7 @@ mod sinks;
 mod to_write;
 
 pub use lines::table;
-pub use sinks::{Failed, Sink, WriteFault};
+pub use sinks::{Failed, Sink, WriteFault, flush_after};
 pub use to_write::ToWrite;
 
 #[cfg(test)]

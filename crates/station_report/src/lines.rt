@@ -3,7 +3,7 @@
 ghost use Rattle.std.specs.Prelude.{◌≡◌, ◌+◌, ◌≤◌, ◌++◌, All, length};
 ghost use Rattle.arrayvec.specs.ArrayVec.{array_vec_len};
 ghost use Rattle.station_report.specs.Sink.{TakesAll};
-ghost use Rattle.station_report.specs.Text.{IsRow, right, left, header, first_line, row_text, text};
+ghost use Rattle.station_report.specs.Text.{IsPrintableRow, right, left, header, first_line, row_text, text};
 
 use crate::columns::{
     address_field, callsign_field, decimal_field, latitude_field, longitude_field, signed_field,
@@ -24,7 +24,7 @@ const HEADER: &[u8] =
 /// Each row is heard at or before that moment, and its position has denominators of at least 1.
 /// Where the sink fails, a front of the table was taken and nothing more is written.
 pub fn table<R: Rows, S: Sink>(rows: &R, now: u64, out: &mut S) -> Result<(), WriteFault>
-    requires rows { All (IsRow now) (R.rows rows.now) }
+    requires rows { All (IsPrintableRow now) (R.rows rows.now) }
     ensures { TakesAll (S.taken out.old) (S.taken out.new) (S.failures out.old) (S.failures out.new)
         (text (R.rows rows.now) now) result }
 {
@@ -51,7 +51,7 @@ fn count_line(now: u64, count: u64) -> Line
 
 #[tactic(auto, unfolding(crate::specs::Text::row_text))]
 fn row_line(now: u64, aircraft: Aircraft) -> Line
-    requires { IsRow now aircraft }
+    requires { IsPrintableRow now aircraft }
     ensures { result.items ≡ row_text now aircraft }
 {
     let mut line = Line::new();

@@ -46,3 +46,18 @@ pub(crate) fn write_all<S: Sink>(out: &mut S, piece: &[u8]) -> Result<(), WriteF
     }
     Ok(())
 }
+
+/// Flushes after a text was written. Where that failed, it does nothing and answers the same fault.
+pub fn flush_after<S: Sink>(written: Result<(), WriteFault>, out: &mut S) -> Result<(), WriteFault>
+    ensures { (before : Option (List ℕ)) (failed : ℕ) (text : List ℕ) →
+        TakesAll before (S.taken out.old) failed (S.failures out.old) text written →
+        TakesAll before (S.taken out.new) failed (S.failures out.new) text result }
+{
+    if let Err(fault) = written {
+        return Err(fault);
+    }
+    match out.flush() {
+        Ok(()) => Ok(()),
+        Err(_) => Err(WriteFault),
+    }
+}

@@ -1,17 +1,16 @@
-//! Tables with known texts, and sinks that fail.
+//! Tables with known texts.
 
-ghost use Rattle.std.specs.Prelude.{◌≡◌, ◌<◌, ◌≤◌, None, Some, IfSome};
+ghost use Rattle.std.specs.Prelude.{◌≡◌, None, IfSome};
 ghost use Rattle.modes_cpr.specs.Pair.{IsWhole};
-ghost use Rattle.station_report.specs.Text.{IsRow};
+ghost use Rattle.station_report.specs.Text.{IsPrintableRow};
 
-use crate::{Failed, Sink, ToWrite, WriteFault, table};
-use arrayvec::ArrayVec;
+mod sinks;
+
+use crate::{ToWrite, table};
 use modes_cpr::{Degrees, Position};
 use modes_fields::Velocity;
 use modes_fields::readers::{callsign, squawk};
 use station_journal::{Aircraft, Rows};
-use std::io;
-use std::io::{ErrorKind, Write};
 use std::test::Fail;
 
 /// A table of one row.
@@ -64,7 +63,7 @@ fn at_latitude(num: i64) -> Aircraft
 
 /// The table of one aircraft, written to a vector.
 fn table_of(rt: &HostRuntime, now: u64, aircraft: Aircraft) -> Result<Vec<u8>, Fail>
-    requires { IsRow now aircraft }
+    requires { IsPrintableRow now aircraft }
 {
     let mut sink = ToWrite::new(Vec::new(rt.alloc()));
     table(&One(aircraft), now, &mut sink)
@@ -81,8 +80,11 @@ fn last_line(text: &[u8]) -> &[u8] {
     }
 }
 
-const KLM1023: &[u8; 165] =
-    b"now 0 aircraft 1\n  ADDR CALLSIGN    ALT SQWK     VELOCITY   VERT        LAT        LON AGE\n4840D6 KLM1023       -    -            -      -          -          -   0\n";
+const KLM1023: &str = concat!(
+    "now 0 aircraft 1\n",
+    "  ADDR CALLSIGN    ALT SQWK     VELOCITY   VERT        LAT        LON AGE\n",
+    "4840D6 KLM1023       -    -            -      -          -          -   0\n",
+);
 
 #[test]
 fn an_identified_aircraft_has_its_callsign(rt: HostRuntime) -> Result<(), Fail> {
@@ -91,7 +93,7 @@ fn an_identified_aircraft_has_its_callsign(rt: HostRuntime) -> Result<(), Fail> 
         ..bare(0x4840D6)
     };
     let text = table_of(&rt, 0, aircraft)?;
-    assert_eq!(rt; text.as_slice(), KLM1023.as_slice());
+    assert_eq!(rt; text.as_slice(), KLM1023.as_bytes());
     Ok(())
 }
 
@@ -100,9 +102,11 @@ fn a_table_without_rows_is_two_lines(rt: HostRuntime) -> Result<(), Fail> {
     let mut sink = ToWrite::new(Vec::new(rt.alloc()));
     let rows = Vec::<Aircraft>::new(rt.alloc());
     assert_eq!(rt; table(&rows, 0, &mut sink), Ok(()));
-    let want =
-        b"now 0 aircraft 0\n  ADDR CALLSIGN    ALT SQWK     VELOCITY   VERT        LAT        LON AGE\n";
-    assert_eq!(rt; sink.into_inner().as_slice(), want.as_slice());
+    let want = concat!(
+        "now 0 aircraft 0\n",
+        "  ADDR CALLSIGN    ALT SQWK     VELOCITY   VERT        LAT        LON AGE\n",
+    );
+    assert_eq!(rt; sink.into_inner().as_slice(), want.as_bytes());
     Ok(())
 }
 
@@ -111,9 +115,13 @@ fn rows_stand_in_the_order_that_they_are_given_in(rt: HostRuntime) -> Result<(),
     let mut sink = ToWrite::new(Vec::new(rt.alloc()));
     let rows = Vec::from_array(rt.alloc(), [bare(0x4840D6), bare(0x485020)])?;
     assert_eq!(rt; table(&rows, 0, &mut sink), Ok(()));
-    let want =
-        b"now 0 aircraft 2\n  ADDR CALLSIGN    ALT SQWK     VELOCITY   VERT        LAT        LON AGE\n4840D6 -             -    -            -      -          -          -   0\n485020 -             -    -            -      -          -          -   0\n";
-    assert_eq!(rt; sink.into_inner().as_slice(), want.as_slice());
+    let want = concat!(
+        "now 0 aircraft 2\n",
+        "  ADDR CALLSIGN    ALT SQWK     VELOCITY   VERT        LAT        LON AGE\n",
+        "4840D6 -             -    -            -      -          -          -   0\n",
+        "485020 -             -    -            -      -          -          -   0\n",
+    );
+    assert_eq!(rt; sink.into_inner().as_slice(), want.as_bytes());
     Ok(())
 }
 
@@ -238,111 +246,11 @@ fn a_wider_content_stands_whole(rt: HostRuntime) -> Result<(), Fail> {
         ..bare(0x4840D6)
     };
     let text = table_of(&rt, 0, aircraft)?;
-    let want =
-        b"now 0 aircraft 1\n  ADDR CALLSIGN    ALT SQWK     VELOCITY   VERT        LAT        LON AGE\n4840D6 -        -1000000    -            -      -          -          -   0\n";
-    assert_eq!(rt; text.as_slice(), want.as_slice());
+    let want = concat!(
+        "now 0 aircraft 1\n",
+        "  ADDR CALLSIGN    ALT SQWK     VELOCITY   VERT        LAT        LON AGE\n",
+        "4840D6 -        -1000000    -            -      -          -          -   0\n",
+    );
+    assert_eq!(rt; text.as_slice(), want.as_bytes());
     Ok(())
-}
-
-/// Takes as many bytes as it has room for, and then fails.
-#[derive(Drop)]
-struct Brief {
-    bytes: ArrayVec<u8, 165>,
-    room: usize,
-    failures: u64,
-}
-
-impl Sink for Brief {
-    ghost taken = { λ s. Some s.bytes.items };
-
-    ghost failures = { λ s. s.failures };
-
-    fn write(&mut self, piece: &[u8]) -> Result<usize, Failed> {
-        let room = self.room.min(self.bytes.remaining_capacity());
-        let count = room.min(piece.len());
-        if count == 0 && !piece.is_empty() {
-            self.failures = self.failures.saturating_add(1);
-            return Err(Failed);
-        }
-        let _fits = self.bytes.try_extend_from_slice(&piece[..count]);
-        self.room -= count;
-        Ok(count)
-    }
-
-    fn flush(&mut self) -> Result<(), Failed> {
-        Ok(())
-    }
-}
-
-#[test]
-fn a_sink_that_fails_has_taken_the_front_of_the_table(rt: HostRuntime) -> Result<(), Fail> {
-    let rows = One(Aircraft {
-        callsign: callsign(0x2CC371C32CE0),
-        ..bare(0x4840D6)
-    });
-    for room in 0..166 {
-        let mut sink = Brief {
-            bytes: ArrayVec::new(),
-            room,
-            failures: 0,
-        };
-        let (outcome, failures) = if room < 165 {
-            (Err(WriteFault), 1)
-        } else {
-            (Ok(()), 0)
-        };
-        assert_eq!(rt; table(&rows, 0, &mut sink), outcome, "at {room}");
-        assert_eq!(rt; sink.bytes.as_slice(), &KLM1023[..room], "at {room}");
-        assert_eq!(rt; sink.failures, failures, "at {room}");
-    }
-    Ok(())
-}
-
-#[test]
-fn a_writer_takes_what_its_sink_is_given(rt: HostRuntime) -> Result<(), Fail> {
-    let mut sink = ToWrite::new(Vec::<u8>::new(rt.alloc()));
-    assert_eq!(rt; sink.write(b"now "), Ok(4));
-    assert_eq!(rt; sink.write(b""), Ok(0));
-    assert_eq!(rt; sink.flush(), Ok(()));
-    assert_eq!(rt; sink.into_inner().as_slice(), b"now ".as_slice());
-    Ok(())
-}
-
-/// Fails at each call.
-#[derive(Drop)]
-struct Broken;
-
-impl Write for Broken {
-    fn write(&mut self, _piece: &[u8]) -> io::Result<usize> {
-        Err(io::Error::from(ErrorKind::BrokenPipe))
-    }
-
-    fn flush(&mut self) -> io::Result<()> {
-        Err(io::Error::from(ErrorKind::BrokenPipe))
-    }
-}
-
-/// Takes nothing.
-#[derive(Drop)]
-struct Full;
-
-impl Write for Full {
-    fn write(&mut self, _piece: &[u8]) -> io::Result<usize> {
-        Ok(0)
-    }
-
-    fn flush(&mut self) -> io::Result<()> {
-        Ok(())
-    }
-}
-
-#[test]
-fn a_writer_that_fails_or_takes_nothing_has_failed(rt: HostRuntime) {
-    let mut broken = ToWrite::new(Broken);
-    assert_eq!(rt; broken.write(b"now "), Err(Failed));
-    assert_eq!(rt; broken.flush(), Err(Failed));
-    let mut full = ToWrite::new(Full);
-    assert_eq!(rt; full.write(b"now "), Err(Failed));
-    assert_eq!(rt; full.write(b""), Ok(0));
-    assert_eq!(rt; full.flush(), Ok(()));
 }

@@ -6,9 +6,9 @@ use Rattle.modes_frame.specs.declared.cutter.Cut.{Cut}
 use Rattle.modes_frame.specs.declared.cutter.Cut.TheVariants.{TooLong}
 use Rattle.modes_frame.specs.declared.line.Line.TheVariants.{Frame, ModeAc, Blank}
 use Rattle.modes_frame.specs.Lines.{pending, ended_cuts}
-use Rattle.station_book.specs.Steps.{sighting_of}
-use Rattle.station_book.specs.declared.steps.Step.{Step}
-use Rattle.station_book.specs.declared.steps.Step.TheVariants.{Heard}
+use Rattle.station_book.specs.Decoded.{sighting_of}
+use Rattle.station_book.specs.declared.decoded_entry.DecodedEntry.{DecodedEntry}
+use Rattle.station_book.specs.declared.decoded_entry.DecodedEntry.TheVariants.{Heard}
 use Rattle.station_journal.specs.declared.refusal.Refusal.{Refusal}
 use Rattle.station_shared.specs.LinesAhead.{told_of, told_all, Tells, TakesFront}
 use Rattle.station_lines.specs.Calls.{heard, frame_in}
@@ -32,7 +32,7 @@ Tells-then x y z cs ds r p q = q ∙ ap (λ l. l ++ told_all ds) p ∙ append_as
 pub Tells-none : (x : List LineAhead) → Tells x [] (Ok tt) x
 Tells-none x = sym (append-nil x)
 
-pub told_frame : (r : Result Command CommandFault) (frame : List ℕ) (s : Step) → Kinds.Frame frame s ≡ told_of r → (r ≡ Ok (Received (Frame frame))) × (s ≡ Heard (sighting_of frame))
+pub told_frame : (r : Result Command CommandFault) (frame : List ℕ) (s : DecodedEntry) → Kinds.Frame frame s ≡ told_of r → (r ≡ Ok (Received (Frame frame))) × (s ≡ Heard (sighting_of frame))
 told_frame (Ok (Tick at)) frame s e = absurd (cc)
 told_frame (Ok Show) frame s e = absurd (cc)
 told_frame (Ok (Received (Frame f))) frame s e = (cc, cc)

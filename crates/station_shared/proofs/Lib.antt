@@ -1,8 +1,8 @@
 pub mod AheadLemmas
-pub mod Alls
-pub mod Beginnings
-pub mod Closing
-pub mod Counts
-pub mod Looking
-pub mod Newcomers
-pub mod SeatRuns
+pub mod AllLemmas
+pub mod BeginningLemmas
+pub mod CloseLemmas
+pub mod CountLemmas
+pub mod LookLemmas
+pub mod NewcomerLemmas
+pub mod SeatRunLemmas

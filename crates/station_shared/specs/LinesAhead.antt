@@ -3,8 +3,8 @@ use Rattle.std.specs.Prelude.{◌≡◌, List, ◌++◌, Result, Ok, Err, OnOk, 
 use Rattle.std.specs.declared.alloc.AllocError.{AllocError}
 use Rattle.modes_frame.specs.declared.cutter.Cut.{Cut}
 use Rattle.modes_frame.specs.declared.line.Line.TheVariants.{Frame, ModeAc, Blank}
-use Rattle.station_book.specs.Steps.{sighting_of}
-use Rattle.station_book.specs.declared.steps.Step.TheVariants.{Heard}
+use Rattle.station_book.specs.Decoded.{sighting_of}
+use Rattle.station_book.specs.declared.decoded_entry.DecodedEntry.TheVariants.{Heard}
 use Rattle.station_lines.specs.Calls.{heard}
 use Rattle.station_shared.specs.declared.lines_ahead.LineAhead.{LineAhead}
 use Rattle.station_shared.specs.declared.lines_ahead.LineAhead.TheVariants as Kinds

@@ -6,7 +6,7 @@ use Rattle.station_journal.specs.declared.refusal.Refusal.{Refusal}
 use Rattle.station_lines.specs.Calls.{frames_of}
 use Rattle.station_lines.specs.Drawing.{Drawn}
 use Rattle.station_desk.specs.History.{Known}
-use Rattle.station_lines.specs.Pump.{PumpsAll, tally_of}
+use Rattle.station_lines.specs.Pump.{PumpsAll, tally_of_pump}
 use Rattle.station_desk.specs.Start.{Start}
 use Rattle.station_shared.specs.Seats.{Seated, Accepted, Refused}
 use Rattle.station_lines.specs.declared.pumping.PumpFault.{PumpFault}
@@ -48,7 +48,7 @@ pub record Fed (old new : Seated) (frames : List (List ℕ)) (answers : List (Re
 pub record Works (start : Start) (old new : Seated) (source_old source_new : Drawn) (turns : ℕ) (result : Result Tally PumpFault) : Type 0 where
   pub pumps : PumpsAll (SeatSteps start) old new source_old source_new turns result
   pub fed : Fed old new (frames_of pumps.lines) pumps.answers
-  pub accepted : new.accepted ≡ old.accepted + (tally_of result).accepted
+  pub accepted : new.accepted ≡ old.accepted + (tally_of_pump result).accepted
 
 -- a worker has answered, as its pump did
 pub record Worked (start : Start) (old new : Seated) (source_old source_new : Drawn) (turns : ℕ) (answer : Option (Result Tally PumpFault)) : Type 0 where

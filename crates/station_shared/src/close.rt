@@ -3,14 +3,14 @@ ghost use Rattle.std.specs.Prelude.{◌≡◌, ◌≤◌, ◌↔◌, IsTrue, eqb
 ghost use Rattle.station_shared.specs.Closing.{EachOnce, Closes, accepted_at, accepted_by};
 ghost use Rattle.station_desk.specs.Start.{log_of};
 
-use crate::gate::Gate;
-use crate::names::Total;
+use crate::locked::Locked;
 use crate::seat::Seat;
 use crate::station::Station;
+use crate::station_name::StationName;
 use arrayvec::ArrayVec;
 use crossbeam_utils::rule::Protocol;
 use left_right::Absorb;
-use station_desk::{Mark, Published, Shown, Unlogged};
+use station_desk::{Mark, PublishRule, PublishedTable, Unlogged};
 use station_journal::Journal;
 use std::sync::Wait;
 
@@ -23,27 +23,27 @@ pub struct Closed {
 }
 
 /// The station and the seats that were given, where they aren't all the seats of the station, each once.
-pub struct Missing<const N: usize, L: Total>
+pub struct Missing<const N: usize, L: StationName>
 where
-    Shown<N>: Absorb<Unlogged, State = ()>,
-    Published: Protocol<Shown<N>, Option<Mark>>,
+    PublishedTable<N>: Absorb<Unlogged, State = ()>,
+    PublishRule: Protocol<PublishedTable<N>, Option<Mark>>,
 {
     pub station: Station<N, L>,
     pub seats: Vec<Seat<N, L>>,
 }
 
-impl<const N: usize, L: Total> Station<N, L> {
+impl<const N: usize, L: StationName> Station<N, L> {
     /// Gives up a station that isn't closed.
     pub fn end<R: Wait>(self, rt: &R) {
         let Station {
-            gate,
+            locked,
             seats: _count,
         } = self;
-        let Gate {
+        let Locked {
             desk,
             total: _,
             rest: _,
-        } = gate.into_inner();
+        } = locked.into_inner();
         desk.end(rt);
     }
 
@@ -69,24 +69,24 @@ impl<const N: usize, L: Total> Station<N, L> {
         }
         let accepted = by_number(seats.as_slice(), self.seats);
         let Station {
-            gate,
+            locked,
             seats: _count,
         } = self;
         Ok(Closed {
-            journal: gate.into_inner().close(rt, seats),
+            journal: locked.into_inner().close(rt, seats),
             accepted,
         })
     }
 }
 
-impl<const N: usize, L: Total> Gate<N, L> {
+impl<const N: usize, L: StationName> Locked<N, L> {
     // Takes the seats in, and hands out the journal.
     fn close<R: Wait>(self, rt: &R, mut seats: Vec<Seat<N, L>>) -> Journal
         requires { EachOnce L.seats seats.items }
         ensures log { result.log ≡ log_of L.start result.log.entries }
         ensures closes { Closes L.start L.seats result.log.entries seats.items }
     {
-        let Gate {
+        let Locked {
             mut desk,
             mut total,
             mut rest,
@@ -103,7 +103,7 @@ impl<const N: usize, L: Total> Gate<N, L> {
 }
 
 // The accepted calls of the seat with this number.
-fn accepted_of<const N: usize, L: Total>(seats: &[Seat<N, L>], number: u8) -> u64
+fn accepted_of<const N: usize, L: StationName>(seats: &[Seat<N, L>], number: u8) -> u64
     ensures { result ≡ accepted_at number seats.now }
 {
     let mut found = 0;
@@ -116,7 +116,7 @@ fn accepted_of<const N: usize, L: Total>(seats: &[Seat<N, L>], number: u8) -> u6
 }
 
 // The accepted calls of the seats with the numbers below `count`.
-fn by_number<const N: usize, L: Total>(seats: &[Seat<N, L>], count: u8) -> ArrayVec<u64, 9>
+fn by_number<const N: usize, L: StationName>(seats: &[Seat<N, L>], count: u8) -> ArrayVec<u64, 9>
     requires { count ≤ 9 }
     ensures { result.items ≡ accepted_by count seats.now }
 {
@@ -128,7 +128,7 @@ fn by_number<const N: usize, L: Total>(seats: &[Seat<N, L>], count: u8) -> Array
 }
 
 // How many seats have this number.
-fn times<const N: usize, L: Total>(seats: &[Seat<N, L>], number: u8) -> usize
+fn times<const N: usize, L: StationName>(seats: &[Seat<N, L>], number: u8) -> usize
     ensures { result ≡ count_by (λ s. eqb number s.number) seats.now }
 {
     let mut found = 0;
@@ -141,7 +141,7 @@ fn times<const N: usize, L: Total>(seats: &[Seat<N, L>], number: u8) -> usize
 }
 
 // Whether the numbers of the seats are those below `count`, each once.
-fn each_once<const N: usize, L: Total>(seats: &[Seat<N, L>], count: u8) -> bool
+fn each_once<const N: usize, L: StationName>(seats: &[Seat<N, L>], count: u8) -> bool
     ensures { IsTrue result ↔ EachOnce count seats.now }
 {
     if seats.len() != usize::from(count) {

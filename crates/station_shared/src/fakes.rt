@@ -1,6 +1,7 @@
 //! Places and vectors for tests.
 ghost use Rattle.std.specs.Prelude.{◌≡◌, ◌<◌, ◌≤◌};
 ghost use Rattle.station_desk.specs.History.{base_of};
+ghost use Rattle.station_desk.specs.Desk.{most_aircraft};
 
 use station_desk::Places;
 use std::alloc::Global;
@@ -10,7 +11,7 @@ use std::sync::Wait;
 /// Places for so many seats, whose clock is at 0. Where they want memory, they are made once more.
 pub fn new_places<const N: usize, R: Wait + Abort>(rt: &R, alloc: Global, seats: u8) -> Places<N>
     requires seats { 0 < seats }
-    requires small { N ≤ 4096 }
+    requires small { N ≤ most_aircraft }
     ensures places { result.places ≡ seats }
     ensures base { base_of result.history ≡ 0 }
 {
@@ -25,7 +26,7 @@ pub fn places_at<const N: usize, R: Wait + Abort>(
     seats: u8,
 ) -> Places<N>
     requires seats { 0 < seats }
-    requires small { N ≤ 4096 }
+    requires small { N ≤ most_aircraft }
     ensures places { result.places ≡ seats }
     ensures base { base_of result.history ≡ base }
 {

@@ -4,19 +4,18 @@
 pub mod close;
 #[cfg(test)]
 mod fakes;
-mod gate;
 mod held_pump;
 mod lines_ahead;
+mod locked;
 pub mod look;
-pub mod names;
 pub mod seat;
 pub mod seat_feed;
 pub mod station;
+pub mod station_name;
 pub mod worker;
 
 pub use close::{Closed, Missing};
 pub use look::Look;
-pub use names::Total;
 pub use seat::{Receipt, Seat};
 pub use seat_feed::{SeatFeed, pump_seat};
 pub use station::Station;
@@ -24,4 +23,5 @@ pub use station_desk::{Desk, DeskFeed, Places, ReplayFault, pump_desk, replay};
 pub use station_lines::{
     Command, CommandFault, Feed, FromRead, PumpFault, Source, Tally, pump, read_command,
 };
+pub use station_name::StationName;
 pub use worker::{Worker, run_receivers};

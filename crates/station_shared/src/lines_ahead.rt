@@ -1,22 +1,22 @@
 //! The lines of one read, before the lock of their station is taken: cut, read, and their frames decoded.
 ghost use Rattle.std.specs.Prelude.{◌≡◌, ℕ, ◌<◌, ◌≤◌, List, [], Ok, length, slice_set, take};
 ghost use Rattle.modes_frame.specs.Lines.{pending};
-ghost use Rattle.station_book.specs.Steps.{sighting_of};
-ghost use Rattle.station_book.specs.declared.steps.Step.TheVariants as Steps;
+ghost use Rattle.station_book.specs.Decoded.{sighting_of};
+ghost use Rattle.station_book.specs.declared.decoded_entry.DecodedEntry.TheVariants as Decoded;
 ghost use Rattle.station_shared.specs.LinesAhead.{Tells, told_of};
 ghost use Rattle.station_lines.specs.Calls.{heard};
 ghost use Rattle.station_lines.specs.Drawing.{TakesBytes};
 ghost use Rattle.station_shared.specs.declared.lines_ahead.LineAhead.TheVariants as Kinds;
 
 use modes_frame::{Cut, Cutter, Frame, Line, LineReader};
-use station_book::Step;
+use station_book::DecodedEntry;
 use station_lines::pumping::read_cut;
 
 /// What a line says to a pump, read before the lock is taken. Its frame is decoded.
 #[derive(Clone, Copy, Debug, Default)]
 pub(crate) enum LineAhead {
     /// A frame, and what it decodes to.
-    Frame(Frame, Step),
+    Frame(Frame, DecodedEntry),
     /// A mode A/C reply or the heartbeat.
     ModeAc,
     /// Blanks alone.
@@ -28,10 +28,10 @@ pub(crate) enum LineAhead {
 
 // A frame, with what it decodes to.
 fn decoded(frame: Frame) -> LineAhead
-    ensures { result ≡ Kinds.Frame frame (Steps.Heard (sighting_of frame)) }
+    ensures { result ≡ Kinds.Frame frame (Decoded.Heard (sighting_of frame)) }
 {
-    let step = Step::heard(&frame);
-    LineAhead::Frame(frame, step)
+    let decoded = DecodedEntry::heard(&frame);
+    LineAhead::Frame(frame, decoded)
 }
 
 /// What a line says, as it was cut.

@@ -3,32 +3,33 @@ ghost use Rattle.std.specs.Prelude.{◌≡◌, ◌≤◌, length};
 ghost use Rattle.station_journal.specs.Table.{find_row};
 ghost use Rattle.station_journal.specs.Log.{IsLegal, clock_of, table_of};
 ghost use Rattle.station_desk.specs.Start.{log_of};
+ghost use Rattle.station_desk.specs.Desk.{most_aircraft};
 
-use crate::names::Total;
 use crate::seat::Seat;
+use crate::station_name::StationName;
 use crossbeam_utils::rule::Protocol;
-use station_desk::{Front, Looking, Mark, Published, Shown};
+use station_desk::{Front, LookingPlace, Mark, PublishRule, PublishedTable};
 use station_journal::{Aircraft, Rows};
 use std::marker::Model;
-use std::sync::ledger::Share;
+use std::sync::ledger::Share as LedgerShare;
 
 /// A seat that looks. The table stays as it is until the look ends by [`Look::done`]. A look that is dropped gives up
 /// its seat.
-pub struct Look<const N: usize, L: Total>
+pub struct Look<const N: usize, L: StationName>
 where
-    Published: Protocol<Shown<N>, Option<Mark>>,
+    PublishRule: Protocol<PublishedTable<N>, Option<Mark>>,
 {
     pub(crate) number: u8,
     pub(crate) accepted: u64,
-    pub(crate) share: Share<L>,
-    pub(crate) looking: Looking<N>,
+    pub(crate) share: LedgerShare<L>,
+    pub(crate) looking: LookingPlace<N>,
     pub(crate) front: Front,
-    pub(crate) ghost small: { N ≤ 4096 },
+    pub(crate) ghost small: { N ≤ most_aircraft },
 }
 
-impl<const N: usize, L: Total> Model for Look<N, L>
+impl<const N: usize, L: StationName> Model for Look<N, L>
 where
-    Published: Protocol<Shown<N>, Option<Mark>>,
+    PublishRule: Protocol<PublishedTable<N>, Option<Mark>>,
 {
     ghost use Rattle.std.specs.Prelude.{◌≡◌, ◌≤◌};
     ghost use Rattle.left_right.specs.Sides.{view as view_of};
@@ -37,7 +38,7 @@ where
     ghost use Rattle.station_desk.specs.History.{base_of};
     ghost use Rattle.station_desk.specs.Start.{log_of};
     ghost use Rattle.station_shared.specs.Seats.{Seated, own, count_of};
-    ghost use Rattle.station_desk.specs.Shown.{IsOf};
+    ghost use Rattle.station_desk.specs.Published.{IsOf};
 
     ghost Value = { Seated };
 
@@ -56,7 +57,7 @@ where
         × IsLegal (log_of L.start s.front.entries) };
 }
 
-impl<const N: usize, L: Total> Look<N, L> {
+impl<const N: usize, L: StationName> Look<N, L> {
     /// The row of the aircraft with this address, if it is live.
     pub fn get(&self, address: u32) -> Option<Aircraft>
         ensures { result ≡ find_row address (table_of (log_of L.start self.now.seen)) }
@@ -101,7 +102,7 @@ impl<const N: usize, L: Total> Look<N, L> {
     }
 }
 
-impl<const N: usize, L: Total> Rows for Look<N, L> {
+impl<const N: usize, L: StationName> Rows for Look<N, L> {
     ghost use Rattle.station_journal.specs.Log.{table_of};
     ghost use Rattle.station_desk.specs.Start.{log_of};
 
@@ -116,9 +117,9 @@ impl<const N: usize, L: Total> Rows for Look<N, L> {
     }
 }
 
-impl<const N: usize, L: Total> Drop for Look<N, L>
+impl<const N: usize, L: StationName> Drop for Look<N, L>
 where
-    Published: Protocol<Shown<N>, Option<Mark>>,
+    PublishRule: Protocol<PublishedTable<N>, Option<Mark>>,
 {
     fn drop(self) {
         let Look {

@@ -4,24 +4,25 @@ ghost use mathlib.Core.List.{IsPrefix};
 ghost use Rattle.station_journal.specs.Log.{IsLegal};
 ghost use Rattle.station_desk.specs.Start.{log_of};
 ghost use Rattle.station_shared.specs.Seats.{Told, Looks, count_of, own};
-ghost use Rattle.station_desk.specs.Shown.{IsOfSheet, sheet_of};
+ghost use Rattle.station_desk.specs.Published.{IsOfSheet, sheet_of};
+ghost use Rattle.station_desk.specs.Desk.{most_aircraft};
 
 use crate::look::Look;
-use crate::names::Total;
+use crate::station_name::StationName;
 use crossbeam_utils::rule::Protocol;
-use station_desk::{Front, Looking, Mark, Place, Published, Sees, Shown};
+use station_desk::{Front, LookingPlace, Mark, PublishRule, PublishedTable, ReaderPlace, Sees};
 use std::marker::{Model, PhantomData};
-use std::sync::ledger::Share;
+use std::sync::ledger::Share as LedgerShare;
 
 /// A promise that an accepted entry stands in the journal of its station. Contracts see the journal up to it, which is
 /// legal.
-pub struct Receipt<L: Total> {
+pub struct Receipt<L: StationName> {
     pub(crate) front: Front,
     // The station that gave it.
     pub(crate) station: PhantomData<L>,
 }
 
-impl<L: Total> Model for Receipt<L> {
+impl<L: StationName> Model for Receipt<L> {
     ghost use Rattle.std.specs.Prelude.{◌≡◌, ◌<◌, length};
     ghost use Rattle.station_journal.specs.Log.{IsLegal};
     ghost use Rattle.station_desk.specs.History.{Known};
@@ -36,7 +37,7 @@ impl<L: Total> Model for Receipt<L> {
         × IsLegal (log_of L.start r.front.entries) };
 }
 
-impl<L: Total> Receipt<L> {
+impl<L: StationName> Receipt<L> {
     pub(crate) fn new(front: Front) -> Receipt<L>
         requires some { 0 < length front.entries }
         requires history { front.name ≡ L.start.history }
@@ -57,7 +58,7 @@ impl<L: Total> Receipt<L> {
     }
 }
 
-impl<L: Total> Drop for Receipt<L> {
+impl<L: StationName> Drop for Receipt<L> {
     fn drop(self) {
         let Receipt {
             front: _,
@@ -68,28 +69,28 @@ impl<L: Total> Drop for Receipt<L> {
 
 /// The right to call, as one of the seats of a station. Contracts see its number, how many of its calls were accepted,
 /// and what it has seen of the journal.
-pub struct Seat<const N: usize, L: Total>
+pub struct Seat<const N: usize, L: StationName>
 where
-    Published: Protocol<Shown<N>, Option<Mark>>,
+    PublishRule: Protocol<PublishedTable<N>, Option<Mark>>,
 {
     pub(crate) number: u8,
     pub(crate) accepted: u64,
-    pub(crate) share: Share<L>,
-    pub(crate) place: Place<N>,
+    pub(crate) share: LedgerShare<L>,
+    pub(crate) place: ReaderPlace<N>,
     pub(crate) front: Front,
-    pub(crate) ghost small: { N ≤ 4096 },
+    pub(crate) ghost small: { N ≤ most_aircraft },
 }
 
-impl<const N: usize, L: Total> Model for Seat<N, L>
+impl<const N: usize, L: StationName> Model for Seat<N, L>
 where
-    Published: Protocol<Shown<N>, Option<Mark>>,
+    PublishRule: Protocol<PublishedTable<N>, Option<Mark>>,
 {
     ghost use Rattle.std.specs.Prelude.{◌≡◌, ◌≤◌};
     ghost use Rattle.left_right.specs.Sides.{view as view_of};
     ghost use Rattle.station_journal.specs.Log.{IsLegal};
     ghost use Rattle.station_desk.specs.Start.{log_of};
     ghost use Rattle.station_shared.specs.Seats.{Seated, count_of, own};
-    ghost use Rattle.station_desk.specs.Shown.{IsOf};
+    ghost use Rattle.station_desk.specs.Published.{IsOf};
 
     ghost Value = { Seated };
 
@@ -108,7 +109,7 @@ where
 }
 
 // Whether the published table lacks entries of this beginning. It lacks none that a place had seen before it was let in.
-fn lacks<const N: usize>(looking: &Looking<N>, known: &Front) -> bool
+fn lacks<const N: usize>(looking: &LookingPlace<N>, known: &Front) -> bool
     ensures fewer { IsTrue result
         ↔ (length looking.now.part.value.front.entries < length known.now.entries) }
     ensures seen { (before : Mark) → IsOfSheet (sheet_of looking.now.part.value) before →
@@ -117,7 +118,7 @@ fn lacks<const N: usize>(looking: &Looking<N>, known: &Front) -> bool
     looking.get().front.count() < known.count()
 }
 
-impl<const N: usize, L: Total> Seat<N, L> {
+impl<const N: usize, L: StationName> Seat<N, L> {
     /// The number of the seat: below the number of seats, and no other seat of the station has it.
     pub fn number(&self) -> u8
         ensures { result ≡ self.now.number }
@@ -189,7 +190,7 @@ impl<const N: usize, L: Total> Seat<N, L> {
     }
 
     // Ends the seat.
-    pub(crate) fn into_parts(self) -> (Share<L>, Front)
+    pub(crate) fn into_parts(self) -> (LedgerShare<L>, Front)
         ensures share { (result.0.parts ≡ 1) × (result.0.amount ≡ self.accepted) }
         ensures front { (result.1.name ≡ L.start.history) × (result.1.entries ≡ self.seen) }
         ensures counted { self.accepted ≤ count_of self.number (own L.start self.seen) }
@@ -205,9 +206,9 @@ impl<const N: usize, L: Total> Seat<N, L> {
     }
 }
 
-impl<const N: usize, L: Total> Drop for Seat<N, L>
+impl<const N: usize, L: StationName> Drop for Seat<N, L>
 where
-    Published: Protocol<Shown<N>, Option<Mark>>,
+    PublishRule: Protocol<PublishedTable<N>, Option<Mark>>,
 {
     fn drop(self) {
         let Seat {

@@ -3,29 +3,29 @@ ghost use Rattle.std.specs.Prelude.{◌≡◌};
 ghost use Rattle.station_lines.specs.Drawing.{drawn_of};
 ghost use Rattle.station_shared.specs.Workers.{Works};
 
-use crate::names::Total;
 use crate::seat::Seat;
 use crate::station::Station;
+use crate::station_name::StationName;
 use crossbeam_utils::rule::Protocol;
 use left_right::Absorb;
 use modes_frame::Frame;
-use station_desk::{Mark, Published, Shown, Unlogged};
+use station_desk::{Mark, PublishRule, PublishedTable, Unlogged};
 use station_journal::Refusal;
 use station_lines::{Feed, PumpFault, Source, Tally, pump};
 use std::sync::Wait;
 
 /// A station, and the lent seat that feeds it.
 #[derive(Drop)]
-pub struct SeatFeed<'a, const N: usize, L: Total>
+pub struct SeatFeed<'a, const N: usize, L: StationName>
 where
-    Shown<N>: Absorb<Unlogged, State = ()>,
-    Published: Protocol<Shown<N>, Option<Mark>>,
+    PublishedTable<N>: Absorb<Unlogged, State = ()>,
+    PublishRule: Protocol<PublishedTable<N>, Option<Mark>>,
 {
     pub station: &'a Station<N, L>,
     pub seat: &'a mut Seat<N, L>,
 }
 
-impl<'a, const N: usize, L: Total> Feed for SeatFeed<'a, N, L> {
+impl<'a, const N: usize, L: StationName> Feed for SeatFeed<'a, N, L> {
     ghost use Rattle.std.specs.Prelude.{◌≡◌};
     ghost use Rattle.station_shared.specs.Workers.{SeatSteps};
 
@@ -41,7 +41,7 @@ impl<'a, const N: usize, L: Total> Feed for SeatFeed<'a, N, L> {
 }
 
 // The pump over the seat that this feed lends.
-fn pump_lent<const N: usize, L: Total, S: Source, R: Wait>(
+fn pump_lent<const N: usize, L: StationName, S: Source, R: Wait>(
     rt: &R,
     feed: &mut SeatFeed<'_, N, L>,
     from: &mut S,
@@ -56,7 +56,7 @@ fn pump_lent<const N: usize, L: Total, S: Source, R: Wait>(
 }
 
 /// Feeds the frames of a source's lines to a station through a seat: [`pump`] over a [`SeatFeed`].
-pub fn pump_seat<const N: usize, L: Total, S: Source, R: Wait>(
+pub fn pump_seat<const N: usize, L: StationName, S: Source, R: Wait>(
     rt: &R,
     station: &Station<N, L>,
     seat: &mut Seat<N, L>,

@@ -7,11 +7,11 @@ ghost use Rattle.station_shared.specs.Workers.{Worked};
 mod tests;
 
 use crate::held_pump::pump_held;
-use crate::names::Total;
 use crate::seat::Seat;
 use crate::station::Station;
+use crate::station_name::StationName;
 use crossbeam_utils::rule::Protocol;
-use station_desk::{Mark, Published, Shown};
+use station_desk::{Mark, PublishRule, PublishedTable};
 use station_lines::{PumpFault, Source, Tally};
 use std::sync::Wait;
 use std::thread;
@@ -19,9 +19,9 @@ use std::thread::Threads;
 
 /// A seat, the source of the lines that it hands in, and what its pump answered, once there was one.
 #[derive(Drop)]
-pub struct Worker<const N: usize, S: Source, L: Total>
+pub struct Worker<const N: usize, S: Source, L: StationName>
 where
-    Published: Protocol<Shown<N>, Option<Mark>>,
+    PublishRule: Protocol<PublishedTable<N>, Option<Mark>>,
 {
     pub seat: Seat<N, L>,
     pub source: S,
@@ -29,7 +29,7 @@ where
 }
 
 // Pumps the one worker of a piece.
-fn run_part<const N: usize, S: Source, L: Total, R: Wait>(
+fn run_part<const N: usize, S: Source, L: StationName, R: Wait>(
     rt: &R,
     station: &Station<N, L>,
     part: &mut [Worker<N, S, L>],
@@ -55,7 +55,7 @@ fn run_part<const N: usize, S: Source, L: Total, R: Wait>(
 pub fn run_receivers<
     const N: usize,
     S: Source + Send,
-    L: Total + Send + Sync,
+    L: StationName + Send + Sync,
     R: Threads + Wait + Sync,
 >(rt: &R, station: &Station<N, L>, workers: &mut [Worker<N, S, L>], turns: u32)
     ensures { (i : ℕ) (d : _) → i < length workers.old →

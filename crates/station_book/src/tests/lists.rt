@@ -2,7 +2,7 @@
 
 use crate::tests::Call::{Hear, Tick};
 use crate::tests::{ALL_CALL, EVEN, KLM1023, SHORT_AIR, entry};
-use crate::{Book, Step};
+use crate::{Book, DecodedEntry};
 use station_journal::{Refusal, Rows};
 use std::test::Fail;
 
@@ -20,7 +20,7 @@ fn what_does_not_fit_leaves_a_book_as_it_was(rt: HostRuntime) -> Result<(), Fail
         let entry = entry(call)?;
         assert!(rt; !book.fits(&entry));
         book.offer(&entry);
-        book.offer_step(&Step::of(&entry));
+        book.offer_decoded(&DecodedEntry::of(&entry));
     }
     assert_eq!(rt; book.entries(), 0);
     assert_eq!(rt; book.now(), 7);
@@ -33,7 +33,7 @@ fn an_overlaid_frame_fits_whoever_is_live(rt: HostRuntime) -> Result<(), Fail> {
     let mut book = Book::<1>::new();
     let reply = entry(Hear(SHORT_AIR))?;
     assert_eq!(rt;
-        book.verdict_of(&Step::of(&reply)),
+        book.verdict_of(&DecodedEntry::of(&reply)),
         Err(Refusal::Unknown(0x4840D6))
     );
     assert!(rt; book.fits(&reply));

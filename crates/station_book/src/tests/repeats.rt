@@ -2,7 +2,7 @@
 
 use crate::tests::Call::{Hear, Tick};
 use crate::tests::{KLM1023, SHORT_AIR, answer, entry, frame, same_verdict};
-use crate::{Book, Step};
+use crate::{Book, DecodedEntry};
 use modes_frame::remainder;
 use station_journal::{Entry, Journal, Limits, Refusal};
 use std::process::Abort;
@@ -72,14 +72,14 @@ fn each_frame_is_repeated_as_soon_as_it_is_kept(rt: HostRuntime) -> Result<(), F
     book.offer(&entry(Hear(KLM1023))?);
     for last in 0..=255 {
         let new = reply(last)?;
-        assert_eq!(rt; book.verdict_of(&Step::of(&new)), Ok(()));
+        assert_eq!(rt; book.verdict_of(&DecodedEntry::of(&new)), Ok(()));
         book.offer(&new);
         let told = if last == 255 {
             Ok(())
         } else {
             Err(Refusal::Repeated)
         };
-        assert_eq!(rt; book.verdict_of(&Step::of(&new)), told);
+        assert_eq!(rt; book.verdict_of(&DecodedEntry::of(&new)), told);
     }
     Ok(())
 }
@@ -115,7 +115,7 @@ fn frames_with_the_same_last_bits_are_told_apart(rt: HostRuntime) -> Result<(), 
 fn give_change(shown: &mut Book<4>, spare: &mut Book<4>, entry: &Entry) {
     let before = shown.entries();
     shown.offer(entry);
-    if let Some(change) = Step::of(entry).change() {
+    if let Some(change) = DecodedEntry::of(entry).change() {
         if shown.entries() > before {
             spare.catch_up(shown, change);
         }
@@ -130,13 +130,13 @@ fn a_second_copy_refuses_the_same(rt: HostRuntime) -> Result<(), Fail> {
     for last in 0..=255 {
         let heard = reply(last)?;
         give_change(&mut shown, &mut spare, &heard);
-        let told = shown.verdict_of(&Step::of(&heard));
+        let told = shown.verdict_of(&DecodedEntry::of(&heard));
         assert_eq!(rt; told.is_err(), last < 255);
-        assert_eq!(rt; spare.verdict_of(&Step::of(&heard)), told);
+        assert_eq!(rt; spare.verdict_of(&DecodedEntry::of(&heard)), told);
     }
     give_change(&mut shown, &mut spare, &entry(Tick(1))?);
     for heard in [entry(Hear(KLM1023))?, reply(7)?] {
-        assert_eq!(rt; spare.verdict_of(&Step::of(&heard)), Ok(()));
+        assert_eq!(rt; spare.verdict_of(&DecodedEntry::of(&heard)), Ok(()));
     }
     Ok(())
 }

@@ -1,4 +1,4 @@
-// Outputs that fail once, that wait, and that tell how they are written.
+//! Outputs that fail once, that wait, and that tell how they are written.
 use super::staged::{Staged, becomes_set, end_path, lasting_path};
 use super::{NO_LINES, TABLE_OF_NOBODY, text};
 use crate::program::program;

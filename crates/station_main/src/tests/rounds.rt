@@ -1,4 +1,4 @@
-// The job `run` in more rounds than one.
+//! The job `run` in more rounds than one.
 use super::run::{
     IDENTIFICATION, NO_THREAD, ONE_FRAME_EACH, TABLE_OF_BOTH, TABLE_OF_SECOND, VELOCITY, path_text,
     remove, shown_where_refused, two_files,

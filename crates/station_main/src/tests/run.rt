@@ -1,4 +1,4 @@
-// The job `run`, over files.
+//! The job `run`, over files.
 use super::{Closed, NO_MEMORY, Ran, run_words, text};
 use crate::program::program;
 use std::alloc::AllocError;

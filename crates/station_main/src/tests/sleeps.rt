@@ -1,4 +1,4 @@
-// How long the reporter sleeps, and what it does at a moment.
+//! How long the reporter sleeps, and what it does at a moment.
 use super::NO_LINES;
 use super::staged::{Staged, end_path, lasting_path};
 use crate::program::program;

@@ -1,4 +1,4 @@
-// What tests of `run` stand on: a clock that shows the moments of a test, a path that lasts, and a wait with a bound.
+//! What tests of `run` stand on: a clock that shows the moments of a test, a path that lasts, and a wait with a bound.
 use std::alloc::{Allocator, Global};
 use std::array;
 use std::fs::{File, Metadata, OpenOptions};

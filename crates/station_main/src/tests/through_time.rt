@@ -1,4 +1,4 @@
-// The job `run` while its paths last.
+//! The job `run` while its paths last.
 use super::staged::{Staged, becomes_set, end_path, lasting_path};
 use super::{NO_LINES, text};
 use crate::program::program;

@@ -3,11 +3,12 @@ ghost use Rattle.std.specs.Prelude.{◌≡◌};
 ghost use Rattle.station_desk.specs.History.{base_of};
 
 mod refused;
+mod torn;
 
 use crate::fakes::{new_places, room_for};
-use crate::names::Total;
 use crate::seat::Seat;
 use crate::station::Station;
+use crate::station_name::StationName;
 use crate::worker::{Worker, run_receivers};
 use station_desk::Places;
 use station_journal::Limits;
@@ -63,7 +64,7 @@ trait Watch: Sized {
 }
 
 // Looks by a seat that is told of nothing, until 485020 is live, at most 10,000,000 times.
-impl<L: Total> Watch for Seat<8, L> {
+impl<L: StationName> Watch for Seat<8, L> {
     fn watch(self) -> (Self, bool) {
         let mut seat = self;
         for _ in 0..10_000_000 {
@@ -78,7 +79,7 @@ impl<L: Total> Watch for Seat<8, L> {
     }
 }
 
-fn look_for<L: Total>(seat: Seat<8, L>, address: u32) -> (Seat<8, L>, bool) {
+fn look_for<L: StationName>(seat: Seat<8, L>, address: u32) -> (Seat<8, L>, bool) {
     match seat.look() {
         Ok(look) => {
             let is_live = look.get(address).is_some();
@@ -99,22 +100,6 @@ struct Meeting<'a, W> {
 impl<'a, W: Watch + Drop> Read for Meeting<'a, W> {
     fn read(&mut self, buffer: &mut [u8]) -> io::Result<usize> {
         if self.rest.is_empty() && !have_met(self.watcher, self.word) {
-            return Err(io::Error::from(ErrorKind::BrokenPipe));
-        }
-        self.rest.read(buffer)
-    }
-}
-
-/// Gives its bytes, and then fails or tells the end.
-#[derive(Drop)]
-struct Torn {
-    rest: &'static [u8],
-    fails: bool,
-}
-
-impl Read for Torn {
-    fn read(&mut self, buffer: &mut [u8]) -> io::Result<usize> {
-        if self.rest.is_empty() && self.fails {
             return Err(io::Error::from(ErrorKind::BrokenPipe));
         }
         self.rest.read(buffer)
@@ -145,7 +130,10 @@ fn becomes_set(word: &AtomicU64) -> bool {
     false
 }
 
-fn worker<const N: usize, S: Source, L: Total>(seat: Seat<N, L>, source: S) -> Worker<N, S, L> {
+fn worker<const N: usize, S: Source, L: StationName>(
+    seat: Seat<N, L>,
+    source: S,
+) -> Worker<N, S, L> {
     Worker {
         seat,
         source,
@@ -153,7 +141,7 @@ fn worker<const N: usize, S: Source, L: Total>(seat: Seat<N, L>, source: S) -> W
     }
 }
 
-fn run_both<W: Watch + Send + Drop, L: Total + Send + Sync, R: Threads + Wait + Sync>(
+fn run_both<W: Watch + Send + Drop, L: StationName + Send + Sync, R: Threads + Wait + Sync>(
     rt: &R,
     station: &Station<8, L>,
     workers: &mut [Worker<8, FromRead<Meeting<'_, W>>, L>],
@@ -163,7 +151,7 @@ fn run_both<W: Watch + Send + Drop, L: Total + Send + Sync, R: Threads + Wait + 
 
 // Whether the worker ended its source. Else it wanted memory at its frame, or it met nobody, since the other wanted
 // memory or had to wait for a thread. Its seat was accepted as often as the tally counts.
-fn has_ended<S: Source, L: Total>(rt: &impl Abort, worker: &Worker<8, S, L>) -> bool {
+fn has_ended<S: Source, L: StationName>(rt: &impl Abort, worker: &Worker<8, S, L>) -> bool {
     let (counted, has_ended) = match worker.answer {
         Some(Ok(counted)) => (counted, true),
         Some(Err(PumpFault::Read(counted))) => (counted, false),
@@ -178,7 +166,7 @@ fn has_ended<S: Source, L: Total>(rt: &impl Abort, worker: &Worker<8, S, L>) -> 
 }
 
 // Closes the station with all its seats. What is published and the journal hold what was accepted, so many entries.
-fn close_all<const N: usize, L: Total, R: Wait + Abort>(
+fn close_all<const N: usize, L: StationName, R: Wait + Abort>(
     rt: &R,
     station: Station<N, L>,
     mut seats: Vec<Seat<N, L>>,
@@ -203,7 +191,7 @@ fn close_all<const N: usize, L: Total, R: Wait + Abort>(
 }
 
 // Takes the seats back from the workers. Tells whether both ended their sources.
-fn have_ended<W: Watch + Drop, L: Total>(
+fn have_ended<W: Watch + Drop, L: StationName>(
     rt: &impl Abort,
     seats: &mut Vec<Seat<8, L>>,
     workers: Vec<Worker<8, FromRead<Meeting<'_, W>>, L>>,
@@ -221,7 +209,7 @@ fn have_ended<W: Watch + Drop, L: Total>(
 
 // Two receivers, of which each ends its source once the other's aircraft is live. The first's source looks, by the
 // third seat. False where something was refused.
-fn is_meeting<L: Total + Send + Sync, R: Threads + Wait + Abort + Sync>(
+fn is_meeting<L: StationName + Send + Sync, R: Threads + Wait + Abort + Sync>(
     rt: &R,
     alloc: Global,
     blank: Blank,
@@ -275,43 +263,4 @@ fn receivers_are_seen_while_both_still_read(rt: HostRuntime) {
         let have_met = is_meeting::<Brand, _>(&rt, rt.alloc(), Blank::new(3), places);
         assert!(rt; have_met);
     }
-}
-
-fn one_that_fails<L: Total + Send + Sync, R: Threads + Wait + Abort + Sync>(
-    rt: &R,
-    alloc: Global,
-    blank: Blank,
-    places: Places<8>,
-) -> Result<(), Fail>
-    requires ledger { (blank.name ≡ L.name) × (blank.parts ≡ L.parts) }
-    requires seats { (L.parts ≡ 2) × (L.seats ≡ 2) × (places.places ≡ 2) }
-    requires start { (L.start.history ≡ places.history) × (L.start.resumed ≡ 0) }
-    requires base { base_of places.history ≡ 0 }
-    requires limits { L.start.limits ≡ record { entries = 16; aircraft = 8 } }
-{
-    let (station, mut seats) = Station::<8, L>::new(rt, alloc, LIMITS, 2, blank, places)?;
-    let mut workers = Vec::new(alloc);
-    run_receivers(rt, &station, workers.as_mut_slice(), 9);
-    assert_eq!(rt; workers.len(), 0);
-    for (rest, fails) in [(IDENTIFICATION, true), (VELOCITY, false)] {
-        let seat = seats.pop().expect(rt, "a seat of a receiver");
-        let source = FromRead::new(Torn { rest, fails });
-        let pushed = workers.push(worker(seat, source)).is_ok();
-        assert!(rt; pushed);
-    }
-    run_receivers(rt, &station, workers.as_mut_slice(), 9);
-    assert_eq!(rt; workers.len(), 2);
-    let mut wanted = Some(Err(PumpFault::Read(ONE_LINE)));
-    for worker in &workers {
-        assert_eq!(rt; worker.answer, wanted);
-        wanted = Some(Ok(ONE_LINE));
-    }
-    station.end(rt);
-    Ok(())
-}
-
-#[test]
-fn failed_receiver_leaves_the_others(rt: HostRuntime) -> Result<(), Fail> {
-    let places = Places::<8>::new(&rt, rt.alloc(), 0, 2)?;
-    one_that_fails::<Brand, _>(&rt, rt.alloc(), Blank::new(2), places)
 }

@@ -1,4 +1,4 @@
-use Rattle.modes_cpr.proofs.ZoneCounts.{zone_count-counts, zone_count-decided}
+use Rattle.modes_cpr.proofs.ZoneCountLemmas.{zone_count-counts, zone_count-decided}
 use Rattle.modes_cpr.proofs.laws.zones_by_latitude.Goals as goal
 
 pub returns-clause-counts : goal.returns-clause-counts

@@ -3,7 +3,7 @@ use Rattle.std.specs.Prelude.{nat_le, ◌==◌, count_by}
 use Rattle.std.proofs.lemmas.Int.{to_z-of_z}
 use Rattle.modes_cpr.specs.declared.transitions.TheConstants.{TRANSITIONS}
 use Rattle.modes_cpr.specs.Zones.{zone_count, transitions}
-use Rattle.modes_cpr.proofs.Rising.{rising}
+use Rattle.modes_cpr.proofs.RisingLemmas.{rising}
 use Rattle.modes_cpr.proofs.transitions.has_zones.Goals as goal
 
 -- the checker computes that the table rises

@@ -2,7 +2,7 @@ use Rattle.std.proofs.Common.{◌+◌, ◌-◌, ◌*◌, ◌≤◌, length, get_
 use Rattle.std.specs.Prelude.{nat_le, count_by}
 use Rattle.std.proofs.lemmas.Bool.{eq-eqb, ne_eqb}
 use Rattle.std.proofs.lemmas.List.Sums.{count_by-le-length}
-use Rattle.modes_cpr.proofs.Rising.{count_from_entry, count_past_entry, decides_equal}
+use Rattle.modes_cpr.proofs.RisingLemmas.{count_from_entry, count_past_entry, decides_equal}
 use Rattle.modes_cpr.proofs.transitions.is_count_from.Goals as goal
 use Rattle.modes_cpr.proofs.transitions.is_count_from.Goals.{else-place-gt0-via-then-place-gt0+else-table-place, else-place-gt0-via-else-place-gt0}
 

@@ -1,5 +1,5 @@
 use Rattle.std.proofs.Common.{arith}
-use Rattle.modes_frame.proofs.DigitsLemmas.{bad_digit, never}
+use Rattle.modes_frame.proofs.DigitLemmas.{bad_digit, never}
 use Rattle.modes_frame.proofs.digits.decode_digits.Goals as goal
 
 pub overflow_cast-result : goal.overflow_cast-result

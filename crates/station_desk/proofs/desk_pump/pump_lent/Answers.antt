@@ -1,5 +1,5 @@
 use Rattle.station_desk.specs.declared.desk_feed.DeskFeed.{DeskFeed}
-use Rattle.station_desk.proofs.Sequences.{PumpsDesk-all, pump_keeps}
+use Rattle.station_desk.proofs.CallLemmas.{PumpsDesk-all, pump_keeps}
 use Rattle.station_desk.proofs.desk_pump.pump_lent.Goals as goal
 
 pub returns : goal.returns

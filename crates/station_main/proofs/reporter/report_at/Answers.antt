@@ -13,7 +13,7 @@ loop-preserved-in-Sleep g c = one_more_sleep _ _ _ _ c.now.result _ _ _ _ _ _ _ 
 pub loop-preserved : goal.loop-preserved
 loop-preserved g c =
     let S = g.S.Sink in
-    let station = g.L.Total.start in
+    let station = g.L.StationName.start in
     let given = g.M.Moments.given in
     let now = c.now.result in
     let start = sink_of S.taken S.failures c.args.out in
@@ -22,7 +22,7 @@ loop-preserved g c =
     let so_far = subst (ReportsTo station c.args.pace.every c.args.pace.last c.loop.due (given c.args.moments.now) (given c.loop.moments) c.args.seat c.loop.seat start before) c.if-has_failed.false c.loop.invariant in
     let accepted = rw c.in-Print.ensures.1 at c.tick.ensures.accepted in
     let refused = rw c.in-Print.ensures.1 at c.tick.ensures.refused in
-    let ticks = ticks_of station c.loop.seat c.tick.new.seat now (λ k. k.name) g.L.Total.start.history c.tick.result accepted refused in
+    let ticks = ticks_of station c.loop.seat c.tick.new.seat now (λ k. k.name) g.L.StationName.start.history c.tick.result accepted refused in
     rw (c.is_err-has_failed.ensures.value, c.in-Print.ensures.2)
     (one_more_showing station c.args.pace.every c.args.pace.last c.loop.due now (given c.args.moments.now) (given c.loop.moments) (given c.now.new.self) c.args.seat c.loop.seat c.tick.new.seat c.print_table-shown.result.0 start before after
     c.print_table-shown.result.1 so_far c.now.ensures c.in-Print.ensures.0 ticks c.print_table-shown.ensures)

@@ -3,8 +3,8 @@ use Rattle.station_main.specs.Limits.{program_limits}
 use Rattle.station_main.proofs.run_job.last_round.Given as goal
 
 -- a station with a seat for each input and one for the reporter, under the limits of the program, that goes on from the plan's entries
-abbrev pub ghosts-run_last-L-Total : goal.ghosts-run_last-L-Total
-ghosts-run_last-L-Total g a = record {
+abbrev pub ghosts-run_last-L-StationName : goal.ghosts-run_last-L-StationName
+ghosts-run_last-L-StationName g a = record {
   seats = length a.plan.inputs.items + 1;
   start = record { history = a.places.history; limits = program_limits; resumed = length a.plan.kept.recent.entries.items };
 }

@@ -5,7 +5,7 @@ use Rattle.clap.specs.Words.{found_of, one_text}
 use Rattle.clap.proofs.WalkLemmas.{one_text-rows, raw_values-rows}
 use Rattle.station_main.specs.Command.{number}
 use Rattle.station_main.proofs.RunLemmas.{none_some, some_same}
-use Rattle.station_main.proofs.WordsLemmas.{reads_number, same_length}
+use Rattle.station_main.proofs.WordLemmas.{reads_number, same_length}
 use Rattle.station_main.proofs.words.read_run.Goals as goal
 
 pub unreachable-requires : goal.unreachable-requires

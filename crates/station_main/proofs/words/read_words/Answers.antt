@@ -5,7 +5,7 @@ use Rattle.clap.specs.Words.{Row, Text, found_of, is_simple, rows_of, subcommand
 use Rattle.station_main.specs.Command.{station}
 use Rattle.station_main.proofs.JobLemmas.{names_job}
 use Rattle.station_main.proofs.RunLemmas.{none_some, run_given, some_same}
-use Rattle.station_main.proofs.WordsLemmas.{is_free-station, is_simple-station, known_rows, name_of_rows, names_replay, names_run}
+use Rattle.station_main.proofs.WordLemmas.{is_free-station, is_simple-station, known_rows, name_of_rows, names_replay, names_run}
 use Rattle.station_main.proofs.words.read_words.Goals as goal
 
 pub returns-in_err-matches-clause-taken : goal.returns-in_err-matches-clause-taken

@@ -1,7 +1,7 @@
 use Rattle.std.proofs.Common.{◌≡◌, unsigned_abs, rules}
 use Rattle.std.specs.Int.{is_negative}
 use Rattle.station_report.specs.Text.{degrees_text}
-use Rattle.station_report.proofs.DegreesLemmas.{whole_is, part_is}
+use Rattle.station_report.proofs.DegreeLemmas.{whole_is, part_is}
 use Rattle.station_report.proofs.columns.push_degrees.Goals as goal
 
 pub returns : goal.returns

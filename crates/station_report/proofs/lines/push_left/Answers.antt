@@ -1,5 +1,5 @@
 use Rattle.std.proofs.Common.{◌++◌, ◌∙◌, ap, length, arith}
-use Rattle.station_report.proofs.Padding.{OnOk-at, left_of, length_left}
+use Rattle.station_report.proofs.PaddingLemmas.{OnOk-at, left_of, length_left}
 use Rattle.station_report.proofs.lines.push_left.Goals as goal
 
 pub returns-clause-items : goal.returns-clause-items

@@ -1,5 +1,5 @@
 use Rattle.std.proofs.Common.{◌++◌, ◌∙◌, ap, length, arith}
-use Rattle.station_report.proofs.Padding.{OnOk-at, right_of, length_right, length_spaced}
+use Rattle.station_report.proofs.PaddingLemmas.{OnOk-at, right_of, length_right, length_spaced}
 use Rattle.station_report.proofs.lines.push_right.Goals as goal
 
 pub returns-clause-items : goal.returns-clause-items

@@ -1,9 +1,9 @@
 use Rattle.std.proofs.Common.{◌+◌, drop, [], ◌++◌, sym, refl, ap, ◌∙◌, length, take, append_assoc, append-nil}
 use Rattle.std.specs.List.{flat_map}
 use Rattle.std.proofs.KnownBytes.{Appends-nil}
-use Rattle.station_report.specs.Text.{IsRow, first_line, header, row_text}
-use Rattle.station_report.proofs.RowsLemmas.{one_more, and_the_rest, All_at}
-use Rattle.station_report.proofs.Taken.{TakesAll-then, TakesAll-fails}
+use Rattle.station_report.specs.Text.{IsPrintableRow, first_line, header, row_text}
+use Rattle.station_report.proofs.RowLemmas.{one_more, and_the_rest, All_at}
+use Rattle.station_report.proofs.TakenLemmas.{TakesAll-then, TakesAll-fails}
 use Rattle.station_report.proofs.lines.table.Goals as goal
 
 pub returns-in_err-write_all : goal.returns-in_err-write_all
@@ -35,7 +35,7 @@ loop-i-init g c =
     }
 
 pub row_line-requires : goal.row_line-requires
-row_line-requires g c = All_at (IsRow c.args.now) _ c.loop-i.i c.row.result c.requires.rows c.row.ensures
+row_line-requires g c = All_at (IsPrintableRow c.args.now) _ c.loop-i.i c.row.result c.requires.rows c.row.ensures
 
 pub returns-in_err-write_all-3 : goal.returns-in_err-write_all-3
 returns-in_err-write_all-3 g c =

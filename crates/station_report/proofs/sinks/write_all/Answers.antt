@@ -1,5 +1,5 @@
 use Rattle.std.proofs.Common.{rules, arith}
-use Rattle.station_report.proofs.Taken.{Appends-more, AppendsFront-taken}
+use Rattle.station_report.proofs.TakenLemmas.{Appends-more, AppendsFront-taken}
 use Rattle.station_report.proofs.sinks.write_all.Goals as goal
 
 pub loop-at-preserved : goal.loop-at-preserved

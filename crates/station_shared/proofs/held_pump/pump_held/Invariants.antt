@@ -12,7 +12,7 @@ invariant-loop-turn g l =
     record {
       room : l.tally.lines ≤ 512 * l._turn;
       size : length l.ahead ≡ 32;
-      so_far : GivenSoFar (Pumps (SeatSteps g.L.Total.start)) (S.left l.fn.from) (S.left l.from) l.cutter (record { feed = l.fn.seat; tally = l.initial.tally })
+      so_far : GivenSoFar (Pumps (SeatSteps g.L.StationName.start)) (S.left l.fn.from) (S.left l.from) l.cutter (record { feed = l.fn.seat; tally = l.initial.tally })
           (record { feed = l.seat; tally = l.tally });
       reads : S.reads l.from ≡ counted_up l._turn (S.reads l.fn.from);
       ends : S.ends l.from ≡ S.ends l.fn.from;

@@ -28,7 +28,7 @@ pub returns-in_err-take_told-clause-taken : goal.returns-in_err-take_told-clause
 returns-in_err-take_told-clause-taken g c lines h =
     let i = c.loop-told.told-index in
     let line = get_or lines i TooLong in
-    let gives = SeatSteps g.L.Total.start in
+    let gives = SeatSteps g.L.StationName.start in
     let pumps = c.in_err-take_told.ensures line (told_line c.args.ahead.now lines i c.told-item.result h c.loop-told-test.true c.told-item.is) in
     let exit = err_from_is_err_and c.from_residual.result c.from_residual.ensures.1 in
     rw (exit.1, exit.2) (record {
@@ -42,7 +42,7 @@ returns-in_err-take_told-clause-taken g c lines h =
 pub loop-told-preserved : goal.loop-told-preserved
 loop-told-preserved g c =
     let i = c.loop-told.told-index in
-    let gives = SeatSteps g.L.Total.start in
+    let gives = SeatSteps g.L.StationName.start in
     let known = c.requires.known.0 in
     let one = c.in_ok-take_told.ensures (get_or known i TooLong) (told_line c.args.ahead.now known i c.told-item.result c.requires.known.1 c.loop-told-test.true c.told-item.is) in
     record {
@@ -65,5 +65,5 @@ returns-clause-taken g c lines h =
       left_out = [];
       parts = sym (append-nil lines);
       all_taken = refl;
-      took = subst (λ (ls : List Cut). Pumps (SeatSteps g.L.Total.start) (record { feed = c.args.seat.now; tally = c.args.tally.now }) ls (Ok tt) (record { feed = c.loop-told.seat; tally = c.loop-told.tally })) whole (c.loop-told.invariant.taken lines h);
+      took = subst (λ (ls : List Cut). Pumps (SeatSteps g.L.StationName.start) (record { feed = c.args.seat.now; tally = c.args.tally.now }) ls (Ok tt) (record { feed = c.loop-told.seat; tally = c.loop-told.tally })) whole (c.loop-told.invariant.taken lines h);
     }

@@ -11,5 +11,5 @@ invariant-loop-told g l =
     record {
       room : l.tally.lines ≡ l.fn.tally.lines + l.told-index;
       taken : (lines : List Cut) → l.ahead ≡ told_all lines →
-          Pumps (SeatSteps g.L.Total.start) (record { feed = l.fn.seat; tally = l.fn.tally }) (take l.told-index lines) (Ok tt) (record { feed = l.seat; tally = l.tally });
+          Pumps (SeatSteps g.L.StationName.start) (record { feed = l.fn.seat; tally = l.fn.tally }) (take l.told-index lines) (Ok tt) (record { feed = l.seat; tally = l.tally });
     }

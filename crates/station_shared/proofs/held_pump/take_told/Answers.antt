@@ -7,9 +7,9 @@ use Rattle.station_shared.proofs.held_pump.take_told.Goals as goal
 
 pub returns-in-Frame : goal.returns-in-Frame
 returns-in-Frame g c line h =
-    let known = told_frame (heard line) c.in-Frame.frame c.in-Frame.step (sym c.in-Frame.is ∙ h) in
-    Pumps-frame (SeatSteps g.L.Total.start) line c.in-Frame.frame _ _ _ _ _ c.take_frame.ensures known.0
+    let known = told_frame (heard line) c.in-Frame.frame c.in-Frame.decoded (sym c.in-Frame.is ∙ h) in
+    Pumps-frame (SeatSteps g.L.StationName.start) line c.in-Frame.frame _ _ _ _ _ c.take_frame.ensures known.0
 
 pub returns-in-Fault : goal.returns-in-Fault
 returns-in-Fault g c line h =
-    Pumps-quiet (SeatSteps g.L.Total.start) _ line _ _ (told_fault (heard line) (sym c.in-Fault.is ∙ h)) refl refl refl refl refl refl refl
+    Pumps-quiet (SeatSteps g.L.StationName.start) _ line _ _ (told_fault (heard line) (sym c.in-Fault.is ∙ h)) refl refl refl refl refl refl refl

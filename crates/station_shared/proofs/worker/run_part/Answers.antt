@@ -1,5 +1,5 @@
 use Rattle.std.proofs.Common.{refl}
-use Rattle.station_shared.proofs.SeatRuns.{only_item, only_item_set}
+use Rattle.station_shared.proofs.SeatRunLemmas.{only_item, only_item_set}
 use Rattle.station_shared.proofs.worker.run_part.Goals as goal
 
 pub returns : goal.returns

@@ -1,12 +1,12 @@
-// Receivers whose lines a station takes in part.
+//! Receivers whose lines a station takes in part.
 ghost use Rattle.std.specs.Prelude.{◌≡◌};
 ghost use Rattle.station_desk.specs.History.{base_of};
 
 use super::{IDENTIFICATION, LIMITS, VELOCITY, close_all, worker};
 use crate::fakes::room_for;
-use crate::names::Total;
 use crate::seat::Seat;
 use crate::station::Station;
+use crate::station_name::StationName;
 use crate::worker::{Worker, run_receivers};
 use station_desk::Places;
 use station_journal::Limits;
@@ -20,7 +20,7 @@ use std::test::*;
 use std::thread::Threads;
 
 // Runs two receivers: how many of their calls were accepted and refused, and how many entries are there.
-fn run_two<const N: usize, L: Total + Send + Sync, R: Threads + Wait + Abort + Sync>(
+fn run_two<const N: usize, L: StationName + Send + Sync, R: Threads + Wait + Abort + Sync>(
     rt: &R,
     alloc: Global,
     station: Station<N, L>,
@@ -56,7 +56,7 @@ const THREE_LINES: &'static [u8] =
 const THREE_OTHER_LINES: &'static [u8] =
     b"*8D40621D58C386435CC412692AD6;\n*8DA05F219B06B6AF189400CBC33F;\n*5D510AF9A8D8BC;\n";
 
-fn fill_the_journal<L: Total + Send + Sync, R: Threads + Wait + Abort + Sync>(
+fn fill_the_journal<L: StationName + Send + Sync, R: Threads + Wait + Abort + Sync>(
     rt: &R,
     alloc: Global,
     blank: Blank,
@@ -84,7 +84,7 @@ fn a_full_journal_takes_no_more_of_two_receivers(rt: HostRuntime) -> Result<(), 
     fill_the_journal::<Brand, _>(&rt, rt.alloc(), Blank::new(2), places)
 }
 
-fn fill_the_table<L: Total + Send + Sync, R: Threads + Wait + Abort + Sync>(
+fn fill_the_table<L: StationName + Send + Sync, R: Threads + Wait + Abort + Sync>(
     rt: &R,
     alloc: Global,
     blank: Blank,
@@ -112,7 +112,7 @@ fn a_full_table_takes_no_more_of_two_receivers(rt: HostRuntime) -> Result<(), Fa
     fill_the_table::<Brand, _>(&rt, rt.alloc(), Blank::new(2), places)
 }
 
-fn hear_one_frame<L: Total + Send + Sync, R: Threads + Wait + Abort + Sync>(
+fn hear_one_frame<L: StationName + Send + Sync, R: Threads + Wait + Abort + Sync>(
     rt: &R,
     alloc: Global,
     blank: Blank,

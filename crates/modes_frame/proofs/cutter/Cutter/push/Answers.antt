@@ -1,7 +1,7 @@
 use Rattle.std.proofs.Common.{◌++◌, ap, sym, ◌∙◌}
 use Rattle.std.specs.Option.{option_to_list}
 use Rattle.modes_frame.specs.Lines.{after, told, ended_cuts}
-use Rattle.modes_frame.proofs.LinesLemmas.{pending-push, ended-push}
+use Rattle.modes_frame.proofs.LineLemmas.{pending-push, ended-push}
 use Rattle.modes_frame.proofs.cutter.Cutter.push.Goals as goal
 
 pub returns-clause-held : goal.returns-clause-held

@@ -1,5 +1,5 @@
 use Rattle.std.proofs.Common.{sym, arith}
-use Rattle.modes_frame.proofs.BitsLemmas.{bit_of-bits_of}
+use Rattle.modes_frame.proofs.BitLemmas.{bit_of-bits_of}
 use Rattle.modes_frame.proofs.frame.Frame.bit.Goals as goal
 
 pub bounds-bytes-n : goal.bounds-bytes-n

@@ -1,8 +1,8 @@
 use Rattle.std.proofs.Common.{◌≡◌, ◌≤◌, Ok, Err, refl, ap, sym, ◌∙◌, set, length, arith}
 use Rattle.std.specs.List.{insert, refill}
 use Rattle.std.proofs.Math.ListN.{length-set}
-use Rattle.station_book.specs.Tracks.{IsPlace}
-use Rattle.station_book.proofs.TracksLemmas.{rising_put}
+use Rattle.station_book.specs.Tracks.{StandsAt}
+use Rattle.station_book.proofs.TrackLemmas.{rising_put}
 use Rattle.station_book.proofs.RankLemmas.{refill_same, map_set, map_insert, stands_there, copy_there}
 use Rattle.station_book.proofs.HeardLemmas.{heard_earlier, heard_put}
 use Rattle.station_book.proofs.table.Table.put.Goals as goal
@@ -12,7 +12,7 @@ invariant_of-self g c =
     let tracks = c.self.inside.tracks.items in
     let i = c.in-Ok.rank in
     let t = c.args.track.now in
-    let place : IsPlace tracks t.address (Ok i) = rw (c.in-Ok.is, ← c.self.view_is) at c.locate-place.ensures in
+    let place : StandsAt tracks t.address (Ok i) = rw (c.in-Ok.is, ← c.self.view_is) at c.locate-place.ensures in
     let put = place.2 t refl in
     let whole : refill (length tracks) tracks (set c.deref_mut.result.now i t) ≡ set tracks i t = rw c.deref_mut.ensures.value (refill_same tracks (set tracks i t) (length-set tracks i t)) in
     let before : c.min-self-inside.result ≤ c.self.inside.oldest = grind (arith, c.min-self-inside.ensures) in
@@ -28,7 +28,7 @@ invariant_of-self-in-Err g c =
     let tracks = c.self.inside.tracks.items in
     let i = c.in-Err.rank in
     let t = c.args.track.now in
-    let place : IsPlace tracks t.address (Err i) = rw (c.in-Err.is, ← c.self.view_is) at c.locate-place.ensures in
+    let place : StandsAt tracks t.address (Err i) = rw (c.in-Err.is, ← c.self.view_is) at c.locate-place.ensures in
     let put = place.2 t refl in
     let before : c.min-self-inside.result ≤ c.self.inside.oldest = grind (arith, c.min-self-inside.ensures) in
     let now : c.min-self-inside.result ≤ t.heard = grind (arith, c.min-self-inside.ensures) in
@@ -43,6 +43,6 @@ returns-in-Ok g c =
     let tracks = c.self.inside.tracks.items in
     let i = c.in-Ok.rank in
     let t = c.args.track.now in
-    let place : IsPlace tracks t.address (Ok i) = rw (c.in-Ok.is, ← c.self.view_is) at c.locate-place.ensures in
+    let place : StandsAt tracks t.address (Ok i) = rw (c.in-Ok.is, ← c.self.view_is) at c.locate-place.ensures in
     let whole : refill (length tracks) tracks (set c.deref_mut.result.now i t) ≡ set tracks i t = rw c.deref_mut.ensures.value (refill_same tracks (set tracks i t) (length-set tracks i t)) in
     rw (← c.self.view_is) (whole ∙ copy_there g.row.N i t tracks place)

@@ -2,13 +2,13 @@ use Rattle.std.proofs.Common.{◌≡◌, Option, arith, sym, ap, subst, ◌∙�
 use Rattle.core.proofs.slice.Lists.{all_by_recursion_push}
 use Rattle.left_right.specs.Sides.{view}
 use Rattle.station_journal.specs.Follow.{IsFirstUnsound}
-use Rattle.station_book.specs.State.{State as BookState}
+use Rattle.station_book.specs.State.{BookState}
 use Rattle.station_book.specs.Matching.{Matches}
 use Rattle.station_desk.specs.History.{base_of}
 use Rattle.station_desk.specs.Start.{Start}
-use Rattle.station_desk.specs.Shown.{IsOf, Prepared}
-use Rattle.station_desk.specs.declared.shown.Mark.{Mark}
-use Rattle.station_desk.proofs.Starts.{sound_at, unsound_at}
+use Rattle.station_desk.specs.Published.{IsOf, Prepared}
+use Rattle.station_desk.specs.declared.published.Mark.{Mark}
+use Rattle.station_desk.proofs.StartLemmas.{sound_at, unsound_at}
 use Rattle.station_desk.proofs.places.Places.ready.Goals as goal
 
 pub returns-in-Err-clause-err : goal.returns-in-Err-clause-err

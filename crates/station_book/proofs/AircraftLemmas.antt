@@ -1,0 +1,155 @@
+-- One aircraft: what is kept of it serves as well as a search, before and after each entry.
+use Rattle.std.proofs.Common.{◌≡◌, ℕ, ◌-◌, ◌<◌, ◌≤◌, Bool, true, false, ◌&&◌, ◌||◌, List, [], ◌∷◌, Option, Some, None, refl, ap, ◌∙◌, arith}
+use Rattle.std.specs.Prelude.{nat_le, unwrap_or}
+use Rattle.std.proofs.lemmas.Bool.Decides.{nat_tests}
+use Rattle.station_journal.specs.Past.{Frame}
+use Rattle.modes_fields.specs.declared.place.Place.{Place}
+use Rattle.modes_fields.specs.Carried.{fields_of}
+use Rattle.station_journal.specs.declared.entry.Entry.{Entry}
+use Rattle.station_journal.specs.declared.entry.Entry.TheVariants.{Tick, Heard}
+use Rattle.station_journal.specs.Past.{clock, speaks_for, heard_within, live, stamp, or_older, newest, newest_fix, fix_by, partner, pair_with, place_of, sighting_of, callsign_of, even_place_of, odd_place_of}
+use Rattle.station_journal.specs.Table.{altitude_of, squawk_of, velocity_of, vertical_of}
+use Rattle.station_journal.proofs.FreshLemmas.{fresh_none_below, agree_later, agree_newer, agree_none}
+use Rattle.station_journal.specs.Past.{IsTimed}
+use Rattle.station_journal.proofs.SearchLemmas.{newest_old, newest_fix_old, heard_by_newest}
+use Rattle.station_book.specs.declared.tracks.Track.{Track}
+use Rattle.station_book.specs.Tracks.{blank, kept_partner, kept_fix, updated}
+use Rattle.station_book.specs.Matching.{AgreeFrom, Tracks, TracksAt}
+
+-- the values kept of an aircraft serve as well as a search
+pub record Serves (base : ℕ) (past : List Entry) (a : ℕ) (track : Track) : Type 0 where
+  pub callsign : AgreeFrom 60000 (clock base past) track.callsign (newest callsign_of base a past)
+  pub altitude : AgreeFrom 60000 (clock base past) track.altitude (newest altitude_of base a past)
+  pub squawk : AgreeFrom 60000 (clock base past) track.squawk (newest squawk_of base a past)
+  pub velocity : AgreeFrom 60000 (clock base past) track.velocity (newest velocity_of base a past)
+  pub vertical : AgreeFrom 60000 (clock base past) track.vertical (newest vertical_of base a past)
+  pub even : AgreeFrom 10000 (clock base past) track.even (newest even_place_of base a past)
+  pub odd : AgreeFrom 10000 (clock base past) track.odd (newest odd_place_of base a past)
+  pub position : AgreeFrom 60000 (clock base past) track.position (newest_fix base a past)
+
+-- who isn't heard within 60,000 ms now isn't later
+pub old_later : (now later base a : ℕ) (past : List Entry) → now ≤ later → heard_within now base a past ≡ false → heard_within later base a past ≡ false
+old_later now later base a [] le old = refl
+old_later now later base a (Tick seat at ∷ past) le old = old_later now later base a past le old
+old_later now later base a (Heard seat frame ∷ past) le old =
+    step (speaks_for a frame) (clock base past) (heard_within now base a past) (heard_within later base a past) old (old_later now later base a past le)
+  where
+    step : (speaks : Bool) (m : ℕ) (rest rest' : Bool) → (speaks && nat_le (now - m) 60000) || rest ≡ false → (rest ≡ false → rest' ≡ false) → (speaks && nat_le (later - m) 60000) || rest' ≡ false
+    step false m rest rest' old before = before old
+    step true m rest rest' old before = grind (arith, nat_tests)
+
+module _ (base a : ℕ) (past : List Entry) where
+  -- nothing kept serves for an aircraft that isn't live
+  pub blank_serves : live base past a ≡ false → Serves base past a (blank a)
+  blank_serves old = record {
+    callsign = agree_none 60000 (clock base past) (newest callsign_of base a past) (newest_old callsign_of (clock base past) base a past old);
+    altitude = agree_none 60000 (clock base past) (newest altitude_of base a past) (newest_old altitude_of (clock base past) base a past old);
+    squawk = agree_none 60000 (clock base past) (newest squawk_of base a past) (newest_old squawk_of (clock base past) base a past old);
+    velocity = agree_none 60000 (clock base past) (newest velocity_of base a past) (newest_old velocity_of (clock base past) base a past old);
+    vertical = agree_none 60000 (clock base past) (newest vertical_of base a past) (newest_old vertical_of (clock base past) base a past old);
+    even = agree_none 10000 (clock base past) (newest even_place_of base a past) (fresh_none_below 10000 60000 (clock base past) (newest even_place_of base a past) (omega arith) (newest_old even_place_of (clock base past) base a past old));
+    odd = agree_none 10000 (clock base past) (newest odd_place_of base a past) (fresh_none_below 10000 60000 (clock base past) (newest odd_place_of base a past) (omega arith) (newest_old odd_place_of (clock base past) base a past old));
+    position = agree_none 60000 (clock base past) (newest_fix base a past) (newest_fix_old (clock base past) base a past old);
+  }
+
+  pub tracks_serve : (track : Track) → Tracks base past a track → Serves base past a track
+  tracks_serve track t = record {
+    callsign = t.callsign;
+    altitude = t.altitude;
+    squawk = t.squawk;
+    velocity = t.velocity;
+    vertical = t.vertical;
+    even = t.even;
+    odd = t.odd;
+    position = t.position;
+  }
+
+  -- the kept places give the position that the search gives
+  same_partner : (track : Track) → Serves base past a track → (odd : Bool) → kept_partner (clock base past) track odd ≡ partner odd base a past
+  same_partner track serves true = serves.even (clock base past) (omega arith)
+  same_partner track serves false = serves.odd (clock base past) (omega arith)
+
+  same_fix : (track : Track) → Serves base past a track → (place : Option Place) → kept_fix (clock base past) track place ≡ fix_by base a past place
+  same_fix track serves None = refl
+  same_fix track serves (Some place) = ap (pair_with place) (same_partner track serves place.odd)
+
+  -- after a tick: an aircraft whose newest frame is at most 60,000 ms old is kept
+  pub kept_by_tick : (seat at : ℕ) (track : Track) → IsTimed base past → clock base past < at → nat_le (at - track.heard) 60000 ≡ true → Tracks base past a track → Tracks base (Tick seat at ∷ past) a track
+  kept_by_tick seat at track timed later recent t = record {
+    address = t.address;
+    live = heard_by_newest at base a past timed ∙ rw (t.heard, recent) refl;
+    heard = t.heard;
+    callsign = agree_later 60000 (clock base past) at track.callsign (newest callsign_of base a past) (omega arith) t.callsign;
+    altitude = agree_later 60000 (clock base past) at track.altitude (newest altitude_of base a past) (omega arith) t.altitude;
+    squawk = agree_later 60000 (clock base past) at track.squawk (newest squawk_of base a past) (omega arith) t.squawk;
+    velocity = agree_later 60000 (clock base past) at track.velocity (newest velocity_of base a past) (omega arith) t.velocity;
+    vertical = agree_later 60000 (clock base past) at track.vertical (newest vertical_of base a past) (omega arith) t.vertical;
+    even = agree_later 10000 (clock base past) at track.even (newest even_place_of base a past) (omega arith) t.even;
+    odd = agree_later 10000 (clock base past) at track.odd (newest odd_place_of base a past) (omega arith) t.odd;
+    position = agree_later 60000 (clock base past) at track.position (newest_fix base a past) (omega arith) t.position;
+  }
+
+  -- one whose newest frame is older isn't live any more
+  pub swept_by_tick : (seat at : ℕ) (track : Track) → IsTimed base past → nat_le (at - track.heard) 60000 ≡ false → Tracks base past a track → live base (Tick seat at ∷ past) a ≡ false
+  swept_by_tick seat at track timed old t = heard_by_newest at base a past timed ∙ rw (t.heard, old) refl
+
+  -- one that wasn't live stays so
+  pub absent_after_tick : (seat at : ℕ) → clock base past < at → live base past a ≡ false → live base (Tick seat at ∷ past) a ≡ false
+  absent_after_tick seat at later old = old_later (clock base past) at base a past (omega arith) old
+
+  -- a frame of another aircraft changes nothing
+  module _ (seat : ℕ) (frame : Frame) (other : speaks_for a frame ≡ false) where
+    same_live : live base (Heard seat frame ∷ past) a ≡ live base past a
+    same_live = rw other refl
+
+    same_newest : {V : Type 0} (read : Frame → Option V) → newest read base a (Heard seat frame ∷ past) ≡ newest read base a past
+    same_newest read = rw other refl
+
+    same_newest_fix : newest_fix base a (Heard seat frame ∷ past) ≡ newest_fix base a past
+    same_newest_fix = rw other refl
+
+    pub unchanged_by_other : (kept : Option Track) → TracksAt base past a kept → TracksAt base (Heard seat frame ∷ past) a kept
+    unchanged_by_other None absent = same_live ∙ absent
+    unchanged_by_other (Some track) t = record {
+      address = t.address;
+      live = same_live ∙ t.live;
+      heard = same_newest sighting_of ∙ t.heard;
+      callsign = rw (same_newest callsign_of) t.callsign;
+      altitude = rw (same_newest altitude_of) t.altitude;
+      squawk = rw (same_newest squawk_of) t.squawk;
+      velocity = rw (same_newest velocity_of) t.velocity;
+      vertical = rw (same_newest vertical_of) t.vertical;
+      even = rw (same_newest even_place_of) t.even;
+      odd = rw (same_newest odd_place_of) t.odd;
+      position = rw same_newest_fix t.position;
+    }
+
+  -- a frame of the aircraft itself updates what is kept
+  module _ (seat : ℕ) (frame : Frame) (own : speaks_for a frame ≡ true) where
+    newer_read : {V : Type 0} (read : Frame → Option V) → newest read base a (Heard seat frame ∷ past) ≡ or_older (stamp (clock base past) (read frame)) (newest read base a past)
+    newer_read read = rw own refl
+
+    newer_fix : newest_fix base a (Heard seat frame ∷ past) ≡ or_older (stamp (clock base past) (fix_by base a past (place_of frame))) (newest_fix base a past)
+    newer_fix = rw own refl
+
+    now_live : live base (Heard seat frame ∷ past) a ≡ true
+    now_live = rw own (grind (arith, nat_tests))
+
+    pub updated_by_own : (track : Track) → track.address ≡ a → Serves base past a track → Tracks base (Heard seat frame ∷ past) a (updated (clock base past) (fields_of frame) track)
+    updated_by_own track same serves = record {
+      address = same;
+      live = now_live;
+      heard = newer_read sighting_of;
+      callsign = rw (newer_read callsign_of) (agree_newer 60000 (clock base past) (stamp (clock base past) (callsign_of frame)) track.callsign (newest callsign_of base a past) serves.callsign);
+      altitude = rw (newer_read altitude_of) (agree_newer 60000 (clock base past) (stamp (clock base past) (altitude_of frame)) track.altitude (newest altitude_of base a past) serves.altitude);
+      squawk = rw (newer_read squawk_of) (agree_newer 60000 (clock base past) (stamp (clock base past) (squawk_of frame)) track.squawk (newest squawk_of base a past) serves.squawk);
+      velocity = rw (newer_read velocity_of) (agree_newer 60000 (clock base past) (stamp (clock base past) (velocity_of frame)) track.velocity (newest velocity_of base a past) serves.velocity);
+      vertical = rw (newer_read vertical_of) (agree_newer 60000 (clock base past) (stamp (clock base past) (vertical_of frame)) track.vertical (newest vertical_of base a past) serves.vertical);
+      even = rw (newer_read even_place_of) (agree_newer 10000 (clock base past) (stamp (clock base past) (even_place_of frame)) track.even (newest even_place_of base a past) serves.even);
+      odd = rw (newer_read odd_place_of) (agree_newer 10000 (clock base past) (stamp (clock base past) (odd_place_of frame)) track.odd (newest odd_place_of base a past) serves.odd);
+      position = rw (newer_fix, same_fix track serves (place_of frame)) (agree_newer 60000 (clock base past) (stamp (clock base past) (fix_by base a past (place_of frame))) track.position (newest_fix base a past) serves.position);
+    }
+
+    pub heard_of_own : (kept : Option Track) → TracksAt base past a kept → Tracks base (Heard seat frame ∷ past) a (updated (clock base past) (fields_of frame) (unwrap_or kept (blank a)))
+    heard_of_own None absent = updated_by_own (blank a) refl (blank_serves absent)
+    heard_of_own (Some track) t = updated_by_own track t.address (tracks_serve track t)

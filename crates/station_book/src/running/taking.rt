@@ -1,0 +1,187 @@
+//! How a running book takes entries.
+
+ghost use Rattle.std.specs.Prelude.{◌≡◌, ◌⊎◌, ◌&&◌, not, ℕ, ◌<◌, ◌≤◌, true, List, [], ◌∷◌, ◌++◌};
+ghost use Rattle.std.specs.Prelude.{length, OnOk, IfErr, Ok};
+ghost use Rattle.station_book.specs.declared.decoded_entry.DecodedEntry.TheVariants as decoded;
+ghost use Rattle.modes_frame.specs.Claims.{is_unassigned};
+ghost use Rattle.station_journal.specs.declared.entry.Entry.{Entry};
+ghost use Rattle.station_journal.specs.Follow.{IsFirstUnsound};
+ghost use Rattle.station_journal.specs.Log.{most_entries};
+ghost use Rattle.station_book.specs.Decoded.{decoded_of};
+ghost use Rattle.station_book.specs.State.{starting, fits};
+ghost use Rattle.station_book.specs.State.{applied, applied_decoded, offered, offered_decoded, caught_up};
+ghost use Rattle.station_book.specs.Tracks.{StandsAt, has_place, swept};
+ghost use Rattle.station_book.specs.Matching.{Matches, book_after};
+
+use crate::Book;
+use crate::decoded_entry::{Change, DecodedEntry, Sighting};
+use station_journal::Entry;
+
+const MOST_ENTRIES: u64 = 16_777_216;
+
+impl<const N: usize> Book<N> {
+    /// Takes the entry.
+    pub fn apply(&mut self, entry: &Entry)
+        requires fits { fits N self.old (decoded_of entry.now) ≡ true }
+        requires few { self.old.entries < most_entries }
+        ensures value { self.new ≡ applied self.old entry.now }
+        ensures kept { (base : ℕ) (journal : List Entry) → Matches N base self.old journal →
+            Matches N base self.new (journal ++ entry.now ∷ []) }
+    {
+        self.apply_decoded(&DecodedEntry::of(entry));
+    }
+
+    /// Takes the decoded entry.
+    pub fn apply_decoded(&mut self, decoded: &DecodedEntry)
+        requires fits { fits N self.old decoded.now ≡ true }
+        requires few { self.old.entries < most_entries }
+        ensures { self.new ≡ applied_decoded self.old decoded.now }
+    {
+        match decoded {
+            DecodedEntry::Tick(at) => self.apply_tick(*at),
+            DecodedEntry::Heard(Ok(sighting)) => {
+                let place = self.table.locate(sighting.claim.address);
+                self.apply_at(place, sighting);
+            }
+            DecodedEntry::Heard(Err(_)) => {}
+        }
+    }
+
+    /// Whether the entry may be applied: a later tick, or a frame of an assigned address that is live or finds a place.
+    pub fn fits(&self, entry: &Entry) -> bool
+        ensures { result ≡ fits N self.now (decoded_of entry.now) }
+    {
+        self.fits_decoded(&DecodedEntry::of(entry))
+    }
+
+    // The same, of the decoded entry.
+    fn fits_decoded(&self, decoded: &DecodedEntry) -> bool
+        ensures { result ≡ fits N self.now decoded.now }
+    {
+        match decoded {
+            DecodedEntry::Tick(at) => *at > self.clock,
+            DecodedEntry::Heard(Ok(sighting)) => {
+                let address = sighting.claim.address;
+                self.may_take(self.table.locate(address), address)
+            }
+            DecodedEntry::Heard(Err(_)) => false,
+        }
+    }
+
+    // Whether the address, which has this place, is assigned, and is live or finds a place.
+    fn may_take(&self, place: Result<usize, usize>, address: u32) -> bool
+        requires { StandsAt self.now.tracks address place }
+        ensures { result ≡ (not (is_unassigned address) && has_place N address self.now.tracks) }
+    {
+        address != 0 && address != 0xFF_FFFF && (place.is_ok() || !self.table.is_full())
+    }
+
+    /// Takes the entries in their order, as long as they fit. Refused at the place of the first that doesn't.
+    pub fn take_all(&mut self, base: u64, entries: &[Entry]) -> Result<(), u64>
+        requires starts { self.old ≡ starting base }
+        requires few { length entries.now ≤ most_entries }
+        ensures ok { OnOk result (self.new ≡ book_after base entries.now) }
+        ensures matches { OnOk result (Matches N base self.new entries.now) }
+        ensures err { IfErr result (λ place. IsFirstUnsound N base entries.now place) }
+    {
+        for entry in entries {
+            if !self.fits(entry) {
+                return Err(self.count);
+            }
+            self.apply(entry);
+        }
+        Ok(())
+    }
+
+    /// Takes the entry where it fits and fewer than 16,777,216 entries were taken, and else does nothing.
+    pub fn offer(&mut self, entry: &Entry)
+        ensures value { self.new ≡ offered N self.old entry.now }
+        ensures kept { (base : ℕ) (journal : List Entry) → Matches N base self.old journal →
+            (self.new ≡ self.old) ⊎ Matches N base self.new (journal ++ entry.now ∷ []) }
+    {
+        self.offer_decoded(&DecodedEntry::of(entry));
+    }
+
+    /// The same as `offer`, for the decoded entry.
+    pub fn offer_decoded(&mut self, decoded: &DecodedEntry)
+        ensures { self.new ≡ offered_decoded N self.old decoded.now }
+    {
+        if self.count >= MOST_ENTRIES {
+            return;
+        }
+        match decoded {
+            DecodedEntry::Tick(at) => self.offer_tick(*at),
+            DecodedEntry::Heard(Ok(sighting)) => self.offer_sighting(sighting),
+            DecodedEntry::Heard(Err(_)) => {}
+        }
+    }
+
+    /// Takes over from a book that is one entry ahead what the entry changed.
+    pub fn catch_up(&mut self, ahead: &Book<N>, change: Change)
+        ensures { self.new ≡ caught_up N ahead.now change self.old }
+    {
+        self.clock = ahead.clock;
+        self.count = ahead.count;
+        match change {
+            Change::Clock => self.sweep(ahead.clock),
+            Change::Track(address) => {
+                self.table.copy_track(&ahead.table, address);
+                self.first_frames.catch_up(&ahead.first_frames);
+            }
+        }
+    }
+
+    // Takes the tick where it is later than the clock.
+    fn offer_tick(&mut self, at: u64)
+        requires few { self.old.entries < most_entries }
+        ensures { self.new ≡ offered_decoded N self.old (decoded.Tick at) }
+    {
+        if at > self.clock {
+            self.apply_tick(at);
+        }
+    }
+
+    // Takes the frame where it fits.
+    fn offer_sighting(&mut self, sighting: &Sighting)
+        requires few { self.old.entries < most_entries }
+        ensures { self.new ≡ offered_decoded N self.old (decoded.Heard (Ok sighting.now)) }
+    {
+        let address = sighting.claim.address;
+        let place = self.table.locate(address);
+        if self.may_take(place, address) {
+            self.apply_at(place, sighting);
+        }
+    }
+
+    // Takes a tick.
+    fn apply_tick(&mut self, at: u64)
+        requires few { self.old.entries < most_entries }
+        ensures { self.new ≡ applied_decoded self.old (decoded.Tick at) }
+    {
+        self.count += 1;
+        self.clock = at;
+        self.sweep(at);
+    }
+
+    // Drops the aircraft that are not live at a tick, and the frames heard before it.
+    fn sweep(&mut self, at: u64)
+        ensures { self.new ≡
+            record self.old { tracks = swept at self.old.tracks; first_frames = [] } }
+    {
+        self.table.sweep(at);
+        self.first_frames.clear();
+    }
+
+    // Takes a frame of the aircraft whose address has this place.
+    fn apply_at(&mut self, place: Result<usize, usize>, sighting: &Sighting)
+        requires place { StandsAt self.old.tracks sighting.now.claim.address place }
+        requires fits { fits N self.old (decoded.Heard (Ok sighting.now)) ≡ true }
+        requires few { self.old.entries < most_entries }
+        ensures { self.new ≡ applied_decoded self.old (decoded.Heard (Ok sighting.now)) }
+    {
+        self.count += 1;
+        let address = sighting.claim.address;
+        self.table.hear(place, self.clock, address, &sighting.frame);
+        self.first_frames.hear(&sighting.frame);
+    }
+}

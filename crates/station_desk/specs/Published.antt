@@ -1,0 +1,99 @@
+-- What readers look at, and the rule over it.
+use Rattle.std.specs.Prelude.{◌≡◌, ℕ, ◌≤◌, ◌⊎◌, List, length, Option, Some, None, IfSome, option_map}
+use mathlib.Core.List.{IsPrefix}
+use mathlib.Core.Option.{some}
+use lib.ListN.{get_elem?}
+use Rattle.station_journal.specs.declared.entry.Entry.{Entry}
+use Rattle.station_journal.specs.Log.{IsLegal}
+use Rattle.station_book.specs.State.{BookState, caught_up, offered_decoded}
+use Rattle.station_book.specs.declared.decoded_entry.Change.{Change}
+use Rattle.station_book.specs.declared.decoded_entry.DecodedEntry.{DecodedEntry}
+use Rattle.station_book.specs.Matching.{Matches}
+use Rattle.station_desk.specs.History.{Known, Name, base_of}
+use Rattle.station_desk.specs.Start.{Start, log_of, origin_of, start_at}
+use Rattle.station_desk.specs.declared.publisher.NextCopy.{NextCopy}
+use Rattle.station_desk.specs.declared.published.Mark.{Mark}
+use Rattle.station_desk.specs.declared.published.Origin.{Origin}
+use Rattle.station_desk.specs.declared.published.PublishedTable.{PublishedTable}
+
+-- what is published: a book, the beginning of the history that it stands for, and the origin of the station, once there is one
+pub record Sheet : Type 0 where
+  pub book : BookState
+  pub front : Known
+  pub origin : Option Origin
+
+abbrev pub sheet : BookState → Known → Option Origin → Sheet
+sheet book front origin = record { book = book; front = front; origin = origin }
+
+-- a copy brought up to the one that is shown, of which it lacks this change, or nothing
+abbrev pub brought_up : ℕ → BookState → Option Change → BookState → BookState
+brought_up n shown None book = book
+brought_up n shown (Some change) book = caught_up n shown change book
+
+-- a copy as what is published
+abbrev pub sheet_of : {n : ℕ} → PublishedTable n → Sheet
+sheet_of copy = sheet copy.book copy.front copy.origin
+
+-- what is published next: the spare copy, brought up to the one that is shown, with one entry more
+abbrev pub next_sheet : {n : ℕ} → PublishedTable n → PublishedTable n → DecodedEntry → NextCopy → Sheet
+next_sheet {n} shown spare decoded next = sheet (offered_decoded n (brought_up n shown.book next.missing_change spare.book) decoded) next.front shown.origin
+
+-- the entries are legal for the station, where there is one
+abbrev pub LegalUnder : Name → Option Origin → List Entry → Type 0
+LegalUnder history origin entries = IfSome origin (λ o. IsLegal (log_of (start_at history o) entries))
+
+-- the book, of at most n aircraft, matches the beginning that it stands for, which is legal
+pub record IsRight (n : ℕ) (s : Sheet) : Type 0 where
+  pub matched : Matches n (base_of s.front.name) s.book s.front.entries
+  pub legal : LegalUnder s.front.name s.origin s.front.entries
+
+-- what is known is of the history that is published, which begins with it, and of its origin
+pub record IsOfSheet (s : Sheet) (k : Mark) : Type 0 where
+  pub name : k.front.name ≡ s.front.name
+  pub origin : s.origin ≡ Some k.origin
+  pub begins : IsPrefix k.front.entries s.front.entries
+
+-- what is published is right, and who knows a station at all knows this one
+pub record IsPublished (n : ℕ) (s : Sheet) (all : List (Option Mark)) : Type 0 where
+  pub right : IsRight n s
+  pub views : (seat : ℕ) (k : Mark) → get_elem? all seat ≡ some (Some k) → IsOfSheet s k
+
+-- what is known after what is published was seen: nothing before there is a station
+abbrev pub marked : Known → Option Origin → Option Mark
+marked front origin = option_map (λ o. record { front = front; origin = o }) origin
+
+-- what a step tells that sees what is published afterwards
+pub record SawPublished (n : ℕ) (old : Option Mark) (s : Sheet) (new : Option Mark) : Type 0 where
+  pub knows : new ≡ marked s.front s.origin
+  pub right : IsRight n s
+  pub known : IfSome old (IsOfSheet s)
+
+-- the same station, of whose history nothing is taken back
+pub record GoesOn (old new : Sheet) : Type 0 where
+  pub origin : new.origin ≡ old.origin
+  pub name : new.front.name ≡ old.front.name
+  pub begins : IsPrefix old.front.entries new.front.entries
+
+-- one may be published after the other: it is right, and the same station goes on, where there was one
+pub record Follows (n : ℕ) (old new : Sheet) : Type 0 where
+  pub right : IsRight n old → IsRight n new
+  pub same : (old.origin ≡ None) ⊎ GoesOn old new
+
+-- the origin of a station of at most n aircraft that begins with the entries
+pub record BeginsWith (n : ℕ) (origin : Origin) (entries : List Entry) : Type 0 where
+  pub aircraft : origin.limits.aircraft ≡ n
+  pub room : length entries ≤ origin.limits.entries
+  pub resumed : origin.resumed ≡ length entries
+
+-- the view knows the station that began so
+pub record IsOf (start : Start) (view : Option Mark) : Type 0 where
+  pub mark : Mark
+  pub is : view ≡ Some mark
+  pub name : mark.front.name ≡ start.history
+  pub origin : mark.origin ≡ origin_of start
+
+-- a publishing end with its reader places: which history it is, how many places, and the book that is published
+pub record Prepared : Type 0 where
+  pub history : Name
+  pub places : ℕ
+  pub shown : BookState

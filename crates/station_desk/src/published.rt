@@ -1,0 +1,50 @@
+//! What is published to readers: two copies of it, of which the desk changes the one that nobody reads.
+use crate::history::Front;
+use left_right::Absorb;
+use station_book::Book;
+use station_journal::Limits;
+use std::alloc::AllocError;
+
+/// How a station began, beside its history: its limits, and how many entries it was resumed from.
+#[derive(Clone, Copy)]
+pub struct Origin {
+    pub limits: Limits,
+    pub resumed: u64,
+}
+
+/// A book, the beginning of the history that it stands for, and the origin of the station, once there is one.
+#[derive(Drop)]
+pub struct PublishedTable<const N: usize> {
+    pub book: Book<N>,
+    pub front: Front,
+    pub origin: Option<Origin>,
+}
+
+/// What a reader knows of a station. No value of it is made.
+#[derive(Drop)]
+pub struct Mark {
+    pub front: Front,
+    pub origin: Origin,
+}
+
+/// An operation of which none is logged: the desk brings the copies up itself.
+#[derive(Drop)]
+pub struct Unlogged;
+
+impl<const N: usize> Absorb<Unlogged> for PublishedTable<N> {
+    type State = ();
+
+    ghost state = { λ s. tt };
+
+    ghost applied = { λ s op. s };
+
+    ghost never_fails = { Unit {0} };
+
+    fn absorb_first(
+        &mut self,
+        _operation: &Unlogged,
+        _other: &PublishedTable<N>,
+    ) -> Result<(), AllocError> {
+        Ok(())
+    }
+}

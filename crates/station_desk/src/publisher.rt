@@ -1,0 +1,194 @@
+//! The publishing end: of two copies readers have one, and the other is brought up and shown in its place.
+ghost use Rattle.std.specs.Prelude.{◌≡◌, ◌≤◌, length, None, Some, OnOk, IfOk, IfErr};
+ghost use Rattle.left_right.specs.Sides.{view};
+ghost use Rattle.station_book.specs.State.{starting};
+ghost use Rattle.station_book.specs.Matching.{Matches, book_after};
+ghost use Rattle.station_journal.specs.Follow.{IsFirstUnsound};
+ghost use Rattle.station_journal.specs.Log.{most_entries};
+ghost use Rattle.station_desk.specs.History.{base_of};
+ghost use Rattle.station_desk.specs.Published.{Follows, sheet, sheet_of, next_sheet, brought_up, marked, BeginsWith};
+
+use crate::history::{Front, History};
+use crate::publish_rule::{Notes, PublishRule, ReaderPlace, Sees};
+use crate::published::{Mark, Origin, PublishedTable, Unlogged};
+use core::mem::replace_with;
+use left_right::writer::Writer;
+use station_book::{Book, Change, DecodedEntry};
+use station_journal::Entry;
+use std::alloc::AllocError;
+use std::sync::Wait;
+
+/// The publishing end.
+pub type Publisher<const N: usize> = Writer<PublishedTable<N>, Unlogged, Option<Mark>, PublishRule>;
+
+/// What the next copy is made of, beside an entry: what the spare one lacks of the shown one, and the beginning that it then
+/// stands for.
+#[derive(Drop)]
+pub(crate) struct NextCopy {
+    pub missing_change: Option<Change>,
+    pub front: Front,
+}
+
+// Takes over what the book lacks of the shown one.
+fn bring_up<const N: usize>(book: &mut Book<N>, shown: &Book<N>, missing_change: Option<Change>)
+    ensures { book.new ≡ brought_up N shown.now missing_change book.old }
+{
+    if let Some(change) = missing_change {
+        book.catch_up(shown, change);
+    }
+}
+
+// Makes the next copy of one that nobody reads.
+fn renew<const N: usize>(
+    copy: &mut PublishedTable<N>,
+    shown: &PublishedTable<N>,
+    decoded: &DecodedEntry,
+    next: NextCopy,
+)
+    ensures { sheet_of copy.new ≡ next_sheet shown.now copy.old decoded.now next }
+{
+    bring_up(&mut copy.book, &shown.book, next.missing_change);
+    copy.book.offer_decoded(decoded);
+    copy.front = next.front;
+    copy.origin = shown.origin;
+}
+
+/// Brings the copy up that nobody is to read, takes the entry in it, and shows it. It waits for those that still read it,
+/// and wants no memory.
+fn turn<const N: usize, R: Wait>(
+    rt: &R,
+    publisher: Publisher<N>,
+    decoded: &DecodedEntry,
+    next: NextCopy,
+) -> Publisher<N>
+    requires { Follows N (sheet_of publisher.desk.shown.value)
+        (next_sheet publisher.desk.shown.value publisher.desk.spare.value decoded.now next) }
+    ensures shown { sheet_of result.desk.shown.value
+        ≡ next_sheet publisher.entry.desk.shown.value publisher.entry.desk.spare.value decoded.now next }
+    ensures spare { result.desk.spare.value ≡ publisher.entry.desk.shown.value }
+    ensures view { view result.desk.place
+        ≡ marked next.front publisher.entry.desk.shown.value.origin }
+{
+    let mut publisher = publisher;
+    let (open, mut spare) = publisher.desk.open(rt);
+    renew(&mut spare, open.shown.get(), decoded, next);
+    publisher.desk = open.show_as::<Sees>(spare);
+    publisher
+}
+
+/// The same, where it lies.
+pub(crate) fn turn_in_place<const N: usize, R: Wait>(
+    rt: &R,
+    publisher: &mut Publisher<N>,
+    decoded: &DecodedEntry,
+    next: NextCopy,
+)
+    requires { Follows N (sheet_of publisher.old.desk.shown.value)
+        (next_sheet publisher.old.desk.shown.value publisher.old.desk.spare.value decoded.now next) }
+    ensures shown { sheet_of publisher.new.desk.shown.value
+        ≡ next_sheet publisher.old.desk.shown.value publisher.old.desk.spare.value decoded.now next }
+    ensures spare { publisher.new.desk.spare.value ≡ publisher.old.desk.shown.value }
+    ensures view { view publisher.new.desk.place
+        ≡ marked next.front publisher.old.desk.shown.value.origin }
+{
+    replace_with(
+        publisher,
+        (rt, decoded, next),
+        |publisher: Publisher<N>, parts: (&R, &DecodedEntry, NextCopy)| -> (Publisher<N>, ())
+            requires { Follows N (sheet_of publisher.desk.shown.value)
+                (next_sheet publisher.desk.shown.value publisher.desk.spare.value parts.1.now parts.2) }
+            ensures shown { sheet_of result.0.desk.shown.value
+                ≡ next_sheet publisher.entry.desk.shown.value publisher.entry.desk.spare.value
+                parts.entry.1.now parts.entry.2 }
+            ensures spare { result.0.desk.spare.value ≡ publisher.entry.desk.shown.value }
+            ensures view { view result.0.desk.place
+                ≡ marked parts.entry.2.front publisher.entry.desk.shown.value.origin }
+        { (turn(parts.0, publisher, parts.1, parts.2), ()) },
+    );
+}
+
+// Makes the copy one of a book that was given the entries in their order. Refused at the place of the first that doesn't
+// fit.
+fn fill<const N: usize>(
+    copy: &mut PublishedTable<N>,
+    base: u64,
+    front: Front,
+    origin: Origin,
+    entries: &[Entry],
+) -> Result<(), u64>
+    requires few { length entries.now ≤ most_entries }
+    ensures sheet { OnOk result (sheet_of copy.new ≡ sheet (book_after base entries.now) front (Some origin)) }
+    ensures matched { OnOk result (Matches N base copy.new.book entries.now) }
+    ensures err { IfErr result (λ place. IsFirstUnsound N base entries.now place) }
+{
+    copy.book = Book::starting(base);
+    copy.book.take_all(base, entries)?;
+    copy.front = front;
+    copy.origin = Some(origin);
+    Ok(())
+}
+
+/// Makes both copies of a station that isn't there yet those of a book that was given the entries, and shows them.
+/// Refused at the place of the first entry that doesn't fit: then the publishing end is gone.
+pub(crate) fn begin<const N: usize, R: Wait>(
+    rt: &R,
+    publisher: Publisher<N>,
+    base: u64,
+    front: Front,
+    origin: Origin,
+    entries: &[Entry],
+) -> Result<Publisher<N>, u64>
+    requires new { publisher.desk.shown.value.origin ≡ None }
+    requires few { length entries.now ≤ most_entries }
+    requires front { (front.entries ≡ entries.now) × (base_of front.name ≡ base) }
+    requires origin { BeginsWith N origin entries.now }
+    ensures shown { IfOk result (λ p. sheet_of p.desk.shown.value
+        ≡ sheet (book_after base entries.now) front (Some origin)) }
+    ensures matched { IfOk result (λ p. Matches N base p.desk.shown.value.book entries.now) }
+    ensures spare { IfOk result (λ p. p.desk.spare.value.book ≡ p.desk.shown.value.book) }
+    ensures view { IfOk result (λ p. view p.desk.place
+        ≡ Some (record { front = front; origin = origin })) }
+    ensures err { IfErr result (λ place. IsFirstUnsound N base entries.now place) }
+{
+    let mut publisher = publisher;
+    let (open, mut spare) = publisher.desk.open(rt);
+    match fill(&mut spare, base, front.again(), origin, entries) {
+        Ok(()) => publisher.desk = open.show_as::<Sees>(spare),
+        Err(place) => {
+            publisher.desk = open.shelve(spare);
+            publisher.take(rt);
+            return Err(place);
+        }
+    }
+    let (open, mut spare) = publisher.desk.open(rt);
+    let _filled = fill(&mut spare, base, front, origin, entries);
+    publisher.desk = open.shelve(spare);
+    Ok(publisher)
+}
+
+/// A copy of an empty book, of no station yet.
+pub(crate) fn blank<const N: usize>(history: &History, base: u64) -> PublishedTable<N>
+    ensures book { result.book ≡ starting base }
+    ensures front { result.front ≡ history.now }
+    ensures origin { result.origin ≡ None }
+{
+    PublishedTable {
+        book: Book::starting(base),
+        front: history.front(),
+        origin: None,
+    }
+}
+
+/// One more reader place, which knows what the publishing end knows.
+pub(crate) fn new_place<const N: usize>(
+    publisher: &mut Publisher<N>,
+) -> Result<ReaderPlace<N>, AllocError>
+    ensures same { (publisher.new.desk.shown ≡ publisher.old.desk.shown)
+        × (publisher.new.desk.spare ≡ publisher.old.desk.spare)
+        × (view publisher.new.desk.place ≡ view publisher.old.desk.place) }
+    ensures known { IfOk result (λ place. view place.place ≡ view publisher.old.desk.place) }
+{
+    let mut place = publisher.factory().reader()?;
+    place.learn::<Notes>(publisher.desk.tell::<Notes>());
+    Ok(place)
+}

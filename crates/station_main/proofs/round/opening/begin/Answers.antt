@@ -1,0 +1,24 @@
+use Rattle.std.proofs.Common.{◌≡◌, ◌+◌, ◌∙◌, ◌∷◌, [], ap, sym, arith, length, length-append}
+use Rattle.station_shared.specs.Seats.{newcomer, newcomers}
+use Rattle.station_shared.proofs.NewcomerLemmas.{newcomers_more}
+use Rattle.station_main.specs.Limits.{program_limits}
+use Rattle.station_main.proofs.RoundLemmas.{snoc_end, wants_memory}
+use Rattle.station_main.proofs.RunJobLemmas.{length_newcomers}
+use Rattle.station_main.proofs.round.opening.begin.Goals as goal
+
+pub unreachable-requires : goal.unreachable-requires
+unreachable-requires g c = wants_memory program_limits c.args.kept.recent.base c.args.kept.recent.entries.items c.in-Err.refused.fault c.requires.sound c.in-Err.ensures.refused.1 c.in_default.not-NoMemory
+
+pub unreachable-requires-in_default-pop : goal.unreachable-requires-in_default-pop
+unreachable-requires-in_default-pop g c = omega (arith, c.in_default-pop.ensures.cases.0, ap length c.in-Ok.ensures.made, length_newcomers c.args.kept.recent.entries.items (c.len.result + 1))
+
+pub receivers-requires : goal.receivers-requires
+receivers-requires g c =
+    let es = c.args.kept.recent.entries.items in
+    omega (arith, c.len.ensures, ap length c.in-Some.ensures.items, length-append c.pop.new.self.items (c.in-Some.reporter ∷ []), ap length c.in-Ok.ensures.made, length_newcomers es (c.len.result + 1))
+
+pub returns-in-Ok-receivers-clause-reporter : goal.returns-in-Ok-receivers-clause-reporter
+returns-in-Ok-receivers-clause-reporter g c =
+    let es = c.args.kept.recent.entries.items in
+    let many : c.len.result ≡ length c.args.inputs.items = omega (arith, c.len.ensures) in
+    snoc_end c.pop.new.self.items (newcomers es c.len.result) c.in-Some.reporter (newcomer es c.len.result) (sym c.in-Some.ensures.items ∙ c.in-Ok.ensures.made ∙ sym (newcomers_more es c.len.result)) ∙ ap (λ n. newcomer es n) many

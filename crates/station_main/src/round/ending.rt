@@ -1,0 +1,133 @@
+//! How a round ends: what was counted is told, and what is recent is kept or the station given up.
+ghost use Rattle.std.specs.Prelude.{◌≡◌, ◌≤◌, ◌∷◌, ℕ, List, Option, All, IfErr, IfOk, is_some, length, option_map, true};
+ghost use Rattle.station_shared.specs.Seats.{Seated, newcomer};
+ghost use Rattle.station_main.specs.Rounds.{Asked, EndsRound, Given, GoesOnFrom, IsBetween, KeepsRecent, IsLast, given_of};
+ghost use Rattle.station_main.specs.Run.{Leaves};
+ghost use Rattle.station_main.specs.Telling.{told_of};
+
+use crate::faults::{Fault, tell};
+use crate::kept::Kept;
+use crate::limits::AIRCRAFT;
+use crate::output::{Ran, Written};
+use crate::round::{Round, Worked};
+use crate::standard_error::StandardError;
+use crate::tallies::tell_end;
+use crate::threads::Receiver;
+use station_journal::NoMemory;
+use station_shared::{Missing, Seat, Station, StationName, Worker};
+use std::alloc::Global;
+use std::io::Write;
+use std::sync::Wait;
+
+// Tells what was counted, and gives the station up.
+pub(super) fn finish<L: StationName, R: Wait, O: Write + Drop, E: Write>(
+    rt: &R,
+    worked: Worked<L, O>,
+    err: &mut StandardError<E>,
+) -> Ran<O>
+    requires { All (λ r. is_some r.answer ≡ true) worked.receivers.items }
+    ensures most { result.status ≤ 1 }
+    ensures last { (asked : Asked) (given : Given) (before : Option (List ℕ)) →
+        length worked.receivers.items ≡ asked.inputs → GoesOnFrom given L.start →
+        Leaves L.start asked.every given.last_tick (newcomer given.entries asked.inputs) worked.reporter
+        before (O.contents worked.written.out) worked.written.has_failed →
+        IsLast asked given before (option_map (λ left. O.contents left) result.out)
+        (told_of E.contents err.old) (told_of E.contents err.new) result.status }
+{
+    let Worked {
+        station,
+        receivers,
+        reporter: _,
+        written: Written { out, has_failed },
+    } = worked;
+    station.end(rt);
+    Ran {
+        status: tell_end(err, &receivers, has_failed),
+        out: Some(out),
+    }
+}
+
+// Tells what was counted, and keeps what is recent, unless a fault was told.
+pub(super) fn hand_on<L: StationName, R: Wait, O: Write + Drop, E: Write>(
+    rt: &R,
+    alloc: Global,
+    worked: Worked<L, O>,
+    err: &mut StandardError<E>,
+) -> Round<O>
+    requires { All (λ r. is_some r.answer ≡ true) worked.receivers.items }
+    ensures { (asked : Asked) (given : Given) (before : Option (List ℕ)) →
+        length worked.receivers.items ≡ asked.inputs → GoesOnFrom given L.start →
+        Leaves L.start asked.every given.last_tick (newcomer given.entries asked.inputs) worked.reporter
+        before (O.contents worked.written.out) worked.written.has_failed →
+        EndsRound O.contents asked given before (told_of E.contents err.old) (told_of E.contents err.new) result }
+{
+    let Worked {
+        station,
+        receivers,
+        reporter,
+        written: Written { out, has_failed },
+    } = worked;
+    let status = tell_end(err, &receivers, has_failed);
+    if status > 0 {
+        station.end(rt);
+        return Round::Over(Ran {
+            status,
+            out: Some(out),
+        });
+    }
+    match keep(rt, alloc, station, receivers, reporter) {
+        Ok(kept) => Round::GoesOn { out, kept },
+        Err(fault) => Round::Over(Ran {
+            status: tell(err, fault),
+            out: Some(out),
+        }),
+    }
+}
+
+// Closes the station, and keeps what is recent of its journal.
+fn keep<L: StationName, R: Wait>(
+    rt: &R,
+    alloc: Global,
+    station: Station<AIRCRAFT, L>,
+    receivers: Vec<Receiver<L>>,
+    reporter: Seat<AIRCRAFT, L>,
+) -> Result<Kept, Fault<'static>>
+    ensures kept { IfOk result (λ kept. KeepsRecent L.start reporter (given_of kept)) }
+    ensures between { IfErr result IsBetween }
+{
+    let Ok(seats) = seats_of(alloc, reporter, receivers) else {
+        station.end(rt);
+        return Err(Fault::NoMemory);
+    };
+    match station.close(rt, seats) {
+        Ok(closed) => match Kept::of(alloc, &closed.journal) {
+            Ok(kept) => Ok(kept),
+            Err(_) => Err(Fault::NoMemory),
+        },
+        Err(Missing { station, seats: _ }) => {
+            station.end(rt);
+            Err(Fault::SeatLost)
+        }
+    }
+}
+
+// The reporter's seat, and those of the receivers.
+fn seats_of<L: StationName>(
+    alloc: Global,
+    reporter: Seat<AIRCRAFT, L>,
+    receivers: Vec<Receiver<L>>,
+) -> Result<Vec<Seat<AIRCRAFT, L>>, NoMemory>
+    ensures { IfOk result (λ seats. (others : List Seated) × (seats.items ≡ reporter ∷ others)) }
+{
+    let mut seats = Vec::new(alloc);
+    seats.push(reporter)?;
+    for receiver in receivers {
+        let Worker {
+            seat,
+            source: _,
+            answer: _,
+        } = receiver;
+        seats.push(seat)?;
+    }
+    Ok(seats)
+}

@@ -1,0 +1,26 @@
+//! The name of one station: its ledger, and how it began.
+use std::marker::Brand;
+use std::sync::ledger::Ledger;
+
+/// Stands for one station in clauses. No value of it is made.
+pub trait StationName: Ledger {
+    ghost use Rattle.std.specs.Prelude.{ℕ};
+    ghost use Rattle.station_desk.specs.Start.{Start};
+
+    /// How many seats, each with one part.
+    ghost seats: { ℕ };
+
+    ghost start: { Start };
+}
+
+impl StationName for Brand {
+    ghost use Rattle.std.specs.Prelude.{[]};
+
+    ghost seats = { 0 };
+
+    ghost start = { record {
+      history = record { book = record { number = 0; log_name = 0; cells_name = 0 }; root = [] };
+      limits = record { entries = 0; aircraft = 0 };
+      resumed = 0;
+    } };
+}

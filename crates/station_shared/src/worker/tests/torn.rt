@@ -1,0 +1,74 @@
+//! A receiver whose source fails, beside one whose source ends.
+ghost use Rattle.std.specs.Prelude.{◌≡◌};
+ghost use Rattle.station_desk.specs.History.{base_of};
+
+use super::{IDENTIFICATION, LIMITS, ONE_LINE, VELOCITY, worker};
+use crate::station::Station;
+use crate::station_name::StationName;
+use crate::worker::run_receivers;
+use station_desk::Places;
+use station_lines::{FromRead, PumpFault};
+use std::alloc::Global;
+use std::io;
+use std::io::{ErrorKind, Read};
+use std::marker::Brand;
+use std::process::Abort;
+use std::sync::Wait;
+use std::sync::ledger::Blank;
+use std::test::*;
+use std::thread::Threads;
+
+/// Gives its bytes, and then fails or tells the end.
+#[derive(Drop)]
+struct Torn {
+    rest: &'static [u8],
+    fails: bool,
+}
+
+impl Read for Torn {
+    fn read(&mut self, buffer: &mut [u8]) -> io::Result<usize> {
+        if self.rest.is_empty() && self.fails {
+            return Err(io::Error::from(ErrorKind::BrokenPipe));
+        }
+        self.rest.read(buffer)
+    }
+}
+
+fn one_that_fails<L: StationName + Send + Sync, R: Threads + Wait + Abort + Sync>(
+    rt: &R,
+    alloc: Global,
+    blank: Blank,
+    places: Places<8>,
+) -> Result<(), Fail>
+    requires ledger { (blank.name ≡ L.name) × (blank.parts ≡ L.parts) }
+    requires seats { (L.parts ≡ 2) × (L.seats ≡ 2) × (places.places ≡ 2) }
+    requires start { (L.start.history ≡ places.history) × (L.start.resumed ≡ 0) }
+    requires base { base_of places.history ≡ 0 }
+    requires limits { L.start.limits ≡ record { entries = 16; aircraft = 8 } }
+{
+    let (station, mut seats) = Station::<8, L>::new(rt, alloc, LIMITS, 2, blank, places)?;
+    let mut workers = Vec::new(alloc);
+    run_receivers(rt, &station, workers.as_mut_slice(), 9);
+    assert_eq!(rt; workers.len(), 0);
+    for (rest, fails) in [(IDENTIFICATION, true), (VELOCITY, false)] {
+        let seat = seats.pop().expect(rt, "a seat of a receiver");
+        let source = FromRead::new(Torn { rest, fails });
+        let pushed = workers.push(worker(seat, source)).is_ok();
+        assert!(rt; pushed);
+    }
+    run_receivers(rt, &station, workers.as_mut_slice(), 9);
+    assert_eq!(rt; workers.len(), 2);
+    let mut wanted = Some(Err(PumpFault::Read(ONE_LINE)));
+    for worker in &workers {
+        assert_eq!(rt; worker.answer, wanted);
+        wanted = Some(Ok(ONE_LINE));
+    }
+    station.end(rt);
+    Ok(())
+}
+
+#[test]
+fn failed_receiver_leaves_the_others(rt: HostRuntime) -> Result<(), Fail> {
+    let places = Places::<8>::new(&rt, rt.alloc(), 0, 2)?;
+    one_that_fails::<Brand, _>(&rt, rt.alloc(), Blank::new(2), places)
+}
