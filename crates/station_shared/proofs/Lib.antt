@@ -1,6 +1,5 @@
 pub mod AheadLemmas
 pub mod AllLemmas
-pub mod BeginningLemmas
 pub mod CloseLemmas
 pub mod CountLemmas
 pub mod LookLemmas

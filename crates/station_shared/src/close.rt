@@ -93,7 +93,8 @@ impl<const N: usize, L: StationName> Locked<N, L> {
         } = self;
         let _known = desk.front();
         while let Some(seat) = seats.pop() {
-            let (share, front) = seat.into_parts();
+            let (standing, _place) = seat.apart();
+            let (share, front) = standing.into_parts();
             desk.covers(&front);
             rest.merge(share);
         }

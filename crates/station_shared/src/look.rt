@@ -1,17 +1,20 @@
 //! A look at the published table.
-ghost use Rattle.std.specs.Prelude.{◌≡◌, ◌≤◌, length};
+ghost use Rattle.std.specs.Prelude.{◌≡◌, ◌<◌, ◌≤◌, ◌↔◌, IsTrue, false, length, MatchResult};
+ghost use mathlib.Core.List.{IsPrefix};
 ghost use Rattle.station_journal.specs.Table.{find_row};
 ghost use Rattle.station_journal.specs.Log.{IsLegal, clock_of, table_of};
 ghost use Rattle.station_desk.specs.Start.{log_of};
+ghost use Rattle.station_desk.specs.Published.{IsOfSheet, sheet_of};
 ghost use Rattle.station_desk.specs.Desk.{most_aircraft};
+ghost use Rattle.station_shared.specs.Seats.{Looks};
 
 use crate::seat::Seat;
+use crate::standing::Standing;
 use crate::station_name::StationName;
 use crossbeam_utils::rule::Protocol;
-use station_desk::{Front, LookingPlace, Mark, PublishRule, PublishedTable};
+use station_desk::{Front, LookingPlace, Mark, PublishRule, PublishedTable, Sees};
 use station_journal::{Aircraft, Rows};
 use std::marker::Model;
-use std::sync::ledger::Share as LedgerShare;
 
 /// A seat that looks. The table stays as it is until the look ends by [`Look::done`]. A look that is dropped gives up
 /// its seat.
@@ -19,11 +22,8 @@ pub struct Look<const N: usize, L: StationName>
 where
     PublishRule: Protocol<PublishedTable<N>, Option<Mark>>,
 {
-    pub(crate) number: u8,
-    pub(crate) accepted: u64,
-    pub(crate) share: LedgerShare<L>,
+    pub(crate) standing: Standing<L>,
     pub(crate) looking: LookingPlace<N>,
-    pub(crate) front: Front,
     pub(crate) ghost small: { N ≤ most_aircraft },
 }
 
@@ -31,30 +31,54 @@ impl<const N: usize, L: StationName> Model for Look<N, L>
 where
     PublishRule: Protocol<PublishedTable<N>, Option<Mark>>,
 {
-    ghost use Rattle.std.specs.Prelude.{◌≡◌, ◌≤◌};
     ghost use Rattle.left_right.specs.Sides.{view as view_of};
     ghost use Rattle.station_journal.specs.Log.{IsLegal};
     ghost use Rattle.station_book.specs.Matching.{Matches};
     ghost use Rattle.station_desk.specs.History.{base_of};
     ghost use Rattle.station_desk.specs.Start.{log_of};
-    ghost use Rattle.station_shared.specs.Seats.{Seated, own, count_of};
+    ghost use Rattle.station_shared.specs.Seats.{Seated};
     ghost use Rattle.station_desk.specs.Published.{IsOf};
 
     ghost Value = { Seated };
 
-    ghost view = { λ s. record {
-      number = s.number;
-      accepted = s.accepted;
-      seen = s.front.entries;
-    } };
+    ghost view = { λ l. l.standing };
 
-    ghost invariant = { λ s. (s.share.parts ≡ 1)
-        × (s.share.amount ≡ s.accepted)
-        × IsOf L.start (view_of s.looking.place)
-        × (s.front.name ≡ L.start.history)
-        × (s.accepted ≤ count_of s.number (own L.start s.front.entries))
-        × Matches N (base_of L.start.history) s.looking.part.value.book s.front.entries
-        × IsLegal (log_of L.start s.front.entries) };
+    ghost invariant = { λ l. IsOf L.start (view_of l.looking.place)
+        × Matches N (base_of L.start.history) l.looking.part.value.book l.standing.seen
+        × IsLegal (log_of L.start l.standing.seen) };
+}
+
+// Whether the published table lacks entries of this beginning. It lacks none that a place had seen before it was let in.
+fn lacks<const N: usize>(looking: &LookingPlace<N>, known: &Front) -> bool
+    ensures fewer { IsTrue result
+        ↔ (length looking.now.part.value.front.entries < length known.now.entries) }
+    ensures seen { (before : Mark) → IsOfSheet (sheet_of looking.now.part.value) before →
+        IsPrefix known.now.entries before.front.entries → result ≡ false }
+{
+    looking.get().front.count() < known.count()
+}
+
+impl<const N: usize, L: StationName> Seat<N, L> {
+    /// Looks at the table as it is published, which holds all that the seat has seen. It neither waits nor takes memory.
+    ///
+    /// The seat comes back as it was where no reader is let in.
+    pub fn look(self) -> Result<Look<N, L>, Seat<N, L>>
+        ensures { MatchResult result (λ look. Looks L.start self look) (λ seat. seat ≡ self) }
+    {
+        let (mut standing, place) = self.apart();
+        match place.enter_as::<Sees>() {
+            Ok(looking) => {
+                if lacks(&looking, &standing.front) {
+                    let place = looking.leave();
+                    return Err(Seat { standing, place });
+                }
+                standing.front.begins(&looking.get().front);
+                standing.know(looking.get().front.again());
+                Ok(Look { standing, looking })
+            }
+            Err(place) => Err(Seat { standing, place }),
+        }
+    }
 }
 
 impl<const N: usize, L: StationName> Look<N, L> {
@@ -84,21 +108,9 @@ impl<const N: usize, L: StationName> Look<N, L> {
     pub fn done(self) -> Seat<N, L>
         ensures { result ≡ self }
     {
-        let Look {
-            number,
-            accepted,
-            share,
-            looking,
-            front,
-        } = self;
+        let Look { standing, looking } = self;
         let place = looking.leave();
-        Seat {
-            number,
-            accepted,
-            share,
-            place,
-            front,
-        }
+        Seat { standing, place }
     }
 }
 
@@ -123,11 +135,8 @@ where
 {
     fn drop(self) {
         let Look {
-            number: _,
-            accepted: _,
-            share: _,
+            standing: _,
             looking,
-            front: _,
         } = self;
         looking.leave();
     }

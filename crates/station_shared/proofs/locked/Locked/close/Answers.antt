@@ -1,4 +1,4 @@
-use Rattle.std.proofs.Common.{◌≡◌, ◌+◌, List, [], ◌∷◌, ◌++◌, length, arith, append_assoc, append-nil, refl, sym, ap, subst, ◌∙◌, vec_len}
+use Rattle.std.proofs.Common.{◌≡◌, ◌+◌, ◌≤◌, List, [], ◌∷◌, ◌++◌, length, arith, append_assoc, append-nil, refl, sym, ap, subst, ◌∙◌, vec_len}
 use Rattle.std.specs.Prelude.{sum_by}
 use Rattle.std.specs.List.{AllByRecursion}
 use Rattle.std.proofs.lemmas.List.{nil_from_length}
@@ -9,7 +9,7 @@ use Rattle.station_journal.specs.Log.{Log, IsLegal}
 use Rattle.station_shared.specs.Closing.{Backed, Closes}
 use Rattle.station_desk.specs.Desk.{PublishedState}
 use Rattle.station_desk.specs.Start.{log_of}
-use Rattle.station_shared.specs.Seats.{Seated}
+use Rattle.station_shared.specs.Seats.{Seated, count_of, own}
 use Rattle.station_shared.proofs.CountLemmas.{count_own}
 use Rattle.station_shared.proofs.CloseLemmas.{closes}
 use Rattle.station_shared.proofs.locked.Locked.close.Goals as goal
@@ -25,15 +25,18 @@ loop-seat-preserved g c =
     let i = c.loop-seat.invariant in
     let seat = c.in-Some.seat in
     let es = c.covers.new.self.log.entries in
+    let is : c.apart-standing.result.0 ≡ seat = c.apart-standing.ensures.standing in
     let parts = c.into_parts-share.ensures in
     let same = c.covers.ensures.same in
-    let seen : IsPrefix seat.seen es = subst (λ (l : List Entry). IsPrefix l es) parts.front.1 c.covers.ensures.begins in
+    let seen : IsPrefix seat.seen es = subst (λ (l : List Entry). IsPrefix l es) (parts.front.1 ∙ ap (λ (s : Seated). s.seen) is) c.covers.ensures.begins in
+    let counted : seat.accepted ≤ count_of seat.number (own g.L.StationName.start seat.seen) = subst (λ (s : Seated). s.accepted ≤ count_of s.number (own g.L.StationName.start s.seen)) is parts.counted in
+    let amount = parts.share.1 ∙ ap (λ (s : Seated). s.accepted) is in
     let items : c.args.seats.items ≡ c.pop.new.self.items ++ (seat ∷ i.0) = i.1 ∙ (ap (λ (l : List Seated). l ++ i.0) c.in-Some.ensures.items ∙ append_assoc c.pop.new.self.items (seat ∷ []) i.0) in (
       seat ∷ i.0,
       items,
-      ((seen, omega (arith, parts.counted, count_own g.L.StationName.start seat.number seat.seen es seen)), subst (λ (s : PublishedState). AllByRecursion (Backed g.L.StationName.start s.log.entries) i.0) (sym same) i.2),
+      ((seen, omega (arith, counted, count_own g.L.StationName.start seat.number seat.seen es seen)), subst (λ (s : PublishedState). AllByRecursion (Backed g.L.StationName.start s.log.entries) i.0) (sym same) i.2),
       omega (arith, c.merge.ensures.parts, parts.share.0, i.3),
-      omega (arith, c.merge.ensures.amount, parts.share.1, i.4, sum_by-cons (λ (s : Seated). s.accepted) seat i.0),
+      omega (arith, c.merge.ensures.amount, amount, i.4, sum_by-cons (λ (s : Seated). s.accepted) seat i.0),
       same ∙ i.5,
     )
 

@@ -6,4 +6,4 @@ use Rattle.station_shared.proofs.LookLemmas.{table_looked}
 use Rattle.station_shared.proofs.look.Look.get.Goals as goal
 
 pub returns : goal.returns
-returns g c = c.get-2.ensures ∙ ap (find_row c.args.address) (ap (λ s. rows s.book) c.get.ensures ∙ table_looked g.row.N g.L.StationName.start _ _ c.args.self.now c.self.invariant.5 (ap (λ (s : Seated). s.seen) c.self.view_is))
+returns g c = c.get-2.ensures ∙ ap (find_row c.args.address) (ap (λ s. rows s.book) c.get.ensures ∙ table_looked g.row.N g.L.StationName.start _ _ c.args.self.now c.self.invariant.1 (ap (λ (s : Seated). s.seen) c.self.view_is))

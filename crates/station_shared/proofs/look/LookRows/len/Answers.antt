@@ -5,4 +5,4 @@ use Rattle.station_shared.proofs.LookLemmas.{table_looked}
 use Rattle.station_shared.proofs.look.LookRows.len.Goals as goal
 
 pub returns : goal.returns
-returns g c = c.len.ensures ∙ ap length (ap (λ s. rows s.book) c.get.ensures ∙ table_looked g.row.N g.L.StationName.start _ _ c.args.self.now c.self.invariant.5 (ap (λ (s : Seated). s.seen) c.self.view_is))
+returns g c = c.len.ensures ∙ ap length (ap (λ s. rows s.book) c.get.ensures ∙ table_looked g.row.N g.L.StationName.start _ _ c.args.self.now c.self.invariant.1 (ap (λ (s : Seated). s.seen) c.self.view_is))

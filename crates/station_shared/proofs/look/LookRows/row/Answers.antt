@@ -7,10 +7,10 @@ use Rattle.station_shared.proofs.look.LookRows.row.Goals as goal
 
 pub row-requires : goal.row-requires
 row-requires g c =
-    let same = ap length (ap (λ s. rows s.book) c.get.ensures ∙ table_looked g.row.N g.L.StationName.start _ _ c.args.self.now c.self.invariant.5 (ap (λ (s : Seated). s.seen) c.self.view_is)) in
+    let same = ap length (ap (λ s. rows s.book) c.get.ensures ∙ table_looked g.row.N g.L.StationName.start _ _ c.args.self.now c.self.invariant.1 (ap (λ (s : Seated). s.seen) c.self.view_is)) in
     (search rules, omega (arith, same, c.requires))
 
 pub returns : goal.returns
 returns g c =
-    let same = ap (λ s. rows s.book) c.get.ensures ∙ table_looked g.row.N g.L.StationName.start _ _ c.args.self.now c.self.invariant.5 (ap (λ (s : Seated). s.seen) c.self.view_is) in
+    let same = ap (λ s. rows s.book) c.get.ensures ∙ table_looked g.row.N g.L.StationName.start _ _ c.args.self.now c.self.invariant.1 (ap (λ (s : Seated). s.seen) c.self.view_is) in
     ap (λ rows. slice_get rows c.args.i) (sym same) ∙ c.row.ensures

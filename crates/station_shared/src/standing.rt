@@ -1,0 +1,108 @@
+//! What a seat keeps whether it looks or not: its number, its share of the accepted calls, and what it has seen.
+ghost use Rattle.std.specs.Prelude.{◌≡◌, ◌+◌, ◌^◌, ◌<◌, ◌≤◌};
+ghost use mathlib.Core.List.{IsPrefix};
+ghost use Rattle.station_journal.specs.Log.{IsLegal};
+ghost use Rattle.station_desk.specs.Start.{log_of};
+ghost use Rattle.station_shared.specs.Seats.{count_of, own};
+
+use crate::station_name::StationName;
+use station_desk::Front;
+use std::marker::Model;
+use std::sync::ledger::{Book as LedgerBook, Share as LedgerShare};
+
+/// A seat's number, how many of its calls were accepted, with its share of all that were, and what it has seen of the
+/// journal, which is legal.
+pub(crate) struct Standing<L: StationName> {
+    pub(crate) number: u8,
+    pub(crate) accepted: u64,
+    pub(crate) share: LedgerShare<L>,
+    pub(crate) front: Front,
+}
+
+impl<L: StationName> Model for Standing<L> {
+    ghost use Rattle.std.specs.Prelude.{◌≡◌, ◌≤◌};
+    ghost use Rattle.station_journal.specs.Log.{IsLegal};
+    ghost use Rattle.station_desk.specs.Start.{log_of};
+    ghost use Rattle.station_shared.specs.Seats.{Seated, count_of, own};
+
+    ghost Value = { Seated };
+
+    ghost view = { λ s. record {
+      number = s.number;
+      accepted = s.accepted;
+      seen = s.front.entries;
+    } };
+
+    ghost invariant = { λ s. (s.share.parts ≡ 1)
+        × (s.share.amount ≡ s.accepted)
+        × (s.front.name ≡ L.start.history)
+        × (s.accepted ≤ count_of s.number (own L.start s.front.entries))
+        × IsLegal (log_of L.start s.front.entries) };
+}
+
+impl<L: StationName> Standing<L> {
+    /// Has seen so much of the journal from now on.
+    pub(crate) fn know(&mut self, front: Front)
+        requires history { front.name ≡ L.start.history }
+        requires later { IsPrefix self.old.seen front.entries }
+        requires legal { IsLegal (log_of L.start front.entries) }
+        ensures { self.new ≡ record {
+          number = self.old.number;
+          accepted = self.old.accepted;
+          seen = front.entries;
+        } }
+    {
+        self.front = front;
+    }
+
+    /// Counts a call that was accepted, in the seat's share and in the total, and has seen so much of the journal from
+    /// now on.
+    pub(crate) fn count(&mut self, total: &mut LedgerBook<L>, front: Front)
+        requires room { self.old.accepted + 1 < 2 ^ 64 }
+        requires history { front.name ≡ L.start.history }
+        requires counted { self.old.accepted + 1 ≤ count_of self.old.number (own L.start front.entries) }
+        requires legal { IsLegal (log_of L.start front.entries) }
+        ensures standing { self.new ≡ record {
+          number = self.old.number;
+          accepted = self.old.accepted + 1;
+          seen = front.entries;
+        } }
+        ensures total { total.new.total ≡ total.old.total + 1 }
+    {
+        let Standing {
+            accepted,
+            share,
+            front: known,
+            ..
+        } = self;
+        total.add(share, 1);
+        *accepted += 1;
+        *known = front;
+    }
+
+    /// Gives up the number, and leaves the share and what was seen.
+    pub(crate) fn into_parts(self) -> (LedgerShare<L>, Front)
+        ensures share { (result.0.parts ≡ 1) × (result.0.amount ≡ self.accepted) }
+        ensures front { (result.1.name ≡ L.start.history) × (result.1.entries ≡ self.seen) }
+        ensures counted { self.accepted ≤ count_of self.number (own L.start self.seen) }
+    {
+        let Standing {
+            number: _,
+            accepted: _,
+            share,
+            front,
+        } = self;
+        (share, front)
+    }
+}
+
+impl<L: StationName> Drop for Standing<L> {
+    fn drop(self) {
+        let Standing {
+            number: _,
+            accepted: _,
+            share: _,
+            front: _,
+        } = self;
+    }
+}
