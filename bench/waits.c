@@ -1,0 +1,116 @@
+/* waits.c - how long the threads of `groundstation run` sleep for its lock, for bench/late_tables.
+ *
+ *   cc -O2 -shared -fPIC -o waits.so waits.c -ldl
+ *   WAITS_FILE=F LD_PRELOAD=./waits.so groundstation run ..
+ *
+ * F has room for 16 threads, a `struct waits` each. What a thread sleeps on futexes is summed from one step of it to the
+ * next. A step of a receiver is a read of its input, so that a sum is what the lines of one read waited for the lock. A
+ * step of the reporter is a write or a pause, so that a sum is what a tick and the look after it waited.
+ */
+#define _GNU_SOURCE
+#include <dlfcn.h>
+#include <errno.h>
+#include <fcntl.h>
+#include <linux/futex.h>
+#include <stdarg.h>
+#include <stdint.h>
+#include <stdlib.h>
+#include <sys/mman.h>
+#include <sys/syscall.h>
+#include <time.h>
+#include <unistd.h>
+
+enum { THREADS = 16, RECEIVER = 1, REPORTER = 2 };
+
+/* Times in nanoseconds. */
+struct waits {
+    int64_t kind, steps, waited, longest, all;
+};
+
+static struct waits *of_threads;
+static int threads;
+static __thread struct waits *mine;
+static __thread int64_t sum;
+static __thread int at_end;
+
+__attribute__((constructor)) static void begin(void)
+{
+    const char *name = getenv("WAITS_FILE");
+    int file = name ? open(name, O_RDWR) : -1;
+    if (file < 0) return;
+    void *room = mmap(NULL, THREADS * sizeof *of_threads, PROT_READ | PROT_WRITE, MAP_SHARED, file, 0);
+    if (room != MAP_FAILED) of_threads = room;
+    close(file);
+}
+
+static struct waits *of_this_thread(void)
+{
+    if (!mine && of_threads) {
+        int number = __atomic_fetch_add(&threads, 1, __ATOMIC_RELAXED);
+        if (number < THREADS) mine = of_threads + number;
+    }
+    return mine;
+}
+
+static void step(int kind)
+{
+    struct waits *waits = of_this_thread();
+    if (!waits) return;
+    waits->kind = kind;
+    waits->steps++;
+    waits->waited += sum > 0;
+    waits->all += sum;
+    if (sum > waits->longest) waits->longest = sum;
+    sum = 0;
+}
+
+static int64_t now(void)
+{
+    struct timespec t;
+    clock_gettime(CLOCK_MONOTONIC, &t);
+    return t.tv_sec * INT64_C(1000000000) + t.tv_nsec;
+}
+
+long syscall(long number, ...)
+{
+    static long (*real)(long, ...);
+    if (!real) real = (long (*)(long, ...))dlsym(RTLD_NEXT, "syscall");
+    va_list list;
+    long a[6];
+    va_start(list, number);
+    for (int i = 0; i < 6; i++) a[i] = va_arg(list, long);
+    va_end(list);
+    int is_wait = number == SYS_futex && (a[1] & FUTEX_CMD_MASK) != FUTEX_WAKE && !at_end;
+    int64_t begun = is_wait ? now() : 0;
+    long answer = real(number, a[0], a[1], a[2], a[3], a[4], a[5]);
+    int fault = errno;
+    if (is_wait) sum += now() - begun;
+    errno = fault;
+    return answer;
+}
+
+ssize_t read(int file, void *bytes, size_t count)
+{
+    static ssize_t (*real)(int, void *, size_t);
+    if (!real) real = (ssize_t (*)(int, void *, size_t))dlsym(RTLD_NEXT, "read");
+    step(RECEIVER);
+    ssize_t answer = real(file, bytes, count);
+    at_end = answer <= 0;
+    return answer;
+}
+
+ssize_t write(int file, const void *bytes, size_t count)
+{
+    static ssize_t (*real)(int, const void *, size_t);
+    if (!real) real = (ssize_t (*)(int, const void *, size_t))dlsym(RTLD_NEXT, "write");
+    if (!at_end) step(REPORTER);
+    return real(file, bytes, count);
+}
+
+int nanosleep(const struct timespec *time, struct timespec *left)
+{
+    static int (*real)(const struct timespec *, struct timespec *);
+    if (!real) real = (int (*)(const struct timespec *, struct timespec *))dlsym(RTLD_NEXT, "nanosleep");
+    step(REPORTER);
+    return real(time, left);
+}
