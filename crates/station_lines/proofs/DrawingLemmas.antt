@@ -9,7 +9,7 @@ use Rattle.modes_frame.specs.declared.cutter.Cut.{Cut}
 use Rattle.modes_frame.specs.Lines.{pieces, cut, cuts, last_line, pending, ended_cuts, told}
 use Rattle.modes_frame.proofs.LineLemmas.{ended-push}
 use Rattle.station_lines.specs.Source.{one_more, counted_up}
-use Rattle.station_lines.specs.Drawing.{Drawn, Ending, AtEnd, ReadFailed, TurnsOver, LineStopped, EndsAs, is_read_failed, Draws, TakesBytes, TakesLast}
+use Rattle.station_lines.specs.Drawing.{Drawn, Ending, AtEnd, ReadFailed, TurnsOver, LineStopped, EndsAs, is_read_failed, TakesBytes, TakesLast, Taken, ending_as, stopped_as, ended_by}
 
 -- ---- lines of some bytes
 
@@ -99,12 +99,6 @@ pub record GivenSoFar {X E : Type 0} (Took : X → List Cut → Result (Unit {0}
   pub bytes : Consumes left_old left_now given
   pub taken : TakesBytes Took [] given held x y (Ok tt)
 
--- the lines that a call took in the end
-pub record Taken {X E : Type 0} (Took : X → List Cut → Result (Unit {0}) E → X → Type 0) (old new : Drawn) (turns : ℕ) (ending : Ending) (x z : X) (result : Result (Unit {0}) E) : Type 0 where
-  pub lines : List Cut
-  pub draws : Draws old new turns ending lines
-  pub took : Took x lines result z
-
 pub GivenSoFar-none : {X E : Type 0} (Took : X → List Cut → Result (Unit {0}) E → X → Type 0) (left : Option (List ℕ)) (held : Cut) (x : X) → Took x [] (Ok tt) x → held ≡ pending [] → GivenSoFar Took left left held x x
 GivenSoFar-none Took left held x none h = record { given = []; bytes = Consumes-nil left; taken = TakesBytes-none Took [] held x none h }
 
@@ -189,14 +183,19 @@ module _ {X E : Type 0} (Took : X → List Cut → Result (Unit {0}) E → X →
     took = joined x y z so_far.taken.lines last.lines r so_far.taken.took last.took;
   }
 
-  pub Taken-end : (turn turns : ℕ) (z : X) → turn + 1 ≤ turns → new.reads ≡ counted_up (turn + 1) old.reads → new.ends ≡ one_more mid.ends → mid.ends ≡ old.ends → new.failures ≡ mid.failures → mid.failures ≡ old.failures
+  Taken-end : (turn turns : ℕ) (z : X) → turn + 1 ≤ turns → new.reads ≡ counted_up (turn + 1) old.reads → new.ends ≡ one_more mid.ends → mid.ends ≡ old.ends → new.failures ≡ mid.failures → mid.failures ≡ old.failures
       → Consumes mid.left new.left [] → IsAtEnd new.left → TakesLast Took so_far.given y z (Ok tt) → Taken Took old new turns AtEnd x z (Ok tt)
   Taken-end turn turns z within reads ends same_ends lost same_lost read over last =
       Taken-over AtEnd (Ok tt) turn turns z refl within reads lost same_lost read last (refl, ends ∙ ap (λ n. one_more n) same_ends, over)
 
-  pub Taken-last : (turn turns : ℕ) (z : X) (stop : E) → turn + 1 ≤ turns → new.reads ≡ counted_up (turn + 1) old.reads → new.failures ≡ mid.failures → mid.failures ≡ old.failures
+  Taken-last : (turn turns : ℕ) (z : X) (stop : E) → turn + 1 ≤ turns → new.reads ≡ counted_up (turn + 1) old.reads → new.failures ≡ mid.failures → mid.failures ≡ old.failures
       → Consumes mid.left new.left [] → TakesLast Took so_far.given y z (Err stop) → Taken Took old new turns LineStopped x z (Err stop)
   Taken-last turn turns z stop within reads lost same_lost read last = Taken-over LineStopped (Err stop) turn turns z refl within reads lost same_lost read last tt
+
+  pub Taken-close : (stopped : Result (Unit {0}) E) (turn turns : ℕ) (z : X) → turn + 1 ≤ turns → new.reads ≡ counted_up (turn + 1) old.reads → new.ends ≡ one_more mid.ends → mid.ends ≡ old.ends → new.failures ≡ mid.failures → mid.failures ≡ old.failures
+      → Consumes mid.left new.left [] → IsAtEnd new.left → TakesLast Took so_far.given y z stopped → Taken Took old new turns (ending_as (ended_by stopped)) x z (stopped_as (ended_by stopped))
+  Taken-close (Ok done) turn turns z within reads ends same_ends lost same_lost read over last = Taken-end turn turns z within reads ends same_ends lost same_lost read over last
+  Taken-close (Err stop) turn turns z within reads ends same_ends lost same_lost read over last = Taken-last turn turns z stop within reads lost same_lost read last
 
 -- all turns are over
 pub Taken-turns : {X E : Type 0} (Took : X → List Cut → Result (Unit {0}) E → X → Type 0) (old now : Drawn) (held : Cut) (x y : X) → GivenSoFar Took old.left now.left held x y

@@ -1,5 +1,5 @@
 -- Lines by kind, and what a tally counts of them.
-use Rattle.std.specs.Prelude.{◌≡◌, ◌+◌, Bool, true, false, List, Result, Ok, Err, length, count_by}
+use Rattle.std.specs.Prelude.{◌≡◌, ℕ, ◌+◌, Bool, true, false, List, Result, Ok, Err, length, count_by, if◌then◌else◌}
 use Rattle.modes_frame.specs.declared.cutter.Cut.{Cut}
 use Rattle.modes_frame.specs.declared.line.Line.TheVariants.{Frame, ModeAc, Blank}
 use Rattle.station_lines.specs.declared.command.Command.{Command}
@@ -69,3 +69,23 @@ pub record Counts (read : Cut → Result Command CommandFault) (tally : Tally) (
   pub shows_are : tally.shows ≡ count_by (λ l. is_show (read l)) lines
   pub mode_ac_are : tally.mode_ac ≡ count_by (λ l. is_mode_ac (read l)) lines
   pub blank_are : tally.blank ≡ count_by (λ l. is_blank (read l)) lines
+
+-- one line more, among so many frames and ticks, and the answer to its call
+pub record CountsCall (old new : Tally) (frames ticks : ℕ) (is_accepted : Bool) : Type 0 where
+  pub lines_more : new.lines ≡ old.lines + 1
+  pub frames_more : new.frames ≡ old.frames + frames
+  pub ticks_more : new.ticks ≡ old.ticks + ticks
+  pub shows_same : new.shows ≡ old.shows
+  pub mode_ac_same : new.mode_ac ≡ old.mode_ac
+  pub blank_same : new.blank ≡ old.blank
+  pub accepted : new.accepted ≡ old.accepted + (if is_accepted then 1 else 0)
+
+-- one line more that makes no call, among so many questions for the table, blanks and Mode A/C replies, or a fault
+pub record CountsNoCall (old new : Tally) (shows blanks mode_acs : ℕ) : Type 0 where
+  pub lines_more : new.lines ≡ old.lines + 1
+  pub frames_same : new.frames ≡ old.frames
+  pub ticks_same : new.ticks ≡ old.ticks
+  pub shows_more : new.shows ≡ old.shows + shows
+  pub mode_ac_more : new.mode_ac ≡ old.mode_ac + mode_acs
+  pub blank_more : new.blank ≡ old.blank + blanks
+  pub accepted_same : new.accepted ≡ old.accepted

@@ -1,10 +1,12 @@
 -- The lines that a call takes of what its source gives.
-use Rattle.std.specs.Prelude.{◌≡◌, ℕ, ◌≤◌, Bool, true, false, not, List, [], ◌++◌, Option, Result, OnOk}
+use Rattle.std.specs.Prelude.{◌≡◌, ℕ, ◌≤◌, Bool, true, false, not, List, [], ◌++◌, Option, Result, Ok, Err, OnOk}
 use Rattle.std.specs.Io.KnownBytes.{Consumes, IsAtEnd}
 use Rattle.modes_frame.specs.declared.cutter.Cut.{Cut}
 use Rattle.modes_frame.specs.Lines.{cuts, ended_cuts, pending}
 use Rattle.station_report.specs.Sink.{counted}
 use Rattle.station_lines.specs.Source.{one_more, counted_up}
+use Rattle.station_lines.specs.declared.taking.Ended.{Ended}
+use Rattle.station_lines.specs.declared.taking.Ended.TheVariants as Ends
 
 -- what a source has left, where that is known, and what it has counted
 pub record Drawn : Type 0 where
@@ -63,3 +65,28 @@ pub record TakesLast {X E : Type 0} (Took : X → List Cut → Result (Unit {0})
   pub lines : List Cut
   pub all_told : cuts before ≡ ended_cuts before ++ lines
   pub took : Took x lines result y
+
+-- the lines that a call took in the end, as Took says, of what its source gave
+pub record Taken {X E : Type 0} (Took : X → List Cut → Result (Unit {0}) E → X → Type 0) (old new : Drawn) (turns : ℕ) (ending : Ending) (x z : X) (result : Result (Unit {0}) E) : Type 0 where
+  pub lines : List Cut
+  pub draws : Draws old new turns ending lines
+  pub took : Took x lines result z
+
+-- the answer of a call that takes lines says this ending
+abbrev pub ending_as : {E : Type 0} → Ended E → Ending
+ending_as Ends.AtEnd = AtEnd
+ending_as Ends.ReadFailed = ReadFailed
+ending_as Ends.TurnsOver = TurnsOver
+ending_as (Ends.Stopped stop) = LineStopped
+
+-- and whether a line stopped it
+abbrev pub stopped_as : {E : Type 0} → Ended E → Result (Unit {0}) E
+stopped_as Ends.AtEnd = Ok tt
+stopped_as Ends.ReadFailed = Ok tt
+stopped_as Ends.TurnsOver = Ok tt
+stopped_as (Ends.Stopped stop) = Err stop
+
+-- what ended a call whose source gave its end, where its last line answered so
+abbrev pub ended_by : {E : Type 0} → Result (Unit {0}) E → Ended E
+ended_by (Ok done) = Ends.AtEnd
+ended_by (Err stop) = Ends.Stopped stop

@@ -2,7 +2,9 @@ pub mod Calls
 pub mod Command
 pub mod CommandRules
 pub mod Counting
+pub mod CountingLaws
 pub mod Drawing
 pub mod Feeds
 pub mod Pump
+pub mod PumpLaws
 pub mod Source

@@ -7,12 +7,14 @@ use Rattle.modes_frame.specs.declared.line.Line.TheVariants.{Frame}
 use Rattle.station_journal.specs.declared.refusal.Refusal.{Refusal}
 use Rattle.station_journal.specs.declared.refusal.Refusal.TheVariants.{NoMemory}
 use Rattle.station_lines.specs.Calls.{heard, frames_of}
-use Rattle.station_lines.specs.Counting.{CountsLines, Counts}
+use Rattle.station_lines.specs.Counting.{CountsCall, CountsLines, Counts}
 use Rattle.station_lines.specs.Drawing.{Drawn, Ending, AtEnd, ReadFailed, TurnsOver, LineStopped, Draws}
 use Rattle.station_lines.specs.Feeds.{Feeds, is_reply}
 use Rattle.station_lines.specs.declared.command.Command.TheVariants.{Line as Received}
 use Rattle.station_lines.specs.declared.pumping.PumpFault.{PumpFault}
 use Rattle.station_lines.specs.declared.pumping.PumpFault.TheVariants as Faults
+use Rattle.station_lines.specs.declared.taking.Ended.{Ended}
+use Rattle.station_lines.specs.declared.taking.Ended.TheVariants as Ends
 use Rattle.station_lines.specs.declared.tally.Tally.{Tally}
 
 -- the last of these lines has a frame, whose answer, the last of these, is want of memory; the others are not
@@ -53,20 +55,16 @@ pub record PumpsFrame {F : Type 0} (gives : F → List ℕ → Result (Unit {0})
   pub answer : Result (Unit {0}) Refusal
   pub fed : gives before frame answer after
   pub stops : result ≡ stop_after answer
-  pub lines_more : new.lines ≡ old.lines + 1
-  pub frames_more : new.frames ≡ old.frames + 1
-  pub ticks_same : new.ticks ≡ old.ticks
-  pub shows_same : new.shows ≡ old.shows
-  pub mode_ac_same : new.mode_ac ≡ old.mode_ac
-  pub blank_same : new.blank ≡ old.blank
-  pub accepted : new.accepted ≡ old.accepted + (if is_ok answer then 1 else 0)
+  pub counts : CountsCall old new 1 0 (is_ok answer)
 
 -- ---- the whole pump
 
--- the answer of a pump whose lines are over, with what was counted
-abbrev pub answer_of : Result (Unit {0}) AllocError → Tally → Result Tally PumpFault
-answer_of (Ok done) tally = Ok tally
-answer_of (Err want) tally = Err (Faults.NoMemory tally)
+-- the answer of a pump that ended so, with what was counted
+abbrev pub answer_of : Ended AllocError → Tally → Result Tally PumpFault
+answer_of Ends.AtEnd tally = Ok tally
+answer_of Ends.ReadFailed tally = Err (Faults.Read tally)
+answer_of Ends.TurnsOver tally = Err (Faults.TooManyTurns tally)
+answer_of (Ends.Stopped want) tally = Err (Faults.NoMemory tally)
 
 -- what was counted, whatever the answer
 abbrev pub tally_of_pump : Result Tally PumpFault → Tally

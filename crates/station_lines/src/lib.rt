@@ -2,10 +2,12 @@
 #![tactic(auto)]
 
 pub mod command;
+mod counting;
 pub mod feed;
 pub mod from_read;
 pub mod pumping;
 pub mod source;
+pub mod taking;
 pub mod tally;
 
 pub use command::{Command, CommandFault, read_command, read_command_short};
@@ -13,4 +15,5 @@ pub use feed::Feed;
 pub use from_read::FromRead;
 pub use pumping::{PumpFault, pump};
 pub use source::Source;
+pub use taking::{Ended, FrameTaker, LineTaker, PieceTaker, take_each, take_lines};
 pub use tally::Tally;

@@ -12,7 +12,7 @@ use Rattle.station_book.specs.declared.decoded_entry.DecodedEntry.TheVariants.{H
 use Rattle.station_journal.specs.declared.refusal.Refusal.{Refusal}
 use Rattle.station_shared.specs.LinesAhead.{told_of, told_all, Tells, TakesFront}
 use Rattle.station_lines.specs.Calls.{heard, frame_in}
-use Rattle.station_lines.specs.Counting.{is_frame, is_mode_ac, is_blank}
+use Rattle.station_lines.specs.Counting.{is_frame, is_mode_ac, is_blank, CountsNoCall}
 use Rattle.station_lines.specs.Drawing.{TakesBytes}
 use Rattle.station_lines.specs.Pump.{Pumps}
 use Rattle.station_shared.specs.declared.lines_ahead.LineAhead.{LineAhead}
@@ -73,21 +73,21 @@ told_fault (Err fault) e = record { no_frame = refl; frames = refl; mode_acs = r
 
 -- ---- a line that says nothing
 
-pub Pumps-quiet : {F : Type 0} (gives : F → List ℕ → Result (Unit {0}) Refusal → F → Type 0) (x : F) (line : Cut) (s t : Tally) → IsQuiet (heard line) → t.lines ≡ s.lines + 1 → t.frames ≡ s.frames → t.ticks ≡ s.ticks → t.shows ≡ s.shows → t.mode_ac ≡ s.mode_ac → t.blank ≡ s.blank → t.accepted ≡ s.accepted
+pub Pumps-quiet : {F : Type 0} (gives : F → List ℕ → Result (Unit {0}) Refusal → F → Type 0) (x : F) (line : Cut) (s t : Tally) → IsQuiet (heard line) → CountsNoCall s t 0 0 0
     → Pumps gives (record { feed = x; tally = s }) (line ∷ []) (Ok tt) (record { feed = x; tally = t })
-Pumps-quiet gives x line s t quiet lines frames ticks shows mode_ac blank accepted = record {
+Pumps-quiet gives x line s t quiet counts = record {
   answers = [];
   feeds = rw quiet.no_frame refl;
   wants = refl;
   counts = record {
-    lines_more = lines;
-    frames_more = rw quiet.frames (omega (arith, frames));
-    ticks_more = rw (no_tick line) (omega (arith, ticks));
-    shows_more = rw (no_show line) (omega (arith, shows));
-    mode_ac_more = rw quiet.mode_acs (omega (arith, mode_ac));
-    blank_more = rw quiet.blanks (omega (arith, blank));
+    lines_more = counts.lines_more;
+    frames_more = rw quiet.frames (omega (arith, counts.frames_same));
+    ticks_more = rw (no_tick line) (omega (arith, counts.ticks_same));
+    shows_more = rw (no_show line) (omega (arith, counts.shows_more));
+    mode_ac_more = rw quiet.mode_acs (omega (arith, counts.mode_ac_more));
+    blank_more = rw quiet.blanks (omega (arith, counts.blank_more));
   };
-  accepted = omega (arith, accepted);
+  accepted = omega (arith, counts.accepted_same);
 }
 
 -- ---- lines of some bytes

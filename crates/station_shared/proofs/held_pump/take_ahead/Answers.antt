@@ -8,7 +8,7 @@ use Rattle.station_lines.specs.Calls.{heard}
 use Rattle.station_lines.specs.Pump.{Pumps}
 use Rattle.station_shared.specs.Workers.{SeatSteps}
 use Rattle.station_shared.proofs.AheadLemmas.{told_line, line_more}
-use Rattle.station_lines.proofs.PumpLemmas.{Pumps-then}
+use Rattle.station_lines.specs.PumpLaws.{Pumps-then}
 use Rattle.station_shared.proofs.held_pump.take_ahead.Goals as goal
 
 pub take_told-requires : goal.take_told-requires

@@ -1,4 +1,4 @@
-use Rattle.std.proofs.Common.{refl, sym, ◌∙◌}
+use Rattle.std.proofs.Common.{sym, ◌∙◌}
 use Rattle.station_lines.specs.Calls.{heard}
 use Rattle.station_shared.specs.Workers.{SeatSteps}
 use Rattle.station_shared.proofs.AheadLemmas.{told_frame, told_fault, Pumps-quiet}
@@ -12,4 +12,4 @@ returns-in-Frame g c line h =
 
 pub returns-in-Fault : goal.returns-in-Fault
 returns-in-Fault g c line h =
-    Pumps-quiet (SeatSteps g.L.StationName.start) _ line _ _ (told_fault (heard line) (sym c.in-Fault.is ∙ h)) refl refl refl refl refl refl refl
+    Pumps-quiet (SeatSteps g.L.StationName.start) _ line _ _ (told_fault (heard line) (sym c.in-Fault.is ∙ h)) c.fault.ensures

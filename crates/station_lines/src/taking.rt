@@ -1,0 +1,177 @@
+//! Lines taken one after another: what takes them, and the loops that bring them to it.
+ghost use Rattle.std.specs.Prelude.{◌≡◌, ℕ, ◌+◌, ◌^◌, ◌<◌, ◌≤◌, List, length};
+ghost use Rattle.modes_frame.specs.Lines.{pending};
+ghost use Rattle.station_lines.specs.Drawing.{TakesBytes, TakesLast, Taken, drawn_of, ended_by, ending_as, stopped_as};
+
+use crate::source::Source;
+use modes_frame::{Cut, Cutter, Frame, LineReader};
+use std::sync::Wait;
+
+/// Takes lines one after another, and counts them.
+pub trait LineTaker {
+    ghost use Rattle.std.specs.Prelude.{◌≡◌, ℕ, ◌+◌, ◌^◌, ◌<◌, ◌≤◌, List, [], ◌∷◌, ◌++◌, Result, Ok};
+    ghost use Rattle.modes_frame.specs.declared.cutter.Cut.{Cut};
+
+    /// Why no further line is taken.
+    type Stop;
+
+    /// What took lines before and after them, and whether the last of them stopped it.
+    ghost took: { Self → List Cut → Result (Unit {0}) Self.Stop → Self → Type 0 };
+
+    /// How many lines it has counted.
+    ghost counted: { Self → ℕ };
+
+    /// Takes one line.
+    fn take_line<R: Wait>(
+        &mut self,
+        rt: &R,
+        lines: &LineReader,
+        cut: &Cut,
+    ) -> Result<(), Self::Stop>
+        requires room { counted self.old + 1 < 2 ^ 64 }
+        ensures counted { counted self.new ≤ counted self.old + 1 }
+        ensures taken { took self.old (cut.now ∷ []) result self.new };
+
+    /// Where there are no lines, nothing changes.
+    ghost none: { (x : Self) → took x [] (Ok tt) x };
+
+    /// Lines taken after others are taken with them.
+    ghost then: { (x y z : Self) (cs ds : List Cut) (r : Result (Unit {0}) Self.Stop)
+        → took x cs (Ok tt) y → took y ds r z → took x (cs ++ ds) r z };
+}
+
+/// Takes the frames of lines that were read where they lay.
+pub trait FrameTaker: LineTaker {
+    ghost use Rattle.std.specs.Prelude.{◌≡◌, ℕ, ◌+◌, ◌^◌, ◌<◌, ◌≤◌, List, [], ◌∷◌, Ok};
+    ghost use Rattle.modes_frame.specs.declared.cutter.Cut.TheVariants.{Whole};
+    ghost use Rattle.modes_frame.specs.declared.line.Line.TheVariants as Lines;
+    ghost use Rattle.modes_frame.specs.Reading.{reading_of};
+
+    /// Takes the line that says this frame.
+    fn take_frame<R: Wait>(&mut self, rt: &R, frame: Frame) -> Result<(), Self::Stop>
+        requires room { Self.counted self.old + 1 < 2 ^ 64 }
+        ensures counted { Self.counted self.new ≤ Self.counted self.old + 1 }
+        ensures taken { (line : List ℕ) → reading_of line ≡ Ok (Lines.Frame frame) →
+            Self.took self.old (Whole line ∷ []) result self.new };
+}
+
+/// Takes the lines of a piece of a source's bytes.
+pub trait PieceTaker: LineTaker {
+    ghost use Rattle.std.specs.Prelude.{◌≡◌, ℕ, ◌+◌, ◌^◌, ◌<◌, ◌≤◌, List, length};
+    ghost use Rattle.modes_frame.specs.Lines.{pending};
+    ghost use Rattle.station_lines.specs.Drawing.{TakesBytes};
+
+    /// Takes the lines that these bytes end, where the cutter holds what came before them.
+    fn take_piece<R: Wait>(
+        &mut self,
+        rt: &R,
+        cutter: &mut Cutter,
+        lines: &LineReader,
+        bytes: &[u8],
+    ) -> Result<(), Self::Stop>
+        requires room { Self.counted self.old + length bytes.now < 2 ^ 64 }
+        requires begun { (before : List ℕ) × (cutter.old ≡ pending before) }
+        ensures counted { Self.counted self.new ≤ Self.counted self.old + length bytes.now }
+        ensures taken { (before : List ℕ) → cutter.old ≡ pending before →
+            TakesBytes Self.took before bytes.now cutter.new self.old self.new result };
+}
+
+/// Why no further line was taken.
+#[derive(Clone, Copy, Debug, PartialEq, Eq)]
+pub enum Ended<E> {
+    /// The source gave its end.
+    AtEnd,
+    /// A read failed.
+    ReadFailed,
+    /// All turns were over.
+    TurnsOver,
+    /// A line stopped it.
+    Stopped(E),
+}
+
+/// Takes the lines that these bytes end one by one, the plain ones where they lie.
+pub fn take_each<T: FrameTaker, R: Wait>(
+    rt: &R,
+    taker: &mut T,
+    cutter: &mut Cutter,
+    lines: &LineReader,
+    bytes: &[u8],
+) -> Result<(), T::Stop>
+    requires room { T.counted taker.old + length bytes.now < 2 ^ 64 }
+    ensures counted { T.counted taker.new ≤ T.counted taker.old + length bytes.now }
+    ensures taken { (before : List ℕ) → cutter.old ≡ pending before →
+        TakesBytes T.took before bytes.now cutter.new taker.old taker.new result }
+{
+    let mut at = 0;
+    while at < bytes.len() {
+        if let Some(plain) = cutter.plain_line(lines, &bytes[at..]) {
+            at += plain.length;
+            taker.take_frame(rt, plain.frame)?;
+            continue;
+        }
+        let (taken, cut) = cutter.push_line(&bytes[at..]);
+        at += taken;
+        match cut {
+            Some(cut) => taker.take_line(rt, lines, &cut)?,
+            None => {}
+        }
+    }
+    Ok(())
+}
+
+// Takes the last line, which no line feed ended, if it isn't empty.
+fn take_last<T: LineTaker, R: Wait>(
+    rt: &R,
+    taker: &mut T,
+    cutter: &mut Cutter,
+    lines: &LineReader,
+) -> Result<(), T::Stop>
+    requires room { T.counted taker.old + 1 < 2 ^ 64 }
+    ensures taken { (before : List ℕ) → cutter.old ≡ pending before →
+        TakesLast T.took before taker.old taker.new result }
+{
+    match cutter.finish() {
+        Some(cut) => taker.take_line(rt, lines, &cut),
+        None => Ok(()),
+    }
+}
+
+// What ended a call whose source gave its end: that, or its last line.
+fn after_the_last<E>(stopped: Result<(), E>) -> Ended<E>
+    ensures { result ≡ ended_by stopped }
+{
+    match stopped {
+        Ok(()) => Ended::AtEnd,
+        Err(stop) => Ended::Stopped(stop),
+    }
+}
+
+/// Takes the lines of a source in their order: at most `turns` reads of up to 512 bytes, up to the end of the source,
+/// whose last line may lack its line feed. After a fault, a line that hasn't ended is dropped.
+pub fn take_lines<T: PieceTaker, S: Source, R: Wait>(
+    rt: &R,
+    taker: &mut T,
+    from: &mut S,
+    turns: u32,
+) -> Ended<T::Stop>
+    requires new { T.counted taker.old ≡ 0 }
+    ensures { Taken T.took
+        (drawn_of S.left S.reads S.ends S.failures from.old)
+        (drawn_of S.left S.reads S.ends S.failures from.new)
+        turns (ending_as result) taker.old taker.new (stopped_as result) }
+{
+    let mut cutter = Cutter::new();
+    let lines = LineReader::new();
+    let mut buffer = [0u8; 512];
+    for _turn in 0..turns {
+        match from.read(&mut buffer) {
+            Err(_) => return Ended::ReadFailed,
+            Ok(0) => return after_the_last(take_last(rt, taker, &mut cutter, &lines)),
+            Ok(count) => match taker.take_piece(rt, &mut cutter, &lines, &buffer[..count]) {
+                Ok(()) => {}
+                Err(stop) => return Ended::Stopped(stop),
+            },
+        }
+    }
+    Ended::TurnsOver
+}
