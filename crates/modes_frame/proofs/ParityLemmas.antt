@@ -1,15 +1,14 @@
 -- Long division goes together with exclusive or, and so byte by byte.
-use Rattle.std.proofs.Common.{◌≡◌, ℕ, suc, ◌+◌, ◌-◌, ◌*◌, ◌/◌, ◌%◌, ◌^◌, ◌<◌, ◌≤◌, ◌==◌, Bool, true, false, List, [], ◌∷◌, ◌++◌, fold, length, replicate, refl, ap, sym, ◌∙◌, inl, inr, ◌⊎◌, arith, eqb-true, subst, append-nil, get_or, take, drop, take-append-drop}
+use Rattle.std.proofs.Common.{◌≡◌, ℕ, suc, ◌+◌, ◌-◌, ◌*◌, ◌/◌, ◌%◌, ◌^◌, ◌<◌, ◌≤◌, ◌==◌, Bool, true, false, List, [], ◌∷◌, ◌++◌, fold, length, replicate, refl, ap, sym, ◌∙◌, inl, inr, ◌⊎◌, arith, eqb-true, subst, append-nil, get_or}
 use Rattle.std.specs.Int.Bits.{bit_xor, xor_assoc, xor_self, xor_zero_l, xor_zero_r}
 use Rattle.std.proofs.lemmas.Nat.{xor_comm, xor_lt}
 use Rattle.std.proofs.lemmas.Nat.Bits.{same_from_bits, bit_at_xor, bit_at_cat_low, bit_at_cat_high}
 use Rattle.std.proofs.Math.Nat.{two-pow-succ, one-le-pow}
 use Rattle.std.proofs.lemmas.Bool.{cases_lt}
-use Rattle.std.proofs.lemmas.List.{drop_more, drop_all}
 use Rattle.std.proofs.lemmas.List.Sums.{fold-append}
 use Rattle.std.proofs.lemmas.Grind.{flat_map-append}
 use Rattle.modes_frame.proofs.AllByteLemmas.{all_of_width, all_of_width-at}
-use Rattle.modes_frame.proofs.NumberLemmas.{number-after, number-three, length-byte_bits}
+use Rattle.modes_frame.proofs.NumberLemmas.{number-after, length-byte_bits}
 use Rattle.modes_frame.specs.Frames.{byte_bits, bits_of, brought_down, generator, reduced, divide, remainder_of, parity_of}
 
 -- ---- exclusive or of numbers in two parts
@@ -229,38 +228,6 @@ parity-more bytes b lb =
     ∙ sym (xor_assoc (parity_of (h ∷ [])) (parity_of (b ∷ [])) (l * 256))
     ∙ ap (λ n. bit_xor n (l * 256)) (sym (entry-xor h b lh lb))
 
-three-length : (a b c : ℕ) → length (byte_bits a ++ (byte_bits b ++ byte_bits c)) ≡ 24
-unfolding byte_bits
-three-length a b c = refl
-
--- the last three bytes are joined to the parity of those before them
-pub remainder-last : (bytes : List ℕ) (a b c : ℕ) → a < 256 → b < 256 → c < 256
-    → remainder_of (bytes ++ a ∷ b ∷ c ∷ []) ≡ bit_xor (parity_of bytes) (a * 65536 + b * 256 + c)
-remainder-last bytes a b c la lb lc =
-    let rest = remainder_of bytes in
-    let last : List Bool = byte_bits a ++ (byte_bits b ++ byte_bits c) in
-    let few : length last ≡ 24 = three-length a b c in
-    let more : bits_of (bytes ++ a ∷ b ∷ c ∷ []) ≡ bits_of bytes ++ last =
-    flat_map-append byte_bits bytes (a ∷ b ∷ c ∷ []) ∙ ap (λ bits. bits_of bytes ++ (byte_bits a ++ (byte_bits b ++ bits))) (append-nil (byte_bits c)) in
-    ap (λ bits. fold divide 0 bits) more ∙ fold-append divide 0 (bits_of bytes) last
-    ∙ ap (λ n. fold divide n last) (sym (xor_zero_r rest))
-    ∙ divided-xor last rest 0 (remainder-lt bytes) (omega arith)
-    ∙ (λ i. bit_xor (fold divide rest (replicate (few i) false)) (undivided last 0 (subst (λ (n : ℕ). (0 + 1) * 2 ^ n ≤ 2 ^ 24) (sym few) (omega arith)) i))
-    ∙ (λ i. bit_xor (sym (parity-is bytes) i) (number-three a b c la lb lc i))
-
 -- a table of the parity of each byte
 pub table-at : (table : List ℕ) → all_of_width 8 (λ k. get_or table k 0 == parity_of (k ∷ [])) ≡ true → (k : ℕ) → k < 256 → get_or table k 0 ≡ parity_of (k ∷ [])
 table-at table all k h = eqb-true _ _ (all_of_width-at 8 (λ k. get_or table k 0 == parity_of (k ∷ [])) all k h)
-
--- the last three bytes in their places
-pub remainder-parts : (bytes : List ℕ) (n : ℕ) → n + 3 ≡ length bytes → get_or bytes n 0 < 256 → get_or bytes (n + 1) 0 < 256 → get_or bytes (n + 2) 0 < 256
-    → bit_xor (parity_of (take n bytes)) (get_or bytes n 0 * 65536 + get_or bytes (n + 1) 0 * 256 + get_or bytes (n + 2) 0) ≡ remainder_of bytes
-remainder-parts bytes n count la lb lc =
-    let third : drop (n + 2) bytes ≡ get_or bytes (n + 2) 0 ∷ [] =
-    drop_more bytes (n + 2) 0 (omega arith) ∙ ap (λ l. get_or bytes (n + 2) 0 ∷ l) (drop_all (n + 2 + 1) bytes (omega arith)) in
-    let second : drop (n + 1) bytes ≡ get_or bytes (n + 1) 0 ∷ get_or bytes (n + 2) 0 ∷ [] =
-    drop_more bytes (n + 1) 0 (omega arith) ∙ ap (λ l. get_or bytes (n + 1) 0 ∷ l) (ap (λ k. drop k bytes) (let e : n + 1 + 1 ≡ n + 2 = omega arith in e) ∙ third) in
-    let last : drop n bytes ≡ get_or bytes n 0 ∷ get_or bytes (n + 1) 0 ∷ get_or bytes (n + 2) 0 ∷ [] =
-    drop_more bytes n 0 (omega arith) ∙ ap (λ l. get_or bytes n 0 ∷ l) second in
-    sym (remainder-last (take n bytes) (get_or bytes n 0) (get_or bytes (n + 1) 0) (get_or bytes (n + 2) 0) la lb lc)
-    ∙ ap remainder_of (ap (λ l. take n bytes ++ l) (sym last) ∙ take-append-drop n bytes)

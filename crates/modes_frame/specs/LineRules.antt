@@ -3,6 +3,7 @@ use Rattle.std.specs.Prelude.{◌≡◌, ◌≢◌, ℕ, ◌+◌, ◌*◌, ◌<�
 use Rattle.std.specs.List.{All}
 use Rattle.hex.specs.Hex.{hex_digit_value, is_hex_digit}
 use Rattle.modes_frame.specs.Frames.{IsFrame, df_of}
+use Rattle.modes_frame.specs.Lines.{longest_line}
 use Rattle.modes_frame.specs.Reading.{is_blank}
 use Rattle.modes_frame.specs.declared.line.Line.{Line}
 use Rattle.modes_frame.specs.declared.line.Line.TheVariants.{Frame, ModeAc, Blank}
@@ -79,4 +80,4 @@ Says rest (Err (WrongLength df)) = (bytes : List ℕ) × Carries rest bytes × (
 
 -- the one answer to a whole line
 abbrev pub Reads : List ℕ → Result Line LineFault → Type 0
-Reads line answer = ((64 < length line) × (answer ≡ Err TooLong)) ⊎ ((length line ≤ 64) × ((rest : List ℕ) × IsTrimmed line rest × Says rest answer))
+Reads line answer = ((longest_line < length line) × (answer ≡ Err TooLong)) ⊎ ((length line ≤ longest_line) × ((rest : List ℕ) × IsTrimmed line rest × Says rest answer))

@@ -3,6 +3,10 @@ use Rattle.std.specs.Prelude.{ℕ, ◌==◌, nat_le, nat_lt, List, [], ◌∷◌
 use Rattle.modes_frame.specs.declared.cutter.Cut.{Cut}
 use Rattle.modes_frame.specs.declared.cutter.Cut.TheVariants.{Whole, TooLong}
 
+-- the most bytes that a line may have, blanks at its ends included
+abbrev pub longest_line : ℕ
+longest_line = 64
+
 -- the pieces that a line feed ends, and the piece after the last of them
 pub record Pieces : Type 0 where
   pub ended : List (List ℕ)
@@ -18,9 +22,9 @@ pieces [] = record { ended = []; rest = [] }
 pieces (c ∷ cs) = if c == 10 then record { ended = [] ∷ (pieces cs).ended; rest = (pieces cs).rest }
     else onto c (pieces cs).ended (pieces cs).rest
 
--- a line of more than 64 bytes is too long
+-- a longer line is too long
 abbrev pub cut : List ℕ → Cut
-cut line = if nat_le (length line) 64 then Whole line else TooLong
+cut line = if nat_le (length line) longest_line then Whole line else TooLong
 
 -- the last piece is a line where it isn't empty
 abbrev pub last_line : List ℕ → List (List ℕ)
@@ -41,7 +45,7 @@ pending bytes = cut (pieces bytes).rest
 -- ---- byte by byte
 
 abbrev pub grown : Cut → ℕ → Cut
-grown (Whole line) byte = if nat_lt (length line) 64 then Whole (line ++ byte ∷ []) else TooLong
+grown (Whole line) byte = if nat_lt (length line) longest_line then Whole (line ++ byte ∷ []) else TooLong
 grown TooLong byte = TooLong
 
 abbrev pub after : Cut → ℕ → Cut

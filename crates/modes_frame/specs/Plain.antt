@@ -3,7 +3,7 @@ use Rattle.std.specs.Prelude.{◌≡◌, ◌≢◌, ℕ, ◌<◌, ◌≤◌, Lis
 use Rattle.modes_frame.specs.declared.cutter.Cut.{Cut}
 use Rattle.modes_frame.specs.declared.cutter.Cut.TheVariants.{Whole}
 use Rattle.modes_frame.specs.declared.line.Line.TheVariants.{Frame}
-use Rattle.modes_frame.specs.Lines.{ended_cuts, pending}
+use Rattle.modes_frame.specs.Lines.{ended_cuts, longest_line, pending}
 use Rattle.modes_frame.specs.Reading.{reading_of}
 
 -- these bytes are a line and its line feed, and the line says this frame
@@ -11,7 +11,7 @@ pub record IsFrameLine (bytes frame : List ℕ) : Type 0 where
   pub line : List ℕ
   pub parts : bytes ≡ line ++ 10 ∷ []
   pub no_line_feed : (k : ℕ) → k < length line → slice_index line k ≢ 10
-  pub short : length line ≤ 64
+  pub short : length line ≤ longest_line
   pub says : reading_of line ≡ Ok (Frame frame)
 
 -- these bytes, after any that leave a cutter so, end one line, which says this frame, and leave the cutter so again

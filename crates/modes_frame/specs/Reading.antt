@@ -5,6 +5,7 @@ use Rattle.hex.specs.Hex.{decode_pairs}
 use Rattle.hex.specs.declared.error.FromHexError.{FromHexError}
 use Rattle.hex.specs.declared.error.FromHexError.TheVariants.{InvalidHexCharacter, OddLength, InvalidStringLength, OutOfMemory}
 use Rattle.modes_frame.specs.Frames.{df_of}
+use Rattle.modes_frame.specs.Lines.{longest_line}
 use Rattle.modes_frame.specs.declared.line.Line.{Line}
 use Rattle.modes_frame.specs.declared.line.Line.TheVariants.{Frame, ModeAc, Blank}
 use Rattle.modes_frame.specs.declared.line.LineFault.{LineFault}
@@ -66,7 +67,7 @@ line_of (start ∷ rest) = if is_start start then body_of start rest else Err No
 
 -- what a whole line says: one of more than 64 bytes is too long, blanks included
 abbrev pub reading_of : List ℕ → Result Line LineFault
-reading_of line = if nat_lt 64 (length line) then Err Faults.TooLong else line_of (trimmed line)
+reading_of line = if nat_lt longest_line (length line) then Err Faults.TooLong else line_of (trimmed line)
 
 -- ---- the digits' bytes
 

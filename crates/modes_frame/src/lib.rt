@@ -14,9 +14,9 @@ pub mod readers;
 
 pub use blanks::trim_blanks;
 pub use claims::{CheckFault, Claim};
-pub use cutter::{Cut, Cutter, LineBuf};
+pub use cutter::{Cut, Cutter, LineBuf, MAX_LINE};
 pub use frame::Frame;
-pub use line::{Line, LineFault, LineReader, MAX_LINE, read_line};
+pub use line::{Line, LineFault, LineReader, read_line};
 pub use parity::remainder;
 pub use plain::PlainLine;
 

@@ -1,9 +1,9 @@
 //! Parity with a table for each place of a byte: no look-up waits for another.
 ghost use Rattle.std.specs.Prelude.{◌≡◌, ◌≤◌, ◌<◌, ◌+◌, ◌^◌, ◌∷◌, length, replicate};
-ghost use Rattle.modes_frame.specs.Frames.{bits_of, number_of, remainder_of, parity_of};
+ghost use Rattle.modes_frame.specs.Frames.{remainder_of, parity_of};
 
 use crate::frame::Frame;
-use crate::parity::parity_of_byte;
+use crate::parity::{parity_of_byte, sent};
 
 /// What `remainder` gives, by as many look-ups, which go on side by side.
 pub(crate) fn remainder_by_place(frame: &Frame) -> u32
@@ -63,15 +63,6 @@ pub(crate) fn parity_before(after: usize, byte: u8) -> u32
         9 => BEFORE_9[index],
         _ => BEFORE_10[index],
     }
-}
-
-/// The number that the last three bytes write.
-#[inline(always)]
-fn sent(bytes: &[u8]) -> u32
-    requires { length bytes.now ≡ 3 }
-    ensures { result ≡ number_of (bits_of bytes.now) }
-{
-    u32::from(bytes[0]) * 0x1_0000 + u32::from(bytes[1]) * 0x100 + u32::from(bytes[2])
 }
 
 // All sums of some numbers by exclusive or: at index k that of those whose bit k has, the first's bit the lowest.

@@ -1,5 +1,6 @@
 //! Sources and sinks for tests.
 ghost use Rattle.std.specs.Prelude.{◌≡◌, ◌≤◌, None};
+ghost use Rattle.station_journal.specs.Log.{most_entries};
 
 use crate::desk::Desk;
 use arrayvec::ArrayVec;
@@ -159,7 +160,7 @@ impl Sink for Stumbler {
 /// A desk without entries. Where it wants memory, it is made once more.
 pub fn new_desk<const N: usize>(rt: &impl Abort, alloc: Global, limits: Limits) -> Desk<N>
     requires aircraft { limits.aircraft ≡ N }
-    requires entries { limits.entries ≤ 16777216 }
+    requires entries { limits.entries ≤ most_entries }
 {
     match Desk::new(alloc, limits) {
         Ok(desk) => desk,

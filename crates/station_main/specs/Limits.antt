@@ -1,10 +1,11 @@
 -- The limits of the program.
 use Rattle.std.specs.Prelude.{ℕ, ◌-◌, ◌^◌}
+use Rattle.station_journal.specs.Log.{most_entries}
 use Rattle.station_journal.specs.declared.limits.Limits.{Limits}
 
 -- 16,777,216 entries in the journal, and 512 aircraft live at once
 abbrev pub program_limits : Limits
-program_limits = record { entries = 16777216; aircraft = 512 }
+program_limits = record { entries = most_entries; aircraft = 512 }
 
 -- one input is read so often at most
 abbrev pub most_reads : ℕ

@@ -1,13 +1,13 @@
 //! The limits of the program.
-use station_journal::Limits;
+use station_journal::{Limits, MOST_ENTRIES};
 
 /// How many aircraft may be live.
 pub const AIRCRAFT: usize = 512;
 
 /// How many entries the journal may hold, and how many aircraft may be live.
 pub const LIMITS: Limits = Limits {
-    entries: 16_777_216,
-    aircraft: 512,
+    entries: MOST_ENTRIES,
+    aircraft: AIRCRAFT as u32,
 };
 
 /// How many reads of one input are made at most.

@@ -15,9 +15,7 @@ ghost use Rattle.station_book.specs.Matching.{Matches, book_after};
 
 use crate::Book;
 use crate::decoded_entry::{Change, DecodedEntry, Sighting};
-use station_journal::Entry;
-
-const MOST_ENTRIES: u64 = 16_777_216;
+use station_journal::{Entry, MOST_ENTRIES};
 
 impl<const N: usize> Book<N> {
     /// Takes the entry.
@@ -106,7 +104,7 @@ impl<const N: usize> Book<N> {
     pub fn offer_decoded(&mut self, decoded: &DecodedEntry)
         ensures { self.new ≡ offered_decoded N self.old decoded.now }
     {
-        if self.count >= MOST_ENTRIES {
+        if self.count >= u64::from(MOST_ENTRIES) {
             return;
         }
         match decoded {

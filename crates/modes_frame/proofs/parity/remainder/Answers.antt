@@ -1,20 +1,20 @@
-use Rattle.std.proofs.Common.{◌≡◌, ◌+◌, ◌-◌, ◌*◌, ◌<◌, ap, ◌∙◌, arith, length, get_or, bit_xor}
-use Rattle.modes_frame.specs.Frames.{remainder_of}
-use Rattle.modes_frame.proofs.ParityLemmas.{remainder-parts, remainder-lt}
+use Rattle.std.proofs.Common.{◌≡◌, ◌+◌, ◌-◌, ap, ◌∙◌, arith, length, take, bit_xor}
+use Rattle.modes_frame.specs.Frames.{bits_of, number_of, parity_of, remainder_of}
+use Rattle.modes_frame.proofs.BlankLemmas.{rest-is}
+use Rattle.modes_frame.proofs.ParityLemmas.{remainder-lt}
+use Rattle.modes_frame.proofs.PlaceLemmas.{remainder-at}
 use Rattle.modes_frame.proofs.parity.remainder.Goals as goal
-use Rattle.modes_frame.proofs.parity.remainder.Goals.{After-parity}
+use Rattle.modes_frame.proofs.parity.remainder.Goals.{After-sent}
 
-value : (c : After-parity) → bit_xor c.parity.result (c.from.result * 65536 + c.from-2.result * 256 + c.from-3.result) ≡ remainder_of c.args.frame.now
+value : (c : After-sent) → bit_xor c.parity.result c.sent.result ≡ remainder_of c.args.frame.now
 value c =
     let bytes = c.bytes-bytes.result.now in
     let n = length bytes - 3 in
     let same : length bytes ≡ length c.args.frame.now = ap length c.bytes-bytes.ensures.bytes in
-    let count : n + 3 ≡ length bytes = grind arith in
-    let first : get_or bytes n 0 < 256 = omega arith in
-    let second : get_or bytes (n + 1) 0 < 256 = omega arith in
-    let third : get_or bytes (n + 2) 0 < 256 = omega arith in
-    (λ i. bit_xor (c.parity.ensures i) (c.from.ensures i * 65536 + c.from-2.ensures i * 256 + c.from-3.ensures i))
-    ∙ remainder-parts bytes n count first second third
+    let count : length bytes ≡ n + 3 = grind arith in
+    (λ i. bit_xor (c.parity.ensures i) (c.sent.ensures i))
+    ∙ ap (λ last. bit_xor (parity_of (take n bytes)) (number_of (bits_of last))) (rest-is bytes n)
+    ∙ remainder-at bytes n count
     ∙ ap remainder_of c.bytes-bytes.ensures.bytes
 
 pub returns-clause-value : goal.returns-clause-value

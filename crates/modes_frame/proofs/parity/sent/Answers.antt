@@ -1,6 +1,6 @@
 use Rattle.std.proofs.Common.{◌+◌, ◌*◌, ◌<◌, ◌∙◌, arith, get_or}
 use Rattle.modes_frame.proofs.PlaceLemmas.{number-of_three}
-use Rattle.modes_frame.proofs.parity_by_place.sent.Goals as goal
+use Rattle.modes_frame.proofs.parity.sent.Goals as goal
 
 pub returns : goal.returns
 returns c =
