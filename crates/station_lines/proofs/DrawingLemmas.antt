@@ -1,5 +1,5 @@
 -- Bytes of a source, one read after another.
-use Rattle.std.proofs.Common.{◌≡◌, ℕ, ◌+◌, ◌-◌, ◌≤◌, false, List, [], ◌∷◌, ◌++◌, length, take, drop, length-drop, Option, Result, Ok, Err, refl, sym, ap, ◌∙◌, subst, append_assoc, append-nil, map, arith, add-one}
+use Rattle.std.proofs.Common.{◌≡◌, ℕ, zero, suc, ◌+◌, ◌-◌, ◌≤◌, false, List, [], ◌∷◌, ◌++◌, length, take, drop, length-drop, Option, Result, Ok, Err, refl, sym, ap, ◌∙◌, subst, append_assoc, append-nil, map, arith}
 use Rattle.std.specs.Option.{option_to_list}
 use Rattle.std.specs.Io.KnownBytes.{Consumes, Keeps, IsAtEnd}
 use Rattle.std.proofs.KnownBytes.{Consumes-nil, Consumes-trans, Consumes-kept}
@@ -25,9 +25,22 @@ ended-more a (c ∷ cs) =
 pub cuts-ended : (bytes : List ℕ) → cuts bytes ≡ ended_cuts bytes ++ map cut (last_line (pieces bytes).rest)
 cuts-ended bytes = map-append cut (pieces bytes).ended (last_line (pieces bytes).rest)
 
--- one more read
-pub counted_up-more : (n old mid new : ℕ) → mid ≡ counted_up n old → new ≡ one_more mid → new ≡ counted_up (n + 1) old
-counted_up-more n old mid new p q = q ∙ ap (λ k. one_more k) p ∙ ap (λ k. counted_up k old) (sym (add-one n))
+-- further reads
+suc-add : (n m : ℕ) → suc (n + m) ≡ suc n + m
+suc-add n m = omega arith
+
+counted_up-add : (n m old : ℕ) → counted_up n (counted_up m old) ≡ counted_up (n + m) old
+counted_up-add zero m old = ap (λ k. counted_up k old) (omega arith)
+counted_up-add (suc n) m old = ap (λ k. one_more k) (counted_up-add n m old) ∙ ap (λ k. counted_up k old) (suc-add n m)
+
+pub counted_up-more : (n m old mid new : ℕ) → mid ≡ counted_up m old → new ≡ counted_up n mid → new ≡ counted_up (n + m) old
+counted_up-more n m old mid new p q = q ∙ ap (λ k. counted_up n k) p ∙ counted_up-add n m old
+
+-- reads made of those that were left
+pub reads_left : (turns left made old mid new : ℕ) → left ≤ turns → made ≤ left → mid ≡ counted_up (turns - left) old → new ≡ counted_up made mid → new ≡ counted_up (turns - (left - made)) old
+reads_left turns left made old mid new within few p q =
+    let same : made + (turns - left) ≡ turns - (left - made) = omega arith in
+    counted_up-more made (turns - left) old mid new p q ∙ ap (λ i. counted_up i old) same
 
 -- ---- bytes of one piece
 
@@ -130,9 +143,9 @@ module _ {X E : Type 0} (Took : X → List Cut → Result (Unit {0}) E → X →
     }
 
     -- a line of the piece stopped the call
-    pub Taken-stop : (turn turns : ℕ) (stop : E) → turn + 1 ≤ turns → new.reads ≡ counted_up (turn + 1) old.reads → new.failures ≡ mid.failures → mid.failures ≡ old.failures → TakesBytes Took so_far.given piece held_now y z (Err stop)
+    pub Taken-stop : (made turns : ℕ) (stop : E) → made ≤ turns → new.reads ≡ counted_up made old.reads → new.failures ≡ mid.failures → mid.failures ≡ old.failures → TakesBytes Took so_far.given piece held_now y z (Err stop)
         → Taken Took old new turns LineStopped x z (Err stop)
-    Taken-stop turn turns stop within reads lost same_lost more =
+    Taken-stop made turns stop within reads lost same_lost more =
         let given : List ℕ = so_far.given ++ piece in
         let others : List Cut = map cut (last_line (pieces given).rest) in
         record {
@@ -144,15 +157,15 @@ module _ {X E : Type 0} (Took : X → List Cut → Result (Unit {0}) E → X →
             front = cuts-ended given ∙ ap (λ ls. ls ++ others) (with_piece (Err stop) more) ∙ append_assoc (so_far.taken.lines ++ more.lines) more.left_out others;
             ends = tt;
             failures = lost ∙ same_lost;
-            reads = (turn + 1, within, reads);
+            reads = (made, within, reads);
           };
           took = joined x y z so_far.taken.lines more.lines (Err stop) so_far.taken.took more.took;
         }
 
   -- a read failed
-  pub Taken-read : (turn turns : ℕ) → Keeps mid.left new.left → turn + 1 ≤ turns → new.reads ≡ counted_up (turn + 1) old.reads → new.ends ≡ mid.ends → mid.ends ≡ old.ends → new.failures ≡ one_more mid.failures → mid.failures ≡ old.failures
+  pub Taken-read : (made turns : ℕ) → Keeps mid.left new.left → made ≤ turns → new.reads ≡ counted_up made old.reads → new.ends ≡ mid.ends → mid.ends ≡ old.ends → new.failures ≡ one_more mid.failures → mid.failures ≡ old.failures
       → Taken Took old new turns ReadFailed x y (Ok tt)
-  Taken-read turn turns kept within reads ends same_ends lost same_lost = record {
+  Taken-read made turns kept within reads ends same_ends lost same_lost = record {
     lines = so_far.taken.lines;
     draws = record {
       given = so_far.given;
@@ -161,41 +174,35 @@ module _ {X E : Type 0} (Took : X → List Cut → Result (Unit {0}) E → X →
       front = all_lines;
       ends = (sym taken_so_far, ends ∙ same_ends);
       failures = lost ∙ ap (λ n. one_more n) same_lost;
-      reads = (turn + 1, within, reads);
+      reads = (made, within, reads);
     };
     took = so_far.taken.took;
   }
 
-  -- the end, and a last line, which may stop the call
-  Taken-over : (ending : Ending) (r : Result (Unit {0}) E) (turn turns : ℕ) (z : X) → is_read_failed ending ≡ false → turn + 1 ≤ turns → new.reads ≡ counted_up (turn + 1) old.reads → new.failures ≡ mid.failures → mid.failures ≡ old.failures
-      → Consumes mid.left new.left [] → (last : TakesLast Took so_far.given y z r) → EndsAs so_far.given (so_far.taken.lines ++ last.lines) [] turns old new ending → Taken Took old new turns ending x z r
-  Taken-over ending r turn turns z read_well within reads lost same_lost read last ends = record {
+-- the end was found, and a last line may stop the call
+module _ {X E : Type 0} (Took : X → List Cut → Result (Unit {0}) E → X → Type 0)
+    (joined : (x y z : X) (cs ds : List Cut) (r : Result (Unit {0}) E) → Took x cs (Ok tt) y → Took y ds r z → Took x (cs ++ ds) r z)
+    (old now : Drawn) (held : Cut) (x y : X) (so_far : GivenSoFar Took old.left now.left held x y) where
+  Taken-over : (ending : Ending) (r : Result (Unit {0}) E) (made turns : ℕ) (z : X) → is_read_failed ending ≡ false → made ≤ turns → now.reads ≡ counted_up made old.reads → now.failures ≡ old.failures
+      → (last : TakesLast Took so_far.given y z r) → EndsAs so_far.given (so_far.taken.lines ++ last.lines) [] turns old now ending → Taken Took old now turns ending x z r
+  Taken-over ending r made turns z read_well within reads lost last ends = record {
     lines = so_far.taken.lines ++ last.lines;
     draws = record {
       given = so_far.given;
       left_out = [];
-      bytes = subst (Consumes old.left new.left) (append-nil so_far.given) (Consumes-trans old.left mid.left new.left so_far.given [] so_far.bytes read);
-      front = last.all_told ∙ ap (λ ls. ls ++ last.lines) taken_so_far ∙ sym (append-nil _);
+      bytes = so_far.bytes;
+      front = last.all_told ∙ ap (λ ls. ls ++ last.lines) (so_far.taken.ended ∙ ap (λ ls. so_far.taken.lines ++ ls) so_far.taken.all_taken.0 ∙ append-nil so_far.taken.lines) ∙ sym (append-nil _);
       ends = ends;
-      failures = rw read_well (lost ∙ same_lost);
-      reads = (turn + 1, within, reads);
+      failures = rw read_well lost;
+      reads = (made, within, reads);
     };
     took = joined x y z so_far.taken.lines last.lines r so_far.taken.took last.took;
   }
 
-  Taken-end : (turn turns : ℕ) (z : X) → turn + 1 ≤ turns → new.reads ≡ counted_up (turn + 1) old.reads → new.ends ≡ one_more mid.ends → mid.ends ≡ old.ends → new.failures ≡ mid.failures → mid.failures ≡ old.failures
-      → Consumes mid.left new.left [] → IsAtEnd new.left → TakesLast Took so_far.given y z (Ok tt) → Taken Took old new turns AtEnd x z (Ok tt)
-  Taken-end turn turns z within reads ends same_ends lost same_lost read over last =
-      Taken-over AtEnd (Ok tt) turn turns z refl within reads lost same_lost read last (refl, ends ∙ ap (λ n. one_more n) same_ends, over)
-
-  Taken-last : (turn turns : ℕ) (z : X) (stop : E) → turn + 1 ≤ turns → new.reads ≡ counted_up (turn + 1) old.reads → new.failures ≡ mid.failures → mid.failures ≡ old.failures
-      → Consumes mid.left new.left [] → TakesLast Took so_far.given y z (Err stop) → Taken Took old new turns LineStopped x z (Err stop)
-  Taken-last turn turns z stop within reads lost same_lost read last = Taken-over LineStopped (Err stop) turn turns z refl within reads lost same_lost read last tt
-
-  pub Taken-close : (stopped : Result (Unit {0}) E) (turn turns : ℕ) (z : X) → turn + 1 ≤ turns → new.reads ≡ counted_up (turn + 1) old.reads → new.ends ≡ one_more mid.ends → mid.ends ≡ old.ends → new.failures ≡ mid.failures → mid.failures ≡ old.failures
-      → Consumes mid.left new.left [] → IsAtEnd new.left → TakesLast Took so_far.given y z stopped → Taken Took old new turns (ending_as (ended_by stopped)) x z (stopped_as (ended_by stopped))
-  Taken-close (Ok done) turn turns z within reads ends same_ends lost same_lost read over last = Taken-end turn turns z within reads ends same_ends lost same_lost read over last
-  Taken-close (Err stop) turn turns z within reads ends same_ends lost same_lost read over last = Taken-last turn turns z stop within reads lost same_lost read last
+  pub Taken-close : (stopped : Result (Unit {0}) E) (made turns : ℕ) (z : X) → made ≤ turns → now.reads ≡ counted_up made old.reads → now.ends ≡ one_more old.ends → now.failures ≡ old.failures
+      → IsAtEnd now.left → TakesLast Took so_far.given y z stopped → Taken Took old now turns (ending_as (ended_by stopped)) x z (stopped_as (ended_by stopped))
+  Taken-close (Ok done) made turns z within reads ends lost over last = Taken-over AtEnd (Ok tt) made turns z refl within reads lost last (refl, ends, over)
+  Taken-close (Err stop) made turns z within reads ends lost over last = Taken-over LineStopped (Err stop) made turns z refl within reads lost last tt
 
 -- all turns are over
 pub Taken-turns : {X E : Type 0} (Took : X → List Cut → Result (Unit {0}) E → X → Type 0) (old now : Drawn) (held : Cut) (x y : X) → GivenSoFar Took old.left now.left held x y

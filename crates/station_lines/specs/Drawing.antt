@@ -1,6 +1,6 @@
 -- The lines that a call takes of what its source gives.
-use Rattle.std.specs.Prelude.{◌≡◌, ℕ, ◌≤◌, Bool, true, false, not, List, [], ◌++◌, Option, Result, Ok, Err, OnOk}
-use Rattle.std.specs.Io.KnownBytes.{Consumes, IsAtEnd}
+use Rattle.std.specs.Prelude.{◌≡◌, ℕ, ◌<◌, ◌≤◌, Bool, true, false, not, nat_lt, List, length, [], ◌++◌, Option, Result, Ok, Err, OnOk}
+use Rattle.std.specs.Io.KnownBytes.{Consumes, Keeps, IsAtEnd}
 use Rattle.modes_frame.specs.declared.cutter.Cut.{Cut}
 use Rattle.modes_frame.specs.Lines.{cuts, ended_cuts, pending}
 use Rattle.station_report.specs.Sink.{counted}
@@ -18,6 +18,34 @@ pub record Drawn : Type 0 where
 -- what a source is seen as, by what its trait tells of it
 abbrev pub drawn_of : {S : Type 0} → (S → Option (List ℕ)) → (S → ℕ) → (S → ℕ) → (S → ℕ) → S → Drawn
 drawn_of left reads ends failures source = record { left = left source; reads = reads source; ends = ends source; failures = failures source }
+
+-- what reads made one after another gave: these bytes, and the end where the last of them found it
+pub record Gathers (old new : Drawn) (turns : ℕ) (bytes : List ℕ) (made : ℕ) (is_over : Bool) : Type 0 where
+  pub given : Consumes old.left new.left bytes
+  pub some : 0 < made
+  pub few : made ≤ turns
+  pub reads : new.reads ≡ counted_up made old.reads
+  pub ends : new.ends ≡ counted (not is_over) old.ends
+  pub over : is_over ≡ true → IsAtEnd new.left
+  pub failures : new.failures ≡ old.failures
+
+-- a read gave so many bytes after those before it
+pub record ReadsMore (old new : Drawn) (before after : List ℕ) (n : ℕ) : Type 0 where
+  pub bytes : List ℕ
+  pub held : after ≡ before ++ bytes
+  pub many : length bytes ≡ n
+  pub given : Consumes old.left new.left bytes
+  pub reads : new.reads ≡ one_more old.reads
+  pub ends : new.ends ≡ counted (nat_lt 0 n) old.ends
+  pub over : n ≡ 0 → IsAtEnd new.left
+  pub failures : new.failures ≡ old.failures
+
+-- a read gave nothing and failed
+pub record FailsOnce (old new : Drawn) : Type 0 where
+  pub given : Keeps old.left new.left
+  pub reads : new.reads ≡ one_more old.reads
+  pub ends : new.ends ≡ old.ends
+  pub failures : new.failures ≡ one_more old.failures
 
 -- why no further line is taken: the source gave the end, a read failed, all turns are over, or a line stopped the call
 pub data Ending : Type 0 where

@@ -15,3 +15,7 @@ one_more n = counted false n
 abbrev pub counted_up : ℕ → ℕ → ℕ
 counted_up zero old = old
 counted_up (suc n) old = one_more (counted_up n old)
+
+-- the most bytes that are gathered from reads made one after another
+abbrev pub longest_piece : ℕ
+longest_piece = 32768

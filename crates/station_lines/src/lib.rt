@@ -4,7 +4,9 @@
 pub mod command;
 mod counting;
 pub mod feed;
+pub mod from_buffer;
 pub mod from_read;
+pub mod piece;
 pub mod pumping;
 pub mod source;
 pub mod taking;
@@ -12,7 +14,9 @@ pub mod tally;
 
 pub use command::{Command, CommandFault, read_command, read_command_short};
 pub use feed::Feed;
+pub use from_buffer::FromBuffer;
 pub use from_read::FromRead;
+pub use piece::PIECE;
 pub use pumping::{PumpFault, pump};
 pub use source::Source;
 pub use taking::{Ended, FrameTaker, LineTaker, PieceTaker, take_each, take_lines};

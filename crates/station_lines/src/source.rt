@@ -1,5 +1,5 @@
 //! What gives bytes.
-ghost use Rattle.std.specs.Prelude.{◌≡◌, ◌≤◌, ℕ, List, Option, IfOk, is_ok, not, length};
+ghost use Rattle.std.specs.Prelude.{◌≡◌, ◌≤◌, ℕ, Bool, true, false, List, Option, IfOk, is_ok, not, length};
 ghost use Rattle.std.specs.Io.KnownBytes.{ReadConsumes};
 ghost use Rattle.station_report.specs.Sink.{counted};
 ghost use Rattle.station_lines.specs.Source.{is_end, one_more};
@@ -22,6 +22,16 @@ pub trait Source {
     /// How many of them failed.
     ghost failures: { Self → ℕ };
 
+    /// The next read can't fail.
+    ghost at_hand: { Self → Bool } = { λ _. false };
+
+    /// Whether bytes are at hand: the next read doesn't wait, and can't fail. A source that doesn't know says no.
+    fn is_at_hand(&self) -> bool
+        ensures { result ≡ true → at_hand self.now ≡ true }
+    {
+        false
+    }
+
     /// Gives some of the bytes to come, and none only at the end or without room.
     fn read(&mut self, buffer: &mut [u8]) -> Result<usize, Failed>
         ensures within { IfOk result (λ n. n ≤ length buffer.new) }
@@ -29,5 +39,6 @@ pub trait Source {
         ensures reads { reads self.new ≡ one_more (reads self.old) }
         ensures ends { ends self.new
             ≡ counted (not (is_end result (length buffer.new))) (ends self.old) }
-        ensures failures { failures self.new ≡ counted (is_ok result) (failures self.old) };
+        ensures failures { failures self.new ≡ counted (is_ok result) (failures self.old) }
+        ensures at_hand { at_hand self.old ≡ true → is_ok result ≡ true };
 }

@@ -3,6 +3,7 @@ ghost use Rattle.std.specs.Prelude.{◌≡◌, ℕ, ◌+◌, ◌^◌, ◌<◌, �
 ghost use Rattle.modes_frame.specs.Lines.{pending};
 ghost use Rattle.station_lines.specs.Drawing.{TakesBytes, TakesLast, Taken, drawn_of, ended_by, ending_as, stopped_as};
 
+use crate::piece::Piece;
 use crate::source::Source;
 use modes_frame::{Cut, Cutter, Frame, LineReader};
 use std::sync::Wait;
@@ -147,7 +148,8 @@ fn after_the_last<E>(stopped: Result<(), E>) -> Ended<E>
 }
 
 /// Takes the lines of a source in their order: at most `turns` reads of up to 512 bytes, up to the end of the source,
-/// whose last line may lack its line feed. After a fault, a line that hasn't ended is dropped.
+/// whose last line may lack its line feed. After a fault, a line that hasn't ended is dropped. Lines of several reads are
+/// taken as one piece where bytes are at hand.
 pub fn take_lines<T: PieceTaker, S: Source, R: Wait>(
     rt: &R,
     taker: &mut T,
@@ -162,15 +164,20 @@ pub fn take_lines<T: PieceTaker, S: Source, R: Wait>(
 {
     let mut cutter = Cutter::new();
     let lines = LineReader::new();
-    let mut buffer = [0u8; 512];
-    for _turn in 0..turns {
-        match from.read(&mut buffer) {
+    let mut piece = Piece::new();
+    let mut left = turns;
+    while left > 0 {
+        let read = match piece.gather(from, left) {
+            Ok(read) => read,
             Err(_) => return Ended::ReadFailed,
-            Ok(0) => return after_the_last(take_last(rt, taker, &mut cutter, &lines)),
-            Ok(count) => match taker.take_piece(rt, &mut cutter, &lines, &buffer[..count]) {
-                Ok(()) => {}
-                Err(stop) => return Ended::Stopped(stop),
-            },
+        };
+        left -= read.reads;
+        match taker.take_piece(rt, &mut cutter, &lines, piece.as_slice()) {
+            Ok(()) => {}
+            Err(stop) => return Ended::Stopped(stop),
+        }
+        if read.is_over {
+            return after_the_last(take_last(rt, taker, &mut cutter, &lines));
         }
     }
     Ended::TurnsOver

@@ -6,7 +6,7 @@ use Rattle.station_lines.specs.Drawing.{Drawn}
 use Rattle.station_desk.specs.Start.{Start}
 use Rattle.station_shared.specs.Seats.{Seated, Looks}
 use Rattle.station_shared.specs.Workers.{Worked}
-use Rattle.station_lines.specs.declared.from_read.FromRead.{FromRead}
+use Rattle.station_lines.specs.declared.from_buffer.FromBuffer.{FromBuffer}
 use Rattle.station_lines.specs.declared.pumping.PumpFault.{PumpFault}
 use Rattle.station_lines.specs.declared.tally.Tally.{Tally}
 use Rattle.station_main.specs.Limits.{most_reads}
@@ -21,11 +21,11 @@ use Rattle.station_main.specs.declared.faults.Fault.TheVariants as fault
 -- ---- the receivers
 
 -- what a source over a reader is seen as, which has these bytes left, where they are known
-abbrev pub drawn_from : {R : Type 0} → Option (List ℕ) → FromRead R → Drawn
+abbrev pub drawn_from : {R : Type 0} → Option (List ℕ) → FromBuffer R → Drawn
 drawn_from left source = record { left = left; reads = source.reads; ends = source.ends; failures = source.failures }
 
 -- each receiver has pumped its source through its seat to an answer
-pub record HaveWorked {W R : Type 0} (start : Start) (seat : W → Seated) (source : W → FromRead R) (answer : W → Option (Result Tally PumpFault)) (old new : List W) : Type 0 where
+pub record HaveWorked {W R : Type 0} (start : Start) (seat : W → Seated) (source : W → FromBuffer R) (answer : W → Option (Result Tally PumpFault)) (old new : List W) : Type 0 where
   pub many : length new ≡ length old
   pub each : (i : ℕ) (d : W) → i < length old → let was = slice_index_or old i d in let is = slice_index_or new i d in
       (before : Option (List ℕ)) × (after : Option (List ℕ))

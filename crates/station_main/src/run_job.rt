@@ -16,7 +16,7 @@ use crate::round::{Plan, Round, run_last, run_round};
 use crate::standard_error::StandardError;
 use crate::threads::Input;
 use station_report::ToWrite;
-use station_shared::{FromRead, Places};
+use station_shared::{FromBuffer, PIECE, Places};
 use std::alloc::Global;
 use std::fs::File;
 use std::io::{BufReader, BufWriter, ErrorKind, Write};
@@ -192,8 +192,8 @@ fn open<'a, R: Files<File = File>>(rt: &R, alloc: Global, path: &'a str) -> Resu
     ensures early { IfErr result IsEarly }
     ensures fault { IfErr result (λ fault. (fault ≡ Fault.NoMemory) ⊎ (fault ≡ Fault.CannotOpen path.entry)) }
 {
-    match File::open(rt, path).and_then(|file| BufReader::new(alloc, file)) {
-        Ok(buffered) => Ok(FromRead::new(buffered)),
+    match File::open(rt, path).and_then(|file| BufReader::with_capacity(alloc, PIECE, file)) {
+        Ok(buffered) => Ok(FromBuffer::new(buffered)),
         Err(error) if error.kind() == ErrorKind::OutOfMemory => Err(Fault::NoMemory),
         Err(_) => Err(Fault::CannotOpen(path)),
     }

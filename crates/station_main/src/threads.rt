@@ -9,9 +9,9 @@ use crate::output::{Written, give_up, unbuffered};
 use crate::reporter::{Given, Reported, print_table, report};
 use crate::schedule::Pace;
 use station_report::{Sink, ToWrite};
-use station_shared::{FromRead, Seat, Station, StationName, Worker, run_receivers};
+use station_shared::{FromBuffer, Seat, Station, StationName, Worker, run_receivers};
 use std::fs::File;
-use std::io::{BufReader, BufWriter, Write};
+use std::io::{BufWriter, Write};
 use std::snapshot::Snapshot;
 use std::sync::Wait;
 use std::sync::atomic::{AtomicBool, Ordering};
@@ -19,7 +19,7 @@ use std::thread;
 use std::thread::Threads;
 use std::time::{Clock, Instant};
 
-pub type Input = FromRead<BufReader<File>>;
+pub type Input = FromBuffer<File>;
 
 pub type Output<O> = ToWrite<BufWriter<O>>;
 

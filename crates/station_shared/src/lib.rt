@@ -24,7 +24,8 @@ pub use seat_feed::{SeatFeed, pump_seat};
 pub use station::Station;
 pub use station_desk::{Desk, DeskFeed, Places, ReplayFault, pump_desk, replay};
 pub use station_lines::{
-    Command, CommandFault, Feed, FromRead, PumpFault, Source, Tally, pump, read_command,
+    Command, CommandFault, Feed, FromBuffer, FromRead, PIECE, PumpFault, Source, Tally, pump,
+    read_command,
 };
 pub use station_name::StationName;
 pub use worker::{Worker, run_receivers};

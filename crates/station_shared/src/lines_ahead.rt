@@ -1,4 +1,4 @@
-//! The lines of one read, before the lock of their station is taken: cut, read, and their frames decoded.
+//! The lines of a piece, before the lock of their station is taken: cut, read, and their frames decoded.
 ghost use Rattle.std.specs.Prelude.{◌≡◌, ℕ, ◌<◌, ◌≤◌, List, [], Ok, length, slice_set, take};
 ghost use Rattle.modes_frame.specs.Lines.{pending};
 ghost use Rattle.station_book.specs.Decoded.{sighting_of};

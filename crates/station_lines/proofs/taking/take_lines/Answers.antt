@@ -1,78 +1,86 @@
-use Rattle.std.proofs.Common.{refl, length, length-take-le, not, ap, ◌∙◌, arith}
+use Rattle.std.proofs.Common.{◌≡◌, refl, ◌-◌, ap, ◌∙◌, sym, subst, false, not, arith}
+use Rattle.std.specs.Io.KnownBytes.{Consumes}
 use Rattle.station_report.specs.Sink.{counted}
-use Rattle.station_report.specs.declared.sinks.Failed.{Failed}
+use Rattle.station_lines.specs.Source.{counted_up}
 use Rattle.station_lines.specs.Drawing.{drawn_of}
-use Rattle.station_lines.proofs.EndLemmas.{at_end, not_at_end, Consumes_none}
-use Rattle.station_lines.proofs.DrawingLemmas.{GivenSoFar-none, GivenSoFar-piece, counted_up-more, Taken-read, Taken-turns, Taken-stop, Taken-close}
+use Rattle.station_lines.proofs.DrawingLemmas.{GivenSoFar-none, GivenSoFar-piece, reads_left, Taken-read, Taken-turns, Taken-stop, Taken-close}
 use Rattle.station_lines.proofs.taking.take_lines.Goals as goal
 
-pub loop-turn-init : goal.loop-turn-init
-loop-turn-init g c = record {
-  room = omega (arith, c.requires.new);
-  so_far = GivenSoFar-none g.T.LineTaker.took _ _ _ (g.met.T.LineTaker.none _) c.new-cutter.ensures;
-  reads = refl;
-  ends = refl;
-  failures = refl;
-}
+pub loop-left-init : goal.loop-left-init
+loop-left-init g c =
+    let none : 0 ≡ c.args.turns - c.args.turns = omega arith in
+    record {
+      within = omega arith;
+      room = omega (arith, c.requires.new);
+      so_far = GivenSoFar-none g.T.LineTaker.took _ _ _ (g.met.T.LineTaker.none _) c.new-cutter.ensures;
+      reads = ap (λ i. counted_up i (g.S.Source.reads c.args.from.now)) none;
+      ends = refl;
+      failures = refl;
+    }
 
 pub returns-in-Err : goal.returns-in-Err
 returns-in-Err g c =
     let S = g.S.Source in
     let old = drawn_of S.left S.reads S.ends S.failures c.args.from.now in
-    let mid = drawn_of S.left S.reads S.ends S.failures c.loop-turn.from in
-    let new = drawn_of S.left S.reads S.ends S.failures c.read.new.self in
-    let inv = c.loop-turn.invariant in
-    let told = c.in-Err.ensures in
-    Taken-read g.T.LineTaker.took g.met.T.LineTaker.then old mid new _ _ _ inv.so_far c.loop-turn._turn c.args.turns told.bytes (omega arith)
-    (counted_up-more c.loop-turn._turn (S.reads c.args.from.now) _ _ inv.reads told.reads) told.ends inv.ends told.failures inv.failures
-
-pub returns-in-Ok-eq0 : goal.returns-in-Ok-eq0
-returns-in-Ok-eq0 g c =
-    let S = g.S.Source in
-    let old = drawn_of S.left S.reads S.ends S.failures c.args.from.now in
-    let mid = drawn_of S.left S.reads S.ends S.failures c.loop-turn.from in
-    let new = drawn_of S.left S.reads S.ends S.failures c.read.new.self in
-    let inv = c.loop-turn.invariant in
-    let told = c.in-Ok-eq0.ensures in
-    let at = at_end Failed c.in-Ok-eq0.field-0 (length c.read.new.buffer) (omega arith) (omega (arith, c.read.auto.buffer)) in
-    rw c.after_the_last.ensures (Taken-close g.T.LineTaker.took g.met.T.LineTaker.then old mid new _ _ _ inv.so_far c.take_last.result c.loop-turn._turn c.args.turns _ (omega arith)
-    (counted_up-more c.loop-turn._turn (S.reads c.args.from.now) _ _ inv.reads told.reads)
-    (told.ends ∙ ap (λ b. counted (not b) (S.ends c.loop-turn.from)) at) inv.ends told.failures inv.failures
-    (Consumes_none _ _ _ c.read.new.buffer (omega arith) told.bytes.0) (told.bytes.1 (omega arith) (omega (arith, c.read.auto.buffer)))
-    (c.take_last.ensures.taken _ inv.so_far.taken.all_taken.1))
+    let mid = drawn_of S.left S.reads S.ends S.failures c.loop-left.from in
+    let new = drawn_of S.left S.reads S.ends S.failures c.gather.new.from in
+    let inv = c.loop-left.invariant in
+    let failed = c.in-Err.ensures.err in
+    let left = c.loop-left.left in
+    Taken-read g.T.LineTaker.took g.met.T.LineTaker.then old mid new _ _ _ inv.so_far _ c.args.turns failed.given (omega arith)
+    (reads_left c.args.turns left 1 old.reads mid.reads new.reads inv.within (omega arith) inv.reads failed.reads) failed.ends inv.ends failed.failures inv.failures
 
 pub returns-in-Err-take_piece : goal.returns-in-Err-take_piece
 returns-in-Err-take_piece g c =
     let S = g.S.Source in
     let old = drawn_of S.left S.reads S.ends S.failures c.args.from.now in
-    let mid = drawn_of S.left S.reads S.ends S.failures c.loop-turn.from in
-    let new = drawn_of S.left S.reads S.ends S.failures c.read.new.self in
-    let inv = c.loop-turn.invariant in
-    let told = c.in-Ok.ensures in
-    Taken-stop g.T.LineTaker.took g.met.T.LineTaker.then old mid new _ _ _ inv.so_far _ _ _ told.bytes.0 c.loop-turn._turn c.args.turns _ (omega arith)
-    (counted_up-more c.loop-turn._turn (S.reads c.args.from.now) _ _ inv.reads told.reads) told.failures inv.failures
+    let mid = drawn_of S.left S.reads S.ends S.failures c.loop-left.from in
+    let new = drawn_of S.left S.reads S.ends S.failures c.gather.new.from in
+    let inv = c.loop-left.invariant in
+    let read = c.in-Ok.ensures.ok in
+    let left = c.loop-left.left in
+    Taken-stop g.T.LineTaker.took g.met.T.LineTaker.then old mid new _ _ _ inv.so_far _ _ _ (subst (Consumes mid.left new.left) (sym c.as_slice.ensures.value) read.given) _ c.args.turns _ (omega arith)
+    (reads_left c.args.turns left c.in-Ok.read.reads old.reads mid.reads new.reads inv.within read.few inv.reads read.reads) read.failures inv.failures
     (c.in-Err-take_piece.ensures.taken _ inv.so_far.taken.all_taken.1)
 
-pub loop-turn-preserved : goal.loop-turn-preserved
-loop-turn-preserved g c =
+pub returns-then-read : goal.returns-then-read
+returns-then-read g c =
     let S = g.S.Source in
     let old = drawn_of S.left S.reads S.ends S.failures c.args.from.now in
-    let mid = drawn_of S.left S.reads S.ends S.failures c.loop-turn.from in
-    let new = drawn_of S.left S.reads S.ends S.failures c.read.new.self in
-    let inv = c.loop-turn.invariant in
-    let told = c.in-Ok.ensures in
+    let mid = drawn_of S.left S.reads S.ends S.failures c.loop-left.from in
+    let new = drawn_of S.left S.reads S.ends S.failures c.gather.new.from in
+    let inv = c.loop-left.invariant in
+    let read = c.in-Ok.ensures.ok in
+    let left = c.loop-left.left in
+    let so_far = GivenSoFar-piece g.T.LineTaker.took g.met.T.LineTaker.then old mid new _ _ _ inv.so_far _ _ _ (subst (Consumes mid.left new.left) (sym c.as_slice.ensures.value) read.given) (c.in-Ok-take_piece.ensures.taken _ inv.so_far.taken.all_taken.1) in
+    rw c.after_the_last.ensures (Taken-close g.T.LineTaker.took g.met.T.LineTaker.then old new _ _ _ so_far c.take_last.result _ c.args.turns _ (omega arith)
+    (reads_left c.args.turns left c.in-Ok.read.reads old.reads mid.reads new.reads inv.within read.few inv.reads read.reads)
+    (read.ends ∙ ap (λ b. counted (not b) mid.ends) c.if-read.true ∙ ap (λ i. counted false i) inv.ends) (read.failures ∙ inv.failures) (read.over c.if-read.true)
+    (c.take_last.ensures.taken _ so_far.taken.all_taken.1))
+
+pub loop-left-preserved : goal.loop-left-preserved
+loop-left-preserved g c =
+    let S = g.S.Source in
+    let old = drawn_of S.left S.reads S.ends S.failures c.args.from.now in
+    let mid = drawn_of S.left S.reads S.ends S.failures c.loop-left.from in
+    let new = drawn_of S.left S.reads S.ends S.failures c.gather.new.from in
+    let inv = c.loop-left.invariant in
+    let read = c.in-Ok.ensures.ok in
+    let left = c.loop-left.left in
     record {
-      room = omega (arith, c.in-Ok-take_piece.ensures.counted, told.within, length-take-le c.in-Ok.count c.read.new.buffer told.within, c.read.auto.buffer);
-      so_far = GivenSoFar-piece g.T.LineTaker.took g.met.T.LineTaker.then old mid new _ _ _ inv.so_far _ _ _ told.bytes.0 (c.in-Ok-take_piece.ensures.taken _ inv.so_far.taken.all_taken.1);
-      reads = counted_up-more c.loop-turn._turn (S.reads c.args.from.now) _ _ inv.reads told.reads;
-      ends = told.ends ∙ ap (λ b. counted (not b) (S.ends c.loop-turn.from)) (not_at_end Failed c.in-Ok.count (length c.read.new.buffer) c.in-Ok.count-test.1) ∙ inv.ends;
-      failures = told.failures ∙ inv.failures;
+      within = omega (arith, inv.within);
+      room = omega (arith, inv.within, inv.room, read.some, read.few, c.in-Ok-take_piece.ensures.counted, c.as_slice.ensures.few);
+      so_far = GivenSoFar-piece g.T.LineTaker.took g.met.T.LineTaker.then old mid new _ _ _ inv.so_far _ _ _ (subst (Consumes mid.left new.left) (sym c.as_slice.ensures.value) read.given) (c.in-Ok-take_piece.ensures.taken _ inv.so_far.taken.all_taken.1);
+      reads = reads_left c.args.turns left c.in-Ok.read.reads old.reads mid.reads new.reads inv.within read.few inv.reads read.reads;
+      ends = read.ends ∙ ap (λ b. counted (not b) mid.ends) c.if-read.false ∙ inv.ends;
+      failures = read.failures ∙ inv.failures;
     }
 
 pub returns : goal.returns
 returns g c =
     let S = g.S.Source in
     let old = drawn_of S.left S.reads S.ends S.failures c.args.from.now in
-    let mid = drawn_of S.left S.reads S.ends S.failures c.loop-turn.from in
-    let inv = c.loop-turn.invariant in
-    Taken-turns g.T.LineTaker.took old mid _ _ _ inv.so_far c.loop-turn._turn c.args.turns (omega arith) inv.reads inv.ends inv.failures
+    let mid = drawn_of S.left S.reads S.ends S.failures c.loop-left.from in
+    let inv = c.loop-left.invariant in
+    let all : c.args.turns - c.loop-left.left ≡ c.args.turns = omega arith in
+    Taken-turns g.T.LineTaker.took old mid _ _ _ inv.so_far (c.args.turns - c.loop-left.left) c.args.turns all inv.reads inv.ends inv.failures

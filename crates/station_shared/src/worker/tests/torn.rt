@@ -7,10 +7,10 @@ use crate::station::Station;
 use crate::station_name::StationName;
 use crate::worker::run_receivers;
 use station_desk::Places;
-use station_lines::{FromRead, PumpFault};
+use station_lines::{FromBuffer, PumpFault};
 use std::alloc::Global;
 use std::io;
-use std::io::{ErrorKind, Read};
+use std::io::{BufReader, ErrorKind, Read};
 use std::marker::Brand;
 use std::process::Abort;
 use std::sync::Wait;
@@ -39,6 +39,7 @@ fn one_that_fails<L: StationName + Send + Sync, R: Threads + Wait + Abort + Sync
     alloc: Global,
     blank: Blank,
     places: Places<8>,
+    readers: [BufReader<Torn>; 2],
 ) -> Result<(), Fail>
     requires ledger { (blank.name ≡ L.name) × (blank.parts ≡ L.parts) }
     requires seats { (L.parts ≡ 2) × (L.seats ≡ 2) × (places.places ≡ 2) }
@@ -50,10 +51,9 @@ fn one_that_fails<L: StationName + Send + Sync, R: Threads + Wait + Abort + Sync
     let mut workers = Vec::new(alloc);
     run_receivers(rt, &station, workers.as_mut_slice(), 9);
     assert_eq!(rt; workers.len(), 0);
-    for (rest, fails) in [(IDENTIFICATION, true), (VELOCITY, false)] {
+    for reader in readers {
         let seat = seats.pop().expect(rt, "a seat of a receiver");
-        let source = FromRead::new(Torn { rest, fails });
-        let pushed = workers.push(worker(seat, source)).is_ok();
+        let pushed = workers.push(worker(seat, FromBuffer::new(reader))).is_ok();
         assert!(rt; pushed);
     }
     run_receivers(rt, &station, workers.as_mut_slice(), 9);
@@ -67,8 +67,14 @@ fn one_that_fails<L: StationName + Send + Sync, R: Threads + Wait + Abort + Sync
     Ok(())
 }
 
+fn buffered(alloc: Global, rest: &'static [u8], fails: bool) -> io::Result<BufReader<Torn>> {
+    BufReader::new(alloc, Torn { rest, fails })
+}
+
 #[test]
 fn failed_receiver_leaves_the_others(rt: HostRuntime) -> Result<(), Fail> {
+    let torn = buffered(rt.alloc(), IDENTIFICATION, true)?;
+    let whole = buffered(rt.alloc(), VELOCITY, false)?;
     let places = Places::<8>::new(&rt, rt.alloc(), 0, 2)?;
-    one_that_fails::<Brand, _>(&rt, rt.alloc(), Blank::new(2), places)
+    one_that_fails::<Brand, _>(&rt, rt.alloc(), Blank::new(2), places, [torn, whole])
 }

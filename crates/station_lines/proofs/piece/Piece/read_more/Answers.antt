@@ -1,0 +1,22 @@
+use Rattle.std.proofs.Common.{take, length, length-take-le, ap, ◌∙◌, arith}
+use Rattle.station_report.specs.Sink.{counted}
+use Rattle.station_report.specs.declared.sinks.Failed.{Failed}
+use Rattle.station_lines.proofs.PieceLemmas.{grown, some_given}
+use Rattle.station_lines.proofs.piece.Piece.read_more.Goals as goal
+
+pub returns-clause-ok : goal.returns-clause-ok
+returns-clause-ok g c =
+    let piece = c.args.self.now in
+    let room = c.read.new.buffer in
+    let n = c.in_ok-count.count in
+    let told = c.in_ok-count.ensures in
+    record {
+      bytes = take n room;
+      held = grown piece.bytes room piece.count _ n (omega arith) told.within;
+      many = length-take-le n room told.within;
+      given = told.bytes.0;
+      reads = told.reads;
+      ends = told.ends ∙ ap (λ b. counted b (g.S.Source.ends c.args.from.now)) (some_given Failed n (length room) (omega (arith, c.read.auto.buffer)));
+      over = λ e. told.bytes.1 e (omega (arith, c.read.auto.buffer));
+      failures = told.failures;
+    }

@@ -1,0 +1,91 @@
+//! A source over a buffered reader, which knows when bytes are at hand.
+ghost use Rattle.std.specs.Prelude.{◌≡◌, ◌<◌, ◌≤◌, length, nat_lt, take};
+ghost use Rattle.std.specs.Io.Buffered.{reader_buffer, reader_remaining};
+ghost use Rattle.std.specs.Io.KnownBytes.{Consumes};
+
+#[cfg(test)]
+mod tests;
+
+use crate::from_read::FromRead;
+use crate::source::Source;
+use station_report::Failed;
+use std::io::{BufRead, BufReader, Read};
+
+/// Reads from a buffered reader as [`FromRead`] does, and knows that the bytes in the buffer are at hand.
+#[derive(Drop)]
+pub struct FromBuffer<R> {
+    inner: BufReader<R>,
+    reads: u64,
+    ends: u64,
+    failures: u64,
+}
+
+// Takes what the buffer of a reader holds, as far as there is room.
+fn take_held<R: Read>(reader: &mut BufReader<R>, room: &mut [u8]) -> usize
+    requires { 0 < length (reader_buffer reader.old) }
+    ensures within { result ≤ length room.new }
+    ensures room { length room.new ≡ length room.old }
+    ensures some { 0 < length room.new → 0 < result }
+    ensures bytes { Consumes (reader_remaining R.remaining reader.old)
+        (reader_remaining R.remaining reader.new) (take result room.new) }
+{
+    let held = reader.buffer();
+    let count = held.len().min(room.len());
+    room[..count].copy_from_slice(&held[..count]);
+    reader.consume(count);
+    count
+}
+
+impl<R> FromBuffer<R> {
+    /// A source of what the reader gives.
+    pub fn new(inner: BufReader<R>) -> Self
+        ensures inner { result.inner ≡ inner }
+        ensures reads { result.reads ≡ 0 }
+        ensures ends { result.ends ≡ 0 }
+        ensures failures { result.failures ≡ 0 }
+    {
+        FromBuffer {
+            inner,
+            reads: 0,
+            ends: 0,
+            failures: 0,
+        }
+    }
+}
+
+impl<R: Read> Source for FromBuffer<R> {
+    ghost left = { λ s. reader_remaining R.remaining s.inner };
+
+    ghost reads = { λ s. s.reads };
+
+    ghost ends = { λ s. s.ends };
+
+    ghost failures = { λ s. s.failures };
+
+    ghost at_hand = { λ s. nat_lt 0 (length (reader_buffer s.inner)) };
+
+    fn is_at_hand(&self) -> bool
+        ensures { result ≡ nat_lt 0 (length (reader_buffer self.now.inner)) }
+    {
+        !self.inner.buffer().is_empty()
+    }
+
+    fn read(&mut self, buffer: &mut [u8]) -> Result<usize, Failed> {
+        self.reads = self.reads.saturating_add(1);
+        if self.is_at_hand() {
+            return Ok(take_held(&mut self.inner, buffer));
+        }
+        match self.inner.read(buffer) {
+            Ok(count) => {
+                if count == 0 && !buffer.is_empty() {
+                    self.ends = self.ends.saturating_add(1);
+                }
+                Ok(count)
+            }
+            Err(_) => {
+                self.failures = self.failures.saturating_add(1);
+                Err(Failed)
+            }
+        }
+    }
+}

@@ -1,0 +1,104 @@
+//! Bytes of one read after another, gathered while they are at hand.
+ghost use Rattle.std.specs.Prelude.{◌≡◌, ◌+◌, ◌<◌, ◌≤◌, ◌++◌, ℕ, List, [], length, IfOk, OnErr, is_ok, true};
+ghost use Rattle.station_lines.specs.Drawing.{FailsOnce, Gathers, ReadsMore, drawn_of};
+ghost use Rattle.station_lines.specs.Source.{longest_piece};
+
+#[cfg(test)]
+mod tests;
+
+use crate::source::Source;
+use station_report::Failed;
+
+// The most bytes asked for by one read.
+const READ: usize = 512;
+
+/// The most bytes of a piece. A buffer of as many before a reader gives such pieces where the reader doesn't wait.
+pub const PIECE: usize = 32768;
+
+/// The bytes of one read, and of those after it whose bytes were at hand.
+#[derive(Drop)]
+pub(crate) struct Piece {
+    bytes: [u8; PIECE],
+    count: usize,
+    ghost within: { count ≤ longest_piece },
+}
+
+/// The reads that gave a piece.
+#[derive(Clone, Copy, Debug, PartialEq, Eq)]
+pub(crate) struct Gathered {
+    /// How many reads were made.
+    pub reads: u32,
+    /// Whether the last of them found the end.
+    pub is_over: bool,
+}
+
+impl Piece {
+    ghost use Rattle.station_lines.specs.Piece.{held};
+
+    /// A piece of no bytes.
+    pub(crate) fn new() -> Self {
+        Piece {
+            bytes: [0; PIECE],
+            count: 0,
+        }
+    }
+
+    /// Its bytes.
+    pub(crate) fn as_slice(&self) -> &[u8]
+        ensures value { result.now ≡ held self.now }
+        ensures few { length result.now ≤ longest_piece }
+    {
+        &self.bytes[..self.count]
+    }
+
+    // Whether one more read has room.
+    fn has_room(&self) -> bool
+        ensures { result ≡ true → self.now.count + 512 ≤ longest_piece }
+    {
+        self.count + READ <= PIECE
+    }
+
+    // Reads once, after the bytes that it holds. Answers how many bytes came.
+    fn read_more<S: Source>(&mut self, from: &mut S) -> Result<usize, Failed>
+        requires room { self.old.count + 512 ≤ longest_piece }
+        ensures ok { IfOk result (λ n. ReadsMore
+            (drawn_of S.left S.reads S.ends S.failures from.old)
+            (drawn_of S.left S.reads S.ends S.failures from.new) (held self.old) (held self.new) n) }
+        ensures err { OnErr result (FailsOnce
+            (drawn_of S.left S.reads S.ends S.failures from.old)
+            (drawn_of S.left S.reads S.ends S.failures from.new)) }
+        ensures at_hand { S.at_hand from.old ≡ true → is_ok result ≡ true }
+    {
+        let held = self.count;
+        let count = from.read(&mut self.bytes[held..held + READ])?;
+        self.count = held + count;
+        Ok(count)
+    }
+
+    /// Reads up to 512 bytes, and then further such reads while bytes are at hand and there are turns left and room. Only
+    /// the first of them can wait or fail.
+    pub(crate) fn gather<S: Source>(&mut self, from: &mut S, turns: u32) -> Result<Gathered, Failed>
+        requires { 0 < turns }
+        ensures ok { IfOk result (λ g. Gathers
+            (drawn_of S.left S.reads S.ends S.failures from.old)
+            (drawn_of S.left S.reads S.ends S.failures from.new) turns (held self.new) g.reads g.is_over) }
+        ensures err { OnErr result (FailsOnce
+            (drawn_of S.left S.reads S.ends S.failures from.old)
+            (drawn_of S.left S.reads S.ends S.failures from.new)) }
+    {
+        self.count = 0;
+        let mut count = self.read_more(from)?;
+        let mut reads = 1;
+        while count > 0 && reads < turns && self.has_room() && from.is_at_hand() {
+            let Ok(more) = self.read_more(from) else {
+                unreachable!();
+            };
+            count = more;
+            reads += 1;
+        }
+        Ok(Gathered {
+            reads,
+            is_over: count == 0,
+        })
+    }
+}
