@@ -1,6 +1,5 @@
 -- What is shown when a station begins.
-use Rattle.std.proofs.Common.{◌≡◌, ℕ, ◌+◌, ◌≤◌, List, [], ◌∷◌, ◌++◌, None, Some, Result, Ok, Err, length, take, drop, sym, ap, ◌∙◌, subst, inl, arith}
-use Rattle.std.specs.Prelude.{OnOk, IfErr}
+use Rattle.std.proofs.Common.{◌≡◌, ℕ, ◌+◌, ◌≤◌, List, [], ◌∷◌, ◌++◌, None, Some, length, take, drop, sym, ap, ◌∙◌, subst, inl, arith}
 use mathlib.Core.List.{reverse}
 use Rattle.std.proofs.lemmas.List.{length-reverse, reverse-append, length-take-le, take-append-drop}
 use Rattle.station_journal.specs.declared.entry.Entry.{Entry}
@@ -23,11 +22,6 @@ pub sound_front : (n base k : ℕ) (entries : List Entry) → Sound n base (reve
 sound_front n base k entries sound =
     let parts : reverse entries ≡ reverse (drop k entries) ++ reverse (take k entries) = ap (λ (l : List Entry). reverse l) (sym (take-append-drop k entries)) ∙ reverse-append (take k entries) (drop k entries) in
     sound_behind n base (reverse (drop k entries)) (reverse (take k entries)) (subst (λ l. Sound n base l) parts sound)
-
--- a sound list has no entry that is out of place
-pub must_fit : (n base : ℕ) (entries : List Entry) (P : Type 0) (result : Result (Unit {0}) ℕ) → Sound n base (reverse entries) → IfErr result (λ place. IsFirstUnsound n base entries place) → OnOk result P → P
-must_fit n base entries P (Ok done) sound none holds = holds
-must_fit n base entries P (Err place) sound none holds = absurd (none.with_it (sound_front n base (place + 1) entries sound))
 
 pub sound_at : (limits : Limits) (n base : ℕ) (entries : List Entry) → limits.aircraft ≡ n → length entries ≤ limits.entries → Sound n base (reverse entries) → IsSound limits base (reverse entries)
 sound_at limits n base entries same few sound = sound_by_counts limits base (reverse entries) (subst (λ k. Sound k base (reverse entries)) (sym same) sound) (omega (arith, few, length-reverse entries))

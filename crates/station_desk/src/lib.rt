@@ -23,5 +23,5 @@ pub use places::Places;
 pub use publish_rule::{LookingPlace, PublishRule, ReaderPlace, Sees};
 pub use published::{Mark, Origin, PublishedTable, Unlogged};
 pub use published_desk::PublishedDesk;
-pub use publisher::Publisher;
+pub use publisher::{Publisher, give_up};
 pub use replaying::{ReplayFault, replay};

@@ -1,5 +1,5 @@
 //! A publishing end and its reader places, before the station is made that they are for.
-ghost use Rattle.std.specs.Prelude.{◌≡◌, ◌<◌, ◌≤◌, [], length, Some, IfOk, IfErr, vec_len};
+ghost use Rattle.std.specs.Prelude.{◌≡◌, ◌<◌, ◌≤◌, [], length, Some, IfOk, IfErr, vec_len, vec_capacity};
 ghost use Rattle.std.specs.List.{AllByRecursion};
 ghost use Rattle.left_right.specs.Sides.{view};
 ghost use Rattle.station_journal.specs.Log.{most_entries};
@@ -12,7 +12,7 @@ ghost use Rattle.station_desk.specs.Desk.{most_aircraft};
 use crate::history::History;
 use crate::publish_rule::{PublishRule, ReaderPlace};
 use crate::published::{Mark, Origin, PublishedTable, Unlogged};
-use crate::publisher::{Publisher, begin, blank, new_place};
+use crate::publisher::{Publisher, begin, blank, give_up, new_place};
 use crossbeam_utils::rule::Protocol;
 use left_right::Absorb;
 use station_journal::{Entry, Limits, NoMemory, ResumeFault};
@@ -60,6 +60,32 @@ where
         × (base_of p.history.name ≡ p.base) };
 }
 
+// So many reader places, each of which knows what the publishing end knows. Refused at want of memory, and then the
+// publishing end is gone.
+fn with_places<const N: usize, R: Wait>(
+    rt: &R,
+    publisher: Publisher<N>,
+    places: Vec<ReaderPlace<N>>,
+    count: usize,
+) -> Result<(Publisher<N>, Vec<ReaderPlace<N>>), AllocError>
+    requires none { (places.items ≡ []) × (vec_len places ≡ 0) }
+    requires room { count ≤ vec_capacity places }
+    ensures same { IfOk result (λ t. (t.0.desk.shown ≡ publisher.entry.desk.shown)
+        × (t.0.desk.spare ≡ publisher.entry.desk.spare)) }
+    ensures places { IfOk result (λ t. (vec_len t.1 ≡ count)
+        × AllByRecursion (λ p. view p.place ≡ view publisher.entry.desk.place) t.1.items) }
+{
+    let (mut publisher, mut places) = (publisher, places);
+    for _made in 0..count {
+        let Ok(place) = new_place(&mut publisher) else {
+            give_up(rt, publisher);
+            return Err(AllocError);
+        };
+        places.push_reserved(place);
+    }
+    Ok((publisher, places))
+}
+
 impl<const N: usize> Places<N> {
     /// A publishing end over a book without entries, with so many reader places. Its clock is at the base, in
     /// milliseconds. Refused at want of memory.
@@ -70,18 +96,12 @@ impl<const N: usize> Places<N> {
         ensures base { IfOk result (λ p. base_of p.history ≡ base) }
         ensures shown { IfOk result (λ p. Matches N base p.shown []) }
     {
-        let mut places = Vec::with_capacity(alloc, usize::from(seats))?;
+        let places = Vec::with_capacity(alloc, usize::from(seats))?;
         let history = History::new(base);
         let first = blank(&history, base);
         let second = blank(&history, base);
-        let mut publisher = Publisher::new(alloc, first, second, usize::from(seats))?;
-        for _made in 0..seats {
-            let Ok(place) = new_place(&mut publisher) else {
-                publisher.take(rt);
-                return Err(AllocError);
-            };
-            places.push_reserved(place);
-        }
+        let publisher = Publisher::new(alloc, first, second, usize::from(seats))?;
+        let (publisher, places) = with_places(rt, publisher, places, usize::from(seats))?;
         Ok(Places {
             base,
             history,
@@ -119,25 +139,19 @@ impl<const N: usize> Places<N> {
         } = self;
         let count = places.len();
         places.clear();
-        for entry in entries {
-            history.add(*entry);
-        }
+        history.add_all(entries);
         let origin = Origin {
             limits,
             resumed: entries.len() as u64,
         };
-        let mut publisher = match begin(rt, publisher, base, history.front(), origin, entries) {
+        let publisher = match begin(rt, publisher, base, history.front(), origin, entries) {
             Ok(publisher) => publisher,
             Err(place) => return Err(ResumeFault::Unsound(place)),
         };
-        for _made in 0..count {
-            let Ok(place) = new_place(&mut publisher) else {
-                publisher.take(rt);
-                return Err(ResumeFault::NoMemory);
-            };
-            places.push_reserved(place);
+        match with_places(rt, publisher, places, count) {
+            Ok((publisher, places)) => Ok((history, publisher, places)),
+            Err(_) => Err(ResumeFault::NoMemory),
         }
-        Ok((history, publisher, places))
     }
 
     /// Gives them up.
@@ -148,6 +162,6 @@ impl<const N: usize> Places<N> {
             publisher,
             places: _,
         } = self;
-        publisher.take(rt);
+        give_up(rt, publisher);
     }
 }

@@ -29,6 +29,19 @@ pub(crate) struct NextCopy {
     pub front: Front,
 }
 
+/// Gives up the publishing end, once nobody reads.
+pub fn give_up<const N: usize, R: Wait>(rt: &R, publisher: Publisher<N>) {
+    publisher.take(rt);
+}
+
+/// The running book, as readers are shown it.
+#[inline(always)]
+pub(crate) fn shown_book<const N: usize>(publisher: &Publisher<N>) -> &Book<N>
+    ensures { result.now ≡ publisher.now.desk.shown.value.book }
+{
+    &publisher.published().book
+}
+
 // Takes over what the book lacks of the shown one.
 fn bring_up<const N: usize>(book: &mut Book<N>, shown: &Book<N>, missing_change: Option<Change>)
     ensures { book.new ≡ brought_up N shown.now missing_change book.old }
@@ -128,6 +141,51 @@ fn fill<const N: usize>(
     Ok(())
 }
 
+// Fills the spare copy, once nobody reads it, as `fill` does. What is shown stays. Where it is refused, the publishing end
+// is gone.
+fn fill_spare<const N: usize, R: Wait>(
+    rt: &R,
+    publisher: Publisher<N>,
+    base: u64,
+    front: Front,
+    origin: Origin,
+    entries: &[Entry],
+) -> Result<Publisher<N>, u64>
+    requires few { length entries.now ≤ most_entries }
+    ensures shown { IfOk result (λ p. p.desk.shown ≡ publisher.entry.desk.shown) }
+    ensures view { IfOk result (λ p. view p.desk.place ≡ view publisher.entry.desk.place) }
+    ensures sheet { IfOk result (λ p. sheet_of p.desk.spare.value
+        ≡ sheet (book_after base entries.now) front (Some origin)) }
+    ensures matched { IfOk result (λ p. Matches N base p.desk.spare.value.book entries.now) }
+    ensures err { IfErr result (λ place. IsFirstUnsound N base entries.now place) }
+{
+    let mut publisher = publisher;
+    let (open, mut spare) = publisher.desk.open(rt);
+    let filled = fill(&mut spare, base, front, origin, entries);
+    publisher.desk = open.shelve(spare);
+    match filled {
+        Ok(()) => Ok(publisher),
+        Err(place) => {
+            give_up(rt, publisher);
+            Err(place)
+        }
+    }
+}
+
+// Shows the spare copy in the place of the other, once nobody reads it.
+fn show_spare<const N: usize, R: Wait>(rt: &R, publisher: Publisher<N>) -> Publisher<N>
+    requires { Follows N (sheet_of publisher.desk.shown.value) (sheet_of publisher.desk.spare.value) }
+    ensures shown { result.desk.shown.value ≡ publisher.entry.desk.spare.value }
+    ensures spare { result.desk.spare.value ≡ publisher.entry.desk.shown.value }
+    ensures view { view result.desk.place
+        ≡ marked publisher.entry.desk.spare.value.front publisher.entry.desk.spare.value.origin }
+{
+    let mut publisher = publisher;
+    let (open, spare) = publisher.desk.open(rt);
+    publisher.desk = open.show_as::<Sees>(spare);
+    publisher
+}
+
 /// Makes both copies of a station that isn't there yet those of a book that was given the entries, and shows them.
 /// Refused at the place of the first entry that doesn't fit: then the publishing end is gone.
 pub(crate) fn begin<const N: usize, R: Wait>(
@@ -150,20 +208,9 @@ pub(crate) fn begin<const N: usize, R: Wait>(
         ≡ Some (record { front = front; origin = origin })) }
     ensures err { IfErr result (λ place. IsFirstUnsound N base entries.now place) }
 {
-    let mut publisher = publisher;
-    let (open, mut spare) = publisher.desk.open(rt);
-    match fill(&mut spare, base, front.again(), origin, entries) {
-        Ok(()) => publisher.desk = open.show_as::<Sees>(spare),
-        Err(place) => {
-            publisher.desk = open.shelve(spare);
-            publisher.take(rt);
-            return Err(place);
-        }
-    }
-    let (open, mut spare) = publisher.desk.open(rt);
-    let _filled = fill(&mut spare, base, front, origin, entries);
-    publisher.desk = open.shelve(spare);
-    Ok(publisher)
+    let publisher = fill_spare(rt, publisher, base, front.again(), origin, entries)?;
+    let publisher = show_spare(rt, publisher);
+    fill_spare(rt, publisher, base, front, origin, entries)
 }
 
 /// A copy of an empty book, of no station yet.
@@ -179,6 +226,24 @@ pub(crate) fn blank<const N: usize>(history: &History, base: u64) -> PublishedTa
     }
 }
 
+// One more reader place, which knows nothing yet.
+fn blank_place<const N: usize>(publisher: &Publisher<N>) -> Result<ReaderPlace<N>, AllocError>
+    ensures table { IfOk result (λ place. place.place.table_id ≡ publisher.now.desk.place.table_id) }
+{
+    publisher.factory().reader()
+}
+
+// Tells a reader place what the publishing end knows.
+fn tell_place<const N: usize>(publisher: &mut Publisher<N>, place: &mut ReaderPlace<N>)
+    requires table { place.old.place.table_id ≡ publisher.old.desk.place.table_id }
+    ensures same { (publisher.new.desk.shown ≡ publisher.old.desk.shown)
+        × (publisher.new.desk.spare ≡ publisher.old.desk.spare)
+        × (view publisher.new.desk.place ≡ view publisher.old.desk.place) }
+    ensures known { view place.new.place ≡ view publisher.old.desk.place }
+{
+    place.learn::<Notes>(publisher.desk.tell::<Notes>());
+}
+
 /// One more reader place, which knows what the publishing end knows.
 pub(crate) fn new_place<const N: usize>(
     publisher: &mut Publisher<N>,
@@ -188,7 +253,7 @@ pub(crate) fn new_place<const N: usize>(
         × (view publisher.new.desk.place ≡ view publisher.old.desk.place) }
     ensures known { IfOk result (λ place. view place.place ≡ view publisher.old.desk.place) }
 {
-    let mut place = publisher.factory().reader()?;
-    place.learn::<Notes>(publisher.desk.tell::<Notes>());
+    let mut place = blank_place(publisher)?;
+    tell_place(publisher, &mut place);
     Ok(place)
 }

@@ -4,7 +4,8 @@ ghost use mathlib.Core.List.{IsPrefix};
 ghost use Rattle.station_journal.specs.Table.{find_row};
 ghost use Rattle.station_journal.specs.Log.{IsLegal, clock_of, table_of};
 ghost use Rattle.station_desk.specs.Start.{log_of};
-ghost use Rattle.station_desk.specs.Published.{IsOfSheet, sheet_of};
+ghost use Rattle.left_right.specs.Sides.{view as view_of};
+ghost use Rattle.station_desk.specs.Published.{IsOfSheet, SawPublished, sheet_of};
 ghost use Rattle.station_desk.specs.Desk.{most_aircraft};
 ghost use Rattle.station_shared.specs.Seats.{Looks};
 
@@ -12,7 +13,7 @@ use crate::seat::Seat;
 use crate::standing::Standing;
 use crate::station_name::StationName;
 use crossbeam_utils::rule::Protocol;
-use station_desk::{Front, LookingPlace, Mark, PublishRule, PublishedTable, Sees};
+use station_desk::{Front, LookingPlace, Mark, PublishRule, PublishedTable, ReaderPlace, Sees};
 use station_journal::{Aircraft, Rows};
 use std::marker::Model;
 
@@ -48,6 +49,15 @@ where
         × IsLegal (log_of L.start l.standing.seen) };
 }
 
+// Lets a reader's place in, to look at what is published.
+fn enter<const N: usize>(place: ReaderPlace<N>) -> Result<LookingPlace<N>, ReaderPlace<N>>
+    ensures { MatchResult result
+        (λ looking. SawPublished N (view_of place.entry.place) (sheet_of looking.part.value) (view_of looking.place))
+        (λ back. view_of back.place ≡ view_of place.entry.place) }
+{
+    place.enter_as::<Sees>()
+}
+
 // Whether the published table lacks entries of this beginning. It lacks none that a place had seen before it was let in.
 fn lacks<const N: usize>(looking: &LookingPlace<N>, known: &Front) -> bool
     ensures fewer { IsTrue result
@@ -66,7 +76,7 @@ impl<const N: usize, L: StationName> Seat<N, L> {
         ensures { MatchResult result (λ look. Looks L.start self look) (λ seat. seat ≡ self) }
     {
         let (mut standing, place) = self.apart();
-        match place.enter_as::<Sees>() {
+        match enter(place) {
             Ok(looking) => {
                 if lacks(&looking, &standing.front) {
                     let place = looking.leave();

@@ -15,13 +15,13 @@ pub take_told-requires : goal.take_told-requires
 take_told-requires g c =
     let i = c.loop-told.told-index in
     let lines = c.requires.known.0 in
-    (omega arith, (omega arith, (omega (arith, c.requires.room, c.loop-told.invariant.room, c.loop-told-test.true), (get_or lines i TooLong, told_line c.args.ahead.now lines i c.told-item.result c.requires.known.1 c.loop-told-test.true c.told-item.is))))
+    (omega arith, (omega arith, (omega (arith, c.requires.room, c.loop-told.invariant.room, c.loop-told-test.true), ((get_or lines i TooLong, told_line c.args.ahead.now lines i c.told-item.result c.requires.known.1 c.loop-told-test.true c.told-item.is), c.loop-told.invariant.met))))
 
 pub returns-in_err-take_told-clause-lines : goal.returns-in_err-take_told-clause-lines
 returns-in_err-take_told-clause-lines g c =
     let i = c.loop-told.told-index in
     let lines = c.requires.known.0 in
-    let pumps = c.in_err-take_told.ensures (get_or lines i TooLong) (told_line c.args.ahead.now lines i c.told-item.result c.requires.known.1 c.loop-told-test.true c.told-item.is) in
+    let pumps = c.in_err-take_told.ensures.taken (get_or lines i TooLong) (told_line c.args.ahead.now lines i c.told-item.result c.requires.known.1 c.loop-told-test.true c.told-item.is) in
     omega (arith, pumps.counts.lines_more, c.loop-told.invariant.room, c.loop-told-test.true)
 
 pub returns-in_err-take_told-clause-taken : goal.returns-in_err-take_told-clause-taken
@@ -29,7 +29,7 @@ returns-in_err-take_told-clause-taken g c lines h =
     let i = c.loop-told.told-index in
     let line = get_or lines i TooLong in
     let gives = SeatSteps g.L.StationName.start in
-    let pumps = c.in_err-take_told.ensures line (told_line c.args.ahead.now lines i c.told-item.result h c.loop-told-test.true c.told-item.is) in
+    let pumps = c.in_err-take_told.ensures.taken line (told_line c.args.ahead.now lines i c.told-item.result h c.loop-told-test.true c.told-item.is) in
     let exit = err_from_is_err_and c.from_residual.result c.from_residual.ensures.1 in
     rw (exit.1, exit.2) (record {
       lines = take i lines ++ line ∷ [];
@@ -44,12 +44,13 @@ loop-told-preserved g c =
     let i = c.loop-told.told-index in
     let gives = SeatSteps g.L.StationName.start in
     let known = c.requires.known.0 in
-    let one = c.in_ok-take_told.ensures (get_or known i TooLong) (told_line c.args.ahead.now known i c.told-item.result c.requires.known.1 c.loop-told-test.true c.told-item.is) in
+    let one = c.in_ok-take_told.ensures.taken (get_or known i TooLong) (told_line c.args.ahead.now known i c.told-item.result c.requires.known.1 c.loop-told-test.true c.told-item.is) in
     record {
       room = omega (arith, one.counts.lines_more, c.loop-told.invariant.room);
+      met = c.take_told.ensures.met;
       taken = λ lines h.
           let line = get_or lines i TooLong in
-          let pumps = c.in_ok-take_told.ensures line (told_line c.args.ahead.now lines i c.told-item.result h c.loop-told-test.true c.told-item.is) in
+          let pumps = c.in_ok-take_told.ensures.taken line (told_line c.args.ahead.now lines i c.told-item.result h c.loop-told-test.true c.told-item.is) in
           subst (λ (ls : List Cut). Pumps gives (record { feed = c.args.seat.now; tally = c.args.tally.now }) ls (Ok tt) (record { feed = c.take_told.new.seat; tally = c.take_told.new.tally }))
           (sym (line_more c.args.ahead.now lines i h c.loop-told-test.true))
           (Pumps-then gives _ _ _ (take i lines) (line ∷ []) _ (c.loop-told.invariant.taken lines h) pumps);

@@ -1,15 +1,17 @@
 use Rattle.std.proofs.Common.{◌≡◌, ◌+◌, List, take, Ok}
+use mathlib.Core.List.{IsPrefix}
 use Rattle.modes_frame.specs.declared.cutter.Cut.{Cut}
 use Rattle.station_shared.specs.LinesAhead.{told_all}
 use Rattle.station_lines.specs.Pump.{Pumps}
 use Rattle.station_shared.specs.Workers.{SeatSteps}
 use Rattle.station_shared.proofs.held_pump.take_ahead.Given as goal
 
--- the lines so far were taken
+-- the lines so far were taken, and what the seat has seen begins the journal
 abbrev pub invariant-loop-told : goal.invariant-loop-told
 invariant-loop-told g l =
     record {
       room : l.tally.lines ≡ l.fn.tally.lines + l.told-index;
+      met : IsPrefix l.seat.seen l.locked.log.entries;
       taken : (lines : List Cut) → l.ahead ≡ told_all lines →
           Pumps (SeatSteps g.L.StationName.start) (record { feed = l.fn.seat; tally = l.fn.tally }) (take l.told-index lines) (Ok tt) (record { feed = l.seat; tally = l.tally });
     }

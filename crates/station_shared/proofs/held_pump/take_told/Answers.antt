@@ -5,11 +5,11 @@ use Rattle.station_shared.proofs.AheadLemmas.{told_frame, told_fault, Pumps-quie
 use Rattle.station_lines.proofs.PumpLemmas.{Pumps-frame}
 use Rattle.station_shared.proofs.held_pump.take_told.Goals as goal
 
-pub returns-in-Frame : goal.returns-in-Frame
-returns-in-Frame g c line h =
+pub returns-in-Frame-clause-taken : goal.returns-in-Frame-clause-taken
+returns-in-Frame-clause-taken g c line h =
     let known = told_frame (heard line) c.in-Frame.frame c.in-Frame.decoded (sym c.in-Frame.is ∙ h) in
-    Pumps-frame (SeatSteps g.L.StationName.start) line c.in-Frame.frame _ _ _ _ _ c.take_frame.ensures known.0
+    Pumps-frame (SeatSteps g.L.StationName.start) line c.in-Frame.frame _ _ _ _ _ c.take_frame.ensures.pumps known.0
 
-pub returns-in-Fault : goal.returns-in-Fault
-returns-in-Fault g c line h =
+pub returns-in-Fault-clause-taken : goal.returns-in-Fault-clause-taken
+returns-in-Fault-clause-taken g c line h =
     Pumps-quiet (SeatSteps g.L.StationName.start) _ line _ _ (told_fault (heard line) (sym c.in-Fault.is ∙ h)) c.fault.ensures

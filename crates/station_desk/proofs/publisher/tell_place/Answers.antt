@@ -1,10 +1,7 @@
 use Rattle.std.proofs.Common.{rules}
 use Rattle.station_desk.specs.Published.{sheet_of}
-use Rattle.station_desk.proofs.PublishRuleLemmas.{admits, forks, merges}
-use Rattle.station_desk.proofs.publisher.new_place.Goals as goal
-
-pub reader-requires : goal.reader-requires
-reader-requires g c = admits _ (λ x. sheet_of x)
+use Rattle.station_desk.proofs.PublishRuleLemmas.{forks, merges}
+use Rattle.station_desk.proofs.publisher.tell_place.Goals as goal
 
 pub tell-requires : goal.tell-requires
 tell-requires g c = forks _ (λ x. sheet_of x) _ _
