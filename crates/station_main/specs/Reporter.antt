@@ -17,15 +17,11 @@ use Rattle.station_main.specs.declared.schedule.Act.TheVariants.{Sleep, Print}
 abbrev pub next_moment : ℕ → ℕ → ℕ
 next_moment every at = min (at + every) (2 ^ 64 - 1)
 
--- the longest sleep after so many of them, in milliseconds: 1, 2, 4 and so on, up to 50
-abbrev pub longest_sleep : ℕ → ℕ
-longest_sleep sleeps = min (2 ^ sleeps) 50
-
--- before a table is due a sleep up to then, or the longest one; from then on a table at that moment, and the next is due
--- so many milliseconds later
-abbrev pub IsActAt : (every due sleeps now : ℕ) → Act → Type 0
-IsActAt every due sleeps now (Sleep pause) = (now < due) × (as_nanos pause ≡ min (due - now) (longest_sleep sleeps) * 1000000)
-IsActAt every due sleeps now (Print at next) = (due ≤ now) × (at ≡ now) × (next ≡ next_moment every now)
+-- before a table is due a sleep up to then, of 50 ms at most; from then on a table at that moment, and the next is due so
+-- many milliseconds later
+abbrev pub IsActAt : (every due now : ℕ) → Act → Type 0
+IsActAt every due now (Sleep pause) = (now < due) × (as_nanos pause ≡ min (due - now) 50 * 1000000)
+IsActAt every due now (Print at next) = (due ≤ now) × (at ≡ now) × (next ≡ next_moment every now)
 
 -- of the moments that a clock gave, those at which a table was due
 abbrev pub due_moments : (every due : ℕ) → List ℕ → List ℕ

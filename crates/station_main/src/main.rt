@@ -1,6 +1,7 @@
 //! The program `groundstation`.
 #![tactic(auto)]
 
+mod bell;
 mod faults;
 mod kept;
 mod limits;

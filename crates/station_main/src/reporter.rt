@@ -6,13 +6,12 @@ ghost use Rattle.station_main.specs.Reporter.{Reports, ReportsByAClock};
 ghost use Rattle.station_main.specs.Tables.{PrintsAtMost, text_of};
 ghost use Rattle.station_report.specs.Sink.{TakesAll};
 
+use crate::bell::Bell;
 use crate::schedule::{Act, Moments, Pace, Since, act_at};
 use station_report::{Sink, WriteFault, flush_after, table};
 use station_shared::{Look, Seat, Station, StationName};
 use std::snapshot::Snapshot;
 use std::sync::Wait;
-use std::sync::atomic::{AtomicBool, Ordering};
-use std::thread;
 use std::thread::Promise;
 use std::time::{Clock, Instant};
 
@@ -48,7 +47,7 @@ impl<const N: usize, L: StationName, S: Sink> Promise<Reported<Seat<N, L>, S>>
 pub fn report<const N: usize, L: StationName, R: Wait + Clock, S: Sink>(
     rt: &R,
     station: &Station<N, L>,
-    have_ended: &AtomicBool,
+    ended: &Bell,
     start: Option<Instant>,
     pace: Pace,
     seat: Seat<N, L>,
@@ -58,14 +57,14 @@ pub fn report<const N: usize, L: StationName, R: Wait + Clock, S: Sink>(
         (sink_of S.taken S.failures result.out) result.has_failed }
 {
     let mut moments = Since { rt, start };
-    report_at(rt, station, have_ended, pace, seat, out, &mut moments)
+    report_at(rt, station, ended, pace, seat, out, &mut moments)
 }
 
 // The same at the moments of any clock: a table at each of them that is due, and at no other.
 fn report_at<const N: usize, L: StationName, R: Wait + Clock, S: Sink, M: Moments>(
     rt: &R,
     station: &Station<N, L>,
-    have_ended: &AtomicBool,
+    ended: &Bell,
     pace: Pace,
     mut seat: Seat<N, L>,
     mut out: S,
@@ -77,16 +76,12 @@ fn report_at<const N: usize, L: StationName, R: Wait + Clock, S: Sink, M: Moment
 {
     let mut has_failed = false;
     let mut due = pace.first_due();
-    let mut sleeps: u32 = 0;
     for _ in rt.forever() {
-        if has_failed || have_ended.load(Ordering::SeqCst) {
+        if has_failed || ended.has_rung() {
             break;
         }
-        match act_at(moments.now(), due, sleeps, pace.every) {
-            Act::Sleep(pause) => {
-                thread::sleep(rt, pause);
-                sleeps = sleeps.saturating_add(1);
-            }
+        match act_at(moments.now(), due, pace.every) {
+            Act::Sleep(pause) => ended.rest(rt, pause),
             Act::Print { at, next_due } => {
                 let _ = station.tick(rt, &mut seat, at);
                 let (shown, written) = print_table(seat, &mut out);

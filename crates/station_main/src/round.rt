@@ -76,7 +76,7 @@ pub fn run_round<
     requires ledger { (blank.name ≡ L.name) × (blank.parts ≡ L.parts) }
     requires seats { (L.parts ≡ length plan.inputs.items + 1)
         × (L.seats ≡ length plan.inputs.items + 1)
-        × (places.places ≡ length plan.inputs.items + 1) }
+        × (places.places ≡ 1) }
     requires start { (L.start.history ≡ places.history)
         × (L.start.resumed ≡ length plan.kept.recent.entries.items) }
     requires base { base_of places.history ≡ plan.kept.recent.base }
@@ -110,7 +110,7 @@ pub fn run_last<
     requires ledger { (blank.name ≡ L.name) × (blank.parts ≡ L.parts) }
     requires seats { (L.parts ≡ length plan.inputs.items + 1)
         × (L.seats ≡ length plan.inputs.items + 1)
-        × (places.places ≡ length plan.inputs.items + 1) }
+        × (places.places ≡ 1) }
     requires start { (L.start.history ≡ places.history)
         × (L.start.resumed ≡ length plan.kept.recent.entries.items) }
     requires base { base_of places.history ≡ plan.kept.recent.base }
@@ -140,7 +140,7 @@ fn work<L: StationName + Send + Sync, R: Threads + Wait + Clock + Sync, O: Write
     requires ledger { (blank.name ≡ L.name) × (blank.parts ≡ L.parts) }
     requires seats { (L.parts ≡ length plan.inputs.items + 1)
         × (L.seats ≡ length plan.inputs.items + 1)
-        × (places.places ≡ length plan.inputs.items + 1) }
+        × (places.places ≡ 1) }
     requires start { (L.start.history ≡ places.history)
         × (L.start.resumed ≡ length plan.kept.recent.entries.items) }
     requires base { base_of places.history ≡ plan.kept.recent.base }

@@ -132,7 +132,8 @@ fn last_round<
     }
 }
 
-// All that a round wants before its station: its inputs, a buffer for its output, and places for its seats.
+// All that a round wants before its station: its inputs, a buffer for its output, and a place for the reporter, which
+// alone looks.
 fn prepare<'a, R: Wait + Files<File = File>, O: Write + Drop>(
     rt: &R,
     alloc: Global,
@@ -148,14 +149,14 @@ fn prepare<'a, R: Wait + Files<File = File>, O: Write + Drop>(
     ensures inputs { IfOk result (λ made. length made.0.inputs.items ≡ length asked.entry.paths.now.items) }
     ensures out { IfOk result (λ made. buffered_of O.contents made.0.out
         ≡ record { taken = O.contents out; failures = 0 }) }
-    ensures places { IfOk result (λ made. made.1.places ≡ length asked.entry.paths.now.items + 1) }
+    ensures places { IfOk result (λ made. made.1.places ≡ 1) }
     ensures base { IfOk result (λ made. base_of made.1.history ≡ kept.recent.base) }
 {
     let inputs = open_all(rt, alloc, asked.paths)?;
     let Ok(buffered) = BufWriter::with_capacity(alloc, TABLE_ROOM, out) else {
         return Err(Fault::NoMemory);
     };
-    let Ok(places) = Places::new(rt, alloc, kept.recent.base, asked.paths.len() as u8 + 1) else {
+    let Ok(places) = Places::new(rt, alloc, kept.recent.base, 1) else {
         return Err(Fault::NoMemory);
     };
     let plan = Plan {

@@ -2,7 +2,7 @@
 ghost use Rattle.std.specs.Prelude.{◌≡◌, ◌-◌, ◌^◌, ◌/◌, ℕ, List, [], ◌∷◌, Option, None, min};
 ghost use Rattle.std.specs.Duration.{as_nanos};
 ghost use Rattle.std.specs.Io.KnownBytes.{Appends};
-ghost use Rattle.station_main.specs.Reporter.{IsActAt, longest_sleep, next_moment};
+ghost use Rattle.station_main.specs.Reporter.{IsActAt, next_moment};
 
 use std::time::{Clock, Duration, Instant};
 
@@ -24,17 +24,8 @@ impl Pace {
     }
 }
 
-// The longest sleep of all, in milliseconds.
-const LONGEST_OF_ALL: u64 = 50;
-
-// The longest sleep after so many of a round, in milliseconds. So a short round ends soon after its paths, and a long one
-// is seldom woken.
-fn longest_after(sleeps: u32) -> u64
-    ensures { result ≡ longest_sleep sleeps }
-{
-    let grown = 2_u64.checked_pow(sleeps).unwrap_or(LONGEST_OF_ALL);
-    grown.min(LONGEST_OF_ALL)
-}
+// The longest sleep, in milliseconds.
+const LONGEST_SLEEP: u64 = 50;
 
 /// What the reporter does at a moment.
 #[derive(Clone, Copy, Debug, PartialEq, Eq)]
@@ -50,14 +41,13 @@ pub enum Act {
     },
 }
 
-/// What the reporter does now, after so many sleeps of its round. Before a table is due it sleeps up to then, but at most
-/// 1 ms, 2, 4 and so on, up to 50. From then on it prints one at this moment, and the next is due `every` milliseconds
-/// later, up to 2^64 - 1.
-pub fn act_at(now: u64, due: u64, sleeps: u32, every: u32) -> Act
-    ensures { IsActAt every due sleeps now result }
+/// What the reporter does now. Before a table is due it sleeps up to then, but at most 50 ms. From then on it prints one at
+/// this moment, and the next is due `every` milliseconds later, up to 2^64 - 1.
+pub fn act_at(now: u64, due: u64, every: u32) -> Act
+    ensures { IsActAt every due now result }
 {
     if now < due {
-        let pause = (due - now).min(longest_after(sleeps));
+        let pause = (due - now).min(LONGEST_SLEEP);
         return Act::Sleep(Duration::from_millis(pause));
     }
     Act::Print {

@@ -4,6 +4,7 @@ ghost use Rattle.station_main.specs.Output.{buffered_of, sink_of};
 ghost use Rattle.station_main.specs.Reporter.{ReportsByAClock};
 ghost use Rattle.station_main.specs.Run.{HaveWorked, PrintsLast};
 
+use crate::bell::Bell;
 use crate::limits::{AIRCRAFT, TURNS};
 use crate::output::{Written, give_up, unbuffered};
 use crate::reporter::{Given, Reported, print_table, report};
@@ -14,7 +15,6 @@ use std::fs::File;
 use std::io::{BufWriter, Write};
 use std::snapshot::Snapshot;
 use std::sync::Wait;
-use std::sync::atomic::{AtomicBool, Ordering};
 use std::thread;
 use std::thread::Threads;
 use std::time::{Clock, Instant};
@@ -48,8 +48,8 @@ pub fn run_threads<
     ensures reporter { IfSome result (λ ended. ReportsByAClock L.start pace.every pace.last seat ended.1.seat
         (sink_of S.taken S.failures out) (sink_of S.taken S.failures ended.1.out) ended.1.has_failed) }
 {
-    let have_ended = AtomicBool::new(false);
-    let flag = &have_ended;
+    let bell = Bell::new();
+    let ended = &bell;
     thread::scope(
         thread::scope_env(),
         rt,
@@ -67,11 +67,11 @@ pub fn run_threads<
             };
             match scope.spawn_with(
                 given,
-                move || report(rt, station, flag, start, pace, seat, out),
+                move || report(rt, station, ended, start, pace, seat, out),
             ) {
                 Ok(reporter) => {
                     run_receivers(rt, station, receivers.as_mut_slice(), TURNS);
-                    flag.store(true, Ordering::SeqCst);
+                    ended.ring();
                     Some((receivers, reporter.join(rt)))
                 }
                 Err(_) => None,

@@ -1,5 +1,4 @@
 pub mod AheadLemmas
-pub mod AllLemmas
 pub mod CloseLemmas
 pub mod CountLemmas
 pub mod LookLemmas

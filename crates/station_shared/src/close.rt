@@ -93,7 +93,7 @@ impl<const N: usize, L: StationName> Locked<N, L> {
         } = self;
         let _known = desk.front();
         while let Some(seat) = seats.pop() {
-            let (standing, _place) = seat.apart();
+            let standing = seat.into_standing();
             let (share, front) = standing.into_parts();
             desk.covers(&front);
             rest.merge(share);

@@ -71,22 +71,31 @@ fn lacks<const N: usize>(looking: &LookingPlace<N>, known: &Front) -> bool
 impl<const N: usize, L: StationName> Seat<N, L> {
     /// Looks at the table as it is published, which holds all that the seat has seen. It neither waits nor takes memory.
     ///
-    /// The seat comes back as it was where no reader is let in.
+    /// The seat comes back as it was where no reader is let in, and where it has no place among the readers.
     pub fn look(self) -> Result<Look<N, L>, Seat<N, L>>
         ensures { MatchResult result (λ look. Looks L.start self look) (λ seat. seat ≡ self) }
     {
         let (mut standing, place) = self.apart();
+        let Some(place) = place else {
+            return Err(Seat {
+                standing,
+                place: None,
+            });
+        };
         match enter(place) {
             Ok(looking) => {
                 if lacks(&looking, &standing.front) {
-                    let place = looking.leave();
+                    let place = Some(looking.leave());
                     return Err(Seat { standing, place });
                 }
                 standing.front.begins(&looking.get().front);
                 standing.know(looking.get().front.again());
                 Ok(Look { standing, looking })
             }
-            Err(place) => Err(Seat { standing, place }),
+            Err(place) => Err(Seat {
+                standing,
+                place: Some(place),
+            }),
         }
     }
 }
@@ -119,7 +128,7 @@ impl<const N: usize, L: StationName> Look<N, L> {
         ensures { result ≡ self }
     {
         let Look { standing, looking } = self;
-        let place = looking.leave();
+        let place = Some(looking.leave());
         Seat { standing, place }
     }
 }

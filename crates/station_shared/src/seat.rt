@@ -1,5 +1,5 @@
 //! A seat at a station.
-ghost use Rattle.std.specs.Prelude.{◌≡◌, ◌≤◌};
+ghost use Rattle.std.specs.Prelude.{◌≡◌, ◌≤◌, IfSome};
 ghost use Rattle.station_journal.specs.Log.{IsLegal};
 ghost use Rattle.station_desk.specs.Start.{log_of};
 ghost use Rattle.left_right.specs.Sides.{view as view_of};
@@ -15,13 +15,13 @@ use station_desk::{Mark, PublishRule, PublishedTable, ReaderPlace};
 use std::marker::Model;
 
 /// The right to call, as one of the seats of a station. Contracts see its number, how many of its calls were accepted,
-/// and what it has seen of the journal.
+/// and what it has seen of the journal. Where it has a place among the readers, it can look.
 pub struct Seat<const N: usize, L: StationName>
 where
     PublishRule: Protocol<PublishedTable<N>, Option<Mark>>,
 {
     pub(crate) standing: Standing<L>,
-    pub(crate) place: ReaderPlace<N>,
+    pub(crate) place: Option<ReaderPlace<N>>,
     pub(crate) ghost small: { N ≤ most_aircraft },
 }
 
@@ -29,6 +29,7 @@ impl<const N: usize, L: StationName> Model for Seat<N, L>
 where
     PublishRule: Protocol<PublishedTable<N>, Option<Mark>>,
 {
+    ghost use Rattle.std.specs.Prelude.{IfSome};
     ghost use Rattle.left_right.specs.Sides.{view as view_of};
     ghost use Rattle.station_shared.specs.Seats.{Seated};
     ghost use Rattle.station_desk.specs.Published.{IsOf};
@@ -37,7 +38,7 @@ where
 
     ghost view = { λ s. s.standing };
 
-    ghost invariant = { λ s. IsOf L.start (view_of s.place.place) };
+    ghost invariant = { λ s. IfSome s.place (λ p. IsOf L.start (view_of p.place)) };
 }
 
 impl<const N: usize, L: StationName> Seat<N, L> {
@@ -66,13 +67,21 @@ impl<const N: usize, L: StationName> Seat<N, L> {
         self.standing.know(longer);
     }
 
-    /// What it keeps whether it looks or not, and its place among the readers.
-    pub(crate) fn apart(self) -> (Standing<L>, ReaderPlace<N>)
+    /// What it keeps whether it looks or not, and its place among the readers, where it has one.
+    pub(crate) fn apart(self) -> (Standing<L>, Option<ReaderPlace<N>>)
         ensures standing { result.0 ≡ self }
-        ensures place { IsOf L.start (view_of result.1.place) }
+        ensures place { IfSome result.1 (λ p. IsOf L.start (view_of p.place)) }
     {
         let Seat { standing, place } = self;
         (standing, place)
+    }
+
+    /// What it keeps whether it looks or not. Its place among the readers is given up.
+    pub(crate) fn into_standing(self) -> Standing<L>
+        ensures { result ≡ self }
+    {
+        let Seat { standing, place: _ } = self;
+        standing
     }
 }
 

@@ -27,7 +27,7 @@ pub(super) fn begin<L: StationName, R: Wait>(
     requires ledger { (blank.name ≡ L.name) × (blank.parts ≡ L.parts) }
     requires seats { (L.parts ≡ length inputs.items + 1)
         × (L.seats ≡ length inputs.items + 1)
-        × (places.places ≡ length inputs.items + 1) }
+        × (places.places ≡ 1) }
     requires start { (L.start.history ≡ places.history)
         × (L.start.resumed ≡ length kept.recent.entries.items) }
     requires base { base_of places.history ≡ kept.recent.base }

@@ -1,26 +1,24 @@
 //! What tests of `run` stand on: a clock that shows the moments of a test, a path that lasts, and a wait with a bound.
 use std::alloc::{Allocator, Global};
-use std::array;
 use std::fs::{File, Metadata, OpenOptions};
 use std::io::{self, PipeReader, PipeWriter, Write};
 use std::os::fd::AsRawFd;
 use std::rt::Files;
 use std::sync::Wait;
-use std::sync::atomic::{AtomicBool, AtomicU64, AtomicUsize, Ordering};
+use std::sync::atomic::{AtomicBool, AtomicUsize, Ordering};
 use std::thread::{self, Threads};
 use std::time::{Clock, Duration};
 
-/// A runtime whose clock shows one moment after another, in milliseconds: each sleep ends at the next. At the last it
-/// stands, and the word is set by the sleep after it. It stands before that where it is held.
+/// A runtime whose clock shows one moment after another, in milliseconds: each reading shows the next. At the last it
+/// stands, and the word is set by the reading after it. It stands before that where it is held.
 #[derive(Drop)]
 pub struct Staged<'a, R> {
     rt: &'a R,
     moments: &'a [u64],
     // How many moments it may show.
     most: AtomicUsize,
-    sleeps: AtomicUsize,
-    // The milliseconds of the first sleeps.
-    slept: [AtomicU64; 10],
+    // Which moment comes next.
+    next: AtomicUsize,
     has_ended: &'a AtomicBool,
 }
 
@@ -30,22 +28,16 @@ impl<'a, R> Staged<'a, R> {
             rt,
             moments,
             most: AtomicUsize::new(moments.len()),
-            sleeps: AtomicUsize::new(0),
-            slept: array::from_fn(|_| AtomicU64::new(0)),
+            next: AtomicUsize::new(0),
             has_ended,
         }
     }
 
-    /// The milliseconds of the first sleeps.
-    pub fn slept(&self) -> &[AtomicU64] {
-        self.slept.as_slice()
-    }
-
     /// Holds the clock at the last of so many moments, 1 at least. It goes on from where it was held before.
     pub fn hold_at(&self, most: usize) {
-        let shown = self.sleeps.load(Ordering::SeqCst);
-        let last = self.most.load(Ordering::SeqCst).saturating_sub(1);
-        self.sleeps.store(shown.min(last), Ordering::SeqCst);
+        let next = self.next.load(Ordering::SeqCst);
+        let held = self.most.load(Ordering::SeqCst);
+        self.next.store(next.min(held), Ordering::SeqCst);
         self.most.store(most, Ordering::SeqCst);
     }
 }
@@ -56,10 +48,12 @@ impl<'a, R: Wait> Wait for Staged<'a, R> {}
 
 impl<'a, R: Clock> Clock for Staged<'a, R> {
     fn monotonic(&self) -> io::Result<Duration> {
-        let held = self.most.load(Ordering::SeqCst).saturating_sub(1);
-        let shown = self
-            .moments
-            .get(self.sleeps.load(Ordering::SeqCst).min(held));
+        let most = self.most.load(Ordering::SeqCst);
+        let next = self.next.fetch_add(1, Ordering::SeqCst);
+        if next >= most {
+            self.has_ended.store(true, Ordering::SeqCst);
+        }
+        let shown = self.moments.get(next.min(most.saturating_sub(1)));
         let last = self.moments.last();
         Ok(Duration::from_millis(*shown.or(last).unwrap_or(&0)))
     }
@@ -68,18 +62,8 @@ impl<'a, R: Clock> Clock for Staged<'a, R> {
         self.monotonic()
     }
 
-    // A sleep of more than 50 ms leaves the clock as it is.
     fn sleep(&self, duration: Duration) {
-        thread::sleep(self.rt, Duration::from_millis(1));
-        if duration <= Duration::from_millis(50) {
-            let before = self.sleeps.fetch_add(1, Ordering::SeqCst);
-            if let Some(slept) = self.slept.get(before) {
-                slept.store(duration.as_millis() as u64, Ordering::SeqCst);
-            }
-            if before >= self.most.load(Ordering::SeqCst) {
-                self.has_ended.store(true, Ordering::SeqCst);
-            }
-        }
+        self.rt.sleep(duration);
     }
 }
 

@@ -1,0 +1,39 @@
+//! The bell that is rung when all receivers have ended, and wakes the reporter.
+
+use std::sync::Wait;
+use std::sync::atomic::{AtomicBool, Ordering};
+use std::thread::Parker;
+use std::time::Duration;
+
+/// It is rung once, and stays so. One thread at a time rests beside it.
+#[derive(Drop)]
+pub struct Bell {
+    has_rung: AtomicBool,
+    parker: Parker,
+}
+
+impl Bell {
+    /// A bell that hasn't rung.
+    pub fn new() -> Bell {
+        Bell {
+            has_rung: AtomicBool::new(false),
+            parker: Parker::new(),
+        }
+    }
+
+    /// Rings it, and wakes who rests.
+    pub fn ring(&self) {
+        self.has_rung.store(true, Ordering::SeqCst);
+        self.parker.unpark();
+    }
+
+    /// Whether it has rung.
+    pub fn has_rung(&self) -> bool {
+        self.has_rung.load(Ordering::SeqCst)
+    }
+
+    /// Rests until it rings, and so long at most. It may end before.
+    pub fn rest<R: Wait>(&self, rt: &R, longest: Duration) {
+        self.parker.park_timeout(rt, longest);
+    }
+}
