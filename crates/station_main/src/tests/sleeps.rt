@@ -1,7 +1,14 @@
 //! How long the reporter sleeps, and what it does at a moment.
+use super::NO_LINES;
+use super::staged::{Staged, end_path, lasting_path};
+use crate::program::program;
 use crate::schedule::{Act, act_at};
+use std::sync::atomic::AtomicBool;
 use std::test::*;
-use std::time::Duration;
+use std::thread::join;
+use std::time::{Duration, Instant};
+
+const MOMENTS: [u64; 1] = [0];
 
 fn sleep(milliseconds: u64) -> Act {
     Act::Sleep(Duration::from_millis(milliseconds))
@@ -28,4 +35,40 @@ fn a_sleep_lasts_until_a_table_is_due_or_is_the_longest(rt: HostRuntime) {
     for (now, due, act) in acts {
         assert_eq!(rt; act_at(now, due, 500), act);
     }
+}
+
+// The path ends once the reporter's clock has set the word, some 10 ms after it at most, and a sleep of 50 ms begins there.
+// Processors may be busy, so that one of several runs ends soon after its path is enough.
+#[test]
+fn a_run_ends_while_its_reporter_sleeps(rt: HostRuntime) -> Result<(), Fail> {
+    for _ in 0..50 {
+        let has_looked = AtomicBool::new(false);
+        let staged = Staged::new(&rt, MOMENTS.as_slice(), &has_looked);
+        let lasting = lasting_path(&rt, rt.alloc())?;
+        let path = lasting.path.as_str();
+        let words = ["groundstation", "run", "--every=3600000", path];
+        let (mut out, mut err) = (Vec::new(rt.alloc()), Vec::new(rt.alloc()));
+        let lines = lasting.lines;
+        let (was_ended, status) = join(
+            &rt,
+            || {
+                let was_ended = end_path(&rt, &has_looked, lines, NO_LINES);
+                (was_ended, Instant::now(&rt))
+            },
+            || program(
+                &staged,
+                rt.alloc(),
+                words.as_slice(),
+                NO_LINES,
+                &mut out,
+                &mut err,
+            ),
+        );
+        assert!(rt; was_ended.0);
+        assert_eq!(rt; status, 0);
+        if was_ended.1?.elapsed(&rt)? < Duration::from_millis(20) {
+            return Ok(());
+        }
+    }
+    Err(Fail::new("each run has waited for its reporter"))
 }
