@@ -1,11 +1,12 @@
 //! How long the reporter sleeps, and what it does at a moment.
 use super::NO_LINES;
 use super::staged::{Staged, end_path, lasting_path};
+use crate::bell::Bell;
 use crate::program::program;
 use crate::schedule::{Act, act_at};
 use std::sync::atomic::AtomicBool;
 use std::test::*;
-use std::thread::join;
+use std::thread::{self, join};
 use std::time::{Duration, Instant};
 
 const MOMENTS: [u64; 1] = [0];
@@ -35,6 +36,52 @@ fn a_sleep_lasts_until_a_table_is_due_or_is_the_longest(rt: HostRuntime) {
     for (now, due, act) in acts {
         assert_eq!(rt; act_at(now, due, 500), act);
     }
+}
+
+#[test]
+fn a_rest_beside_a_silent_bell_lasts(rt: HostRuntime) -> Result<(), Fail> {
+    let bell = Bell::new();
+    let began = Instant::now(&rt)?;
+    for _ in 0..5 {
+        bell.rest(&rt, Duration::from_millis(10));
+    }
+    let rested = began.elapsed(&rt)?;
+    assert!(rt; !bell.has_rung());
+    assert!(rt; rested >= Duration::from_millis(40));
+    Ok(())
+}
+
+// No table is due, so each sleep lasts 50 ms. A reading each 10 ms, and ten more, are allowed.
+#[test]
+fn the_reporter_sleeps_between_its_readings_of_the_clock(rt: HostRuntime) -> Result<(), Fail> {
+    let has_looked = AtomicBool::new(false);
+    let staged = Staged::new(&rt, MOMENTS.as_slice(), &has_looked);
+    let lasting = lasting_path(&rt, rt.alloc())?;
+    let path = lasting.path.as_str();
+    let words = ["groundstation", "run", "--every=3600000", path];
+    let (mut out, mut err) = (Vec::new(rt.alloc()), Vec::new(rt.alloc()));
+    let lines = lasting.lines;
+    let began = Instant::now(&rt)?;
+    let (was_ended, status) = join(
+        &rt,
+        || {
+            thread::sleep(&rt, Duration::from_millis(200));
+            end_path(&rt, &has_looked, lines, NO_LINES)
+        },
+        || program(
+            &staged,
+            rt.alloc(),
+            words.as_slice(),
+            NO_LINES,
+            &mut out,
+            &mut err,
+        ),
+    );
+    let allowed = 10 + began.elapsed(&rt)?.as_millis() / 10;
+    assert!(rt; was_ended);
+    assert_eq!(rt; status, 0);
+    assert!(rt; u64::try_from(staged.readings())? <= u64::try_from(allowed)?);
+    Ok(())
 }
 
 // The path ends once the reporter's clock has set the word, some 10 ms after it at most, and a sleep of 50 ms begins there.

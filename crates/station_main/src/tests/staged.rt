@@ -40,6 +40,11 @@ impl<'a, R> Staged<'a, R> {
         self.next.store(next.min(held), Ordering::SeqCst);
         self.most.store(most, Ordering::SeqCst);
     }
+
+    /// How often it was read, where it was never held.
+    pub fn readings(&self) -> usize {
+        self.next.load(Ordering::SeqCst)
+    }
 }
 
 impl<'a, R: Threads> Threads for Staged<'a, R> {}
