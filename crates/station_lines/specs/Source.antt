@@ -18,4 +18,4 @@ counted_up (suc n) old = one_more (counted_up n old)
 
 -- the most bytes that are gathered from reads made one after another
 abbrev pub longest_piece : ℕ
-longest_piece = 32768
+longest_piece = 131072

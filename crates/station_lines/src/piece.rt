@@ -13,7 +13,7 @@ use station_report::Failed;
 const READ: usize = 512;
 
 /// The most bytes of a piece. A buffer of as many before a reader gives such pieces where the reader doesn't wait.
-pub const PIECE: usize = 32768;
+pub const PIECE: usize = 131_072;
 
 /// The bytes of one read, and of those after it whose bytes were at hand.
 #[derive(Drop)]

@@ -1,5 +1,5 @@
 //! The lines of a piece, before the lock of their station is taken: cut, read, and their frames decoded.
-ghost use Rattle.std.specs.Prelude.{◌≡◌, ℕ, ◌<◌, ◌≤◌, List, [], Ok, length, slice_set, take};
+ghost use Rattle.std.specs.Prelude.{◌≡◌, ℕ, ◌+◌, ◌<◌, ◌≤◌, List, Ok, length, slice_set, take};
 ghost use Rattle.modes_frame.specs.Lines.{pending};
 ghost use Rattle.station_book.specs.Decoded.{sighting_of};
 ghost use Rattle.station_book.specs.declared.decoded_entry.DecodedEntry.TheVariants as Decoded;
@@ -49,25 +49,28 @@ pub(crate) fn tell(lines: &LineReader, cut: &Cut) -> LineAhead
     }
 }
 
-/// Tells the lines that these bytes end, until there is no room for more. Answers how many bytes it took, and how many
-/// lines it told.
+/// Tells the lines that these bytes end in the places from `from` on, until there is none left before `to`. Answers how many
+/// bytes it took, and the place after the last line that it told.
 pub(crate) fn read_ahead(
     cutter: &mut Cutter,
     lines: &LineReader,
     bytes: &[u8],
     ahead: &mut [LineAhead],
+    from: usize,
+    to: usize,
 ) -> (usize, usize)
-    requires room { 0 < length ahead.old }
+    requires room { from < to }
+    requires places { to ≤ length ahead.old }
     ensures within { result.0 ≤ length bytes.now }
     ensures some { 0 < length bytes.now → 0 < result.0 }
-    ensures few { result.1 ≤ result.0 }
-    ensures fits { (result.1 ≤ length ahead.new) × (length ahead.new ≡ length ahead.old) }
+    ensures few { result.1 ≤ from + result.0 }
+    ensures fits { (result.1 ≤ to) × (length ahead.new ≡ length ahead.old) }
     ensures told { (before : List ℕ) → cutter.old ≡ pending before →
-        TakesBytes Tells before (take result.0 bytes.now) cutter.new [] (take result.1 ahead.new) (Ok tt) }
+        TakesBytes Tells before (take result.0 bytes.now) cutter.new (take from ahead.old) (take result.1 ahead.new) (Ok tt) }
 {
     let mut at = 0;
-    let mut count = 0;
-    while at < bytes.len() && count < ahead.len() {
+    let mut count = from;
+    while at < bytes.len() && count < to {
         if let Some(plain) = cutter.plain_line(lines, &bytes[at..]) {
             at += plain.length;
             ahead[count] = decoded(plain.frame);

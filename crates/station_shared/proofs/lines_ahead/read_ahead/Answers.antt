@@ -1,26 +1,36 @@
-use Rattle.std.proofs.Common.{sym, ◌+◌, ◌++◌, ◌∷◌, [], ◌∙◌, ap, take, length-set, arith}
+use Rattle.std.proofs.Common.{sym, refl, ◌<◌, ◌+◌, ◌++◌, ◌∷◌, [], ◌∙◌, ap, length, take, length-set, arith}
 use Rattle.std.specs.Option.{option_to_list}
 use Rattle.std.proofs.lemmas.List.{take_more_set}
 use Rattle.modes_frame.specs.Lines.{ended_cuts}
 use Rattle.station_shared.specs.LinesAhead.{Tells, told_of}
-use Rattle.station_shared.proofs.AheadLemmas.{Tells-then}
+use Rattle.station_shared.proofs.AheadLemmas.{Tells-then, Tells-none}
 use Rattle.station_lines.proofs.PlainLemmas.{heard-plain, TakesBytes-plain}
-use Rattle.station_lines.proofs.DrawingLemmas.{next_piece, TakesBytes-quiet, TakesBytes-line}
+use Rattle.station_lines.proofs.DrawingLemmas.{next_piece, TakesBytes-none, TakesBytes-quiet, TakesBytes-line}
 use Rattle.station_shared.proofs.lines_ahead.read_ahead.Goals as goal
+
+pub loop-at-init : goal.loop-at-init
+loop-at-init c = record {
+  within = omega arith;
+  few = omega arith;
+  fits = omega (arith, c.requires.room);
+  size = refl;
+  told = λ before h. TakesBytes-none Tells before _ _ (Tells-none (take c.args.from c.args.ahead.now)) h;
+}
 
 pub loop-at-preserved-in-Some : goal.loop-at-preserved-in-Some
 loop-at-preserved-in-Some c =
     let n = c.loop-at.count in
+    let there : n < length c.loop-at.ahead = omega (arith, c.if-count-to.true, c.requires.places, c.loop-at.invariant.size) in
     let plain = c.in-Some.plain in
     let ends = c.in-Some.ensures.ends in
     let size = length-set c.loop-at.ahead n c.decoded.result in
     record {
       within = omega (arith, c.in-Some.ensures.within);
       few = omega (arith, c.in-Some.ensures.some, c.loop-at.invariant.few);
-      fits = omega (arith, size, c.if-count-ahead.true);
+      fits = omega (arith, c.if-count-to.true);
       size = size ∙ c.loop-at.invariant.size;
       told = λ before h. TakesBytes-plain Tells Tells-then before c.args.bytes.now c.loop-at.at plain.length _ _ _ _ (c.loop-at.invariant.told before h) plain.frame ends
-          (take_more_set c.loop-at.ahead n c.decoded.result c.if-count-ahead.true
+          (take_more_set c.loop-at.ahead n c.decoded.result there
           ∙ ap (λ t. take n c.loop-at.ahead ++ t ∷ []) (c.decoded.ensures ∙ ap told_of (sym (heard-plain ends.line plain.frame ends.says))));
     }
 
@@ -28,19 +38,20 @@ pub loop-at-preserved-in-Some-cut : goal.loop-at-preserved-in-Some-cut
 loop-at-preserved-in-Some-cut c =
     let i = c.loop-at.at in
     let n = c.loop-at.count in
+    let there : n < length c.loop-at.ahead = omega (arith, c.if-count-to.true, c.requires.places, c.loop-at.invariant.size) in
     let bytes = c.args.bytes.now in
     let told = c.push_line-taken in
     let size = length-set c.loop-at.ahead n c.tell.result in
     record {
       within = omega (arith, told.ensures.within);
       few = omega (arith, told.ensures.some, c.loop-at.invariant.few, c.loop-at-test.true);
-      fits = omega (arith, size, c.if-count-ahead.true);
+      fits = omega (arith, c.if-count-to.true);
       size = size ∙ c.loop-at.invariant.size;
       told = λ before h. let so_far = c.loop-at.invariant.told before h in
           TakesBytes-line Tells Tells-then before (take i bytes) _ _ _ _ so_far (take (i + told.result.0) bytes) (next_piece bytes i told.result.0) told.new.self c.in-Some-cut.cut _
           (told.ensures.held (before ++ take i bytes) so_far.all_taken.1)
           (told.ensures.told (before ++ take i bytes) so_far.all_taken.1 ∙ ap (λ o. ended_cuts (before ++ take i bytes) ++ option_to_list o) c.in-Some-cut.is)
-          (take_more_set c.loop-at.ahead n c.tell.result c.if-count-ahead.true ∙ ap (λ t. take n c.loop-at.ahead ++ t ∷ []) c.tell.ensures);
+          (take_more_set c.loop-at.ahead n c.tell.result there ∙ ap (λ t. take n c.loop-at.ahead ++ t ∷ []) c.tell.ensures);
     }
 
 pub loop-at-preserved : goal.loop-at-preserved

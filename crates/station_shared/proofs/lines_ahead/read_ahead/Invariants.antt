@@ -1,4 +1,4 @@
-use Rattle.std.proofs.Common.{◌≡◌, ◌-◌, ◌≤◌, ℕ, List, [], length, take, Ok}
+use Rattle.std.proofs.Common.{◌≡◌, ◌+◌, ◌-◌, ◌≤◌, ℕ, List, length, take, Ok}
 use Rattle.modes_frame.specs.Lines.{pending}
 use Rattle.station_shared.specs.LinesAhead.{Tells}
 use Rattle.station_lines.specs.Drawing.{TakesBytes}
@@ -9,10 +9,10 @@ abbrev pub invariant-loop-at : goal.invariant-loop-at
 invariant-loop-at l =
     record {
       within : l.at ≤ length l.bytes;
-      few : l.count ≤ l.at;
-      fits : l.count ≤ length l.ahead;
+      few : l.count ≤ l.from + l.at;
+      fits : l.count ≤ l.to;
       size : length l.ahead ≡ length l.fn.ahead;
-      told : (before : List ℕ) → l.fn.cutter ≡ pending before → TakesBytes Tells before (take l.at l.bytes) l.cutter [] (take l.count l.ahead) (Ok tt);
+      told : (before : List ℕ) → l.fn.cutter ≡ pending before → TakesBytes Tells before (take l.at l.bytes) l.cutter (take l.from l.fn.ahead) (take l.count l.ahead) (Ok tt);
     }
 
 abbrev pub decreases-loop-at : goal.decreases-loop-at

@@ -1,0 +1,61 @@
+//! Lines that a receiver tells ahead while another seat has the lock.
+ghost use Rattle.std.specs.Prelude.{◌≡◌};
+ghost use Rattle.station_desk.specs.History.{base_of};
+
+use super::read_while_held;
+use crate::fakes::new_places;
+use crate::lines_ahead::LineAhead;
+use crate::station::Station;
+use crate::station_name::StationName;
+use modes_frame::{Cutter, LineReader};
+use station_desk::Places;
+use station_journal::Limits;
+use std::alloc::Global;
+use std::marker::Brand;
+use std::process::Abort;
+use std::sync::ledger::Blank;
+use std::sync::{MutexGuard, Wait};
+use std::test::*;
+
+const LIMITS: Limits = Limits {
+    entries: 16,
+    aircraft: 2,
+};
+
+const BLANKS: [u8; 1_500] = [b'\n'; 1_500];
+
+// How many blank lines of 1,500 are told where the lock is free, and where it is held. None where the station wants memory.
+fn told_ahead<L: StationName, R: Wait + Abort>(
+    rt: &R,
+    alloc: Global,
+    blank: Blank,
+    places: Places<2>,
+) -> Option<(usize, usize)>
+    requires ledger { (blank.name ≡ L.name) × (blank.parts ≡ L.parts) }
+    requires seats { (L.parts ≡ 2) × (L.seats ≡ 2) × (places.places ≡ 2) }
+    requires start { (L.start.history ≡ places.history) × (L.start.resumed ≡ 0) }
+    requires base { base_of places.history ≡ 0 }
+    requires limits { L.start.limits ≡ record { entries = 16; aircraft = 2 } }
+{
+    let (station, _seats) = Station::<2, L>::new(rt, alloc, LIMITS, 2, blank, places).ok()?;
+    let lines = LineReader::new();
+    let mut cutter = Cutter::new();
+    let mut ahead = [LineAhead::Fault; 1_500];
+    let (_, free) = read_while_held(&station, &mut cutter, &lines, &BLANKS, &mut ahead);
+    let locked = station.locked.lock(rt);
+    let (_, held) = read_while_held(&station, &mut cutter, &lines, &BLANKS, &mut ahead);
+    MutexGuard::unlock(locked);
+    station.end(rt);
+    Some((free, held))
+}
+
+#[test]
+fn more_lines_are_told_while_the_lock_is_held(rt: HostRuntime) {
+    let places = new_places(&rt, rt.alloc(), 2);
+    let mut told = told_ahead::<Brand, _>(&rt, rt.alloc(), Blank::new(2), places);
+    if told.is_none() {
+        let places = new_places(&rt, rt.alloc(), 2);
+        told = told_ahead::<Brand, _>(&rt, rt.alloc(), Blank::new(2), places);
+    }
+    assert_eq!(rt; told, Some((1_024, 1_500)));
+}
