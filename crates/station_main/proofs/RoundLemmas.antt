@@ -50,6 +50,14 @@ snoc_end [] (b ∷ ys) x y e = absurd (omega (arith, ap length e, length-append 
 snoc_end (a ∷ xs) [] x y e = absurd (omega (arith, ap length e, length-append xs (x ∷ [])))
 snoc_end (a ∷ xs) (b ∷ ys) x y e = snoc_end xs ys x y (cc (e))
 
+-- ---- the seats before it
+
+pub snoc_front : {A : Type 0} (xs ys : List A) (x y : A) → xs ++ x ∷ [] ≡ ys ++ y ∷ [] → xs ≡ ys
+snoc_front [] [] x y e = refl
+snoc_front [] (b ∷ ys) x y e = absurd (omega (arith, ap length e, length-append ys (y ∷ [])))
+snoc_front (a ∷ xs) [] x y e = absurd (omega (arith, ap length e, length-append xs (x ∷ [])))
+snoc_front (a ∷ xs) (b ∷ ys) x y e = let rest = snoc_front xs ys x y (cc (e)) in cc (e, rest)
+
 -- ---- rounds
 
 -- a round, by its output and what is told at its end

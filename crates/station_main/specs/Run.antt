@@ -1,10 +1,11 @@
 -- What a round of the job `run` leaves.
-use Rattle.std.specs.Prelude.{◌≡◌, ℕ, ◌<◌, Bool, true, false, List, [], ◌∷◌, ◌++◌, Option, IfSome, Result, length, slice_index_or, is_err, fold, max, unwrap_or, ⊤}
+use Rattle.std.specs.Prelude.{◌≡◌, ℕ, ◌<◌, Bool, true, false, List, [], ◌∷◌, ◌++◌, Option, IfSome, Result, length, slice_index_or, is_err, fold, map, max, unwrap_or, ⊤}
 use Rattle.std.specs.List.{flat_map}
+use Rattle.station_journal.specs.declared.entry.Entry.{Entry}
 use Rattle.station_report.specs.declared.sinks.WriteFault.{WriteFault}
 use Rattle.station_lines.specs.Drawing.{Drawn}
 use Rattle.station_desk.specs.Start.{Start}
-use Rattle.station_shared.specs.Seats.{Seated, Looks}
+use Rattle.station_shared.specs.Seats.{Seated, Looks, newcomers}
 use Rattle.station_shared.specs.Workers.{Worked}
 use Rattle.station_lines.specs.declared.from_buffer.FromBuffer.{FromBuffer}
 use Rattle.station_lines.specs.declared.pumping.PumpFault.{PumpFault}
@@ -30,6 +31,14 @@ pub record HaveWorked {W R : Type 0} (start : Start) (seat : W → Seated) (sour
   pub each : (i : ℕ) (d : W) → i < length old → let was = slice_index_or old i d in let is = slice_index_or new i d in
       (before : Option (List ℕ)) × (after : Option (List ℕ))
       × Worked start (seat was) (seat is) (drawn_from before (source was)) (drawn_from after (source is)) most_reads (answer is)
+
+-- receivers that have each pumped one of these inputs to an answer, in their order, with seats of their own that had seen
+-- these entries
+pub record HavePumped {W R : Type 0} (start : Start) (entries : List Entry) (seat : W → Seated) (source : W → FromBuffer R) (answer : W → Option (Result Tally PumpFault)) (inputs : List (FromBuffer R)) (new : List W) : Type 0 where
+  pub old : List W
+  pub seats : map seat old ≡ newcomers entries (length inputs)
+  pub sources : map source old ≡ inputs
+  pub worked : HaveWorked start seat source answer old new
 
 -- ---- the last table
 

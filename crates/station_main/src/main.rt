@@ -37,15 +37,15 @@ fn main(rt: HostRuntime) -> ExitCode {
     let Ok(words) = borrowed(rt.alloc(), &owned) else {
         return no_memory(rt.stderr());
     };
-    let status = program(
+    let ran = program(
         &rt,
         rt.alloc(),
         words.as_slice(),
         rt.stdin(),
         rt.stdout(),
-        rt.stderr(),
+        &mut StandardError::new(rt.stderr()),
     );
-    ExitCode::from(status)
+    ExitCode::from(ran.status)
 }
 
 fn no_memory<E: Write + Drop>(err: E) -> ExitCode {

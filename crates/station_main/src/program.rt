@@ -2,12 +2,12 @@
 ghost use Rattle.clap.specs.Words.{kind_of, takes};
 ghost use Rattle.clap.specs.declared.error.kind.ErrorKind.TheVariants.{DisplayHelp, DisplayVersion};
 ghost use Rattle.station_main.specs.Command.{IsInRange, station};
-ghost use Rattle.station_main.specs.Jobs.{IsDone};
+ghost use Rattle.station_main.specs.Jobs.{IsAnswered, IsDone};
 ghost use Rattle.station_main.specs.Telling.{told_of};
 ghost use Rattle.std.specs.Prelude.{◌≡◌, ◌≢◌, ◌≤◌, map, option_map, true};
 
-use crate::faults::{Fault, tell};
-use crate::output::Ran;
+use crate::faults::Fault;
+use crate::output::{Ran, without_output};
 use crate::replay_job::replay_input;
 use crate::run_job::{Asked, run_paths};
 use crate::standard_error::StandardError;
@@ -20,20 +20,25 @@ use std::sync::Wait;
 use std::thread::Threads;
 use std::time::Clock;
 
-/// Runs the words of a command line, of which the first is the program's name, and answers the exit status: 0, also
-/// where lines were refused, 1 after a fault, 2 for words that are refused.
+/// Runs the words of a command line, of which the first is the program's name. Answers the exit status, 0, also where lines
+/// were refused, 1 after a fault, 2 for words that are refused, and hands the output back, unless nothing was read. Words
+/// that are taken have the job done that they name, or are told that memory for reading them was refused.
 pub fn program<
     R: Threads + Wait + Clock + Files<File = File> + Sync,
     I: Read + Drop,
     O: Write + Send + Drop,
-    E: Write + Drop,
->(rt: &R, alloc: Global, words: &[&str], input: I, out: O, err: E) -> u8
-    ensures status { result ≤ 2 }
-    ensures taken { takes station (map (λ w. w.now) words.now) ≡ true → result ≤ 1 }
+    E: Write,
+>(rt: &R, alloc: Global, words: &[&str], input: I, out: O, err: &mut StandardError<E>) -> Ran<O>
+    ensures status { result.status ≤ 2 }
+    ensures taken { takes station (map (λ w. w.now) words.now) ≡ true → result.status ≤ 1 }
+    ensures done { takes station (map (λ w. w.now) words.now) ≡ true →
+        IsAnswered (map (λ w. w.now) words.now) (I.remaining input) (O.Write.contents out)
+        (option_map (λ left. O.Write.contents left) result.out)
+        (told_of E.contents err.old) (told_of E.contents err.new) result.status }
 {
     match read_words(alloc, words) {
-        Ok(job) => do_job(rt, alloc, job, input, out, &mut StandardError::new(err)).status,
-        Err(WordsFault::NoMemory) => tell(&mut StandardError::new(err), Fault::NoMemory),
+        Ok(job) => do_job(rt, alloc, job, input, out, err),
+        Err(WordsFault::NoMemory) => without_output(err, Fault::NoMemory),
         Err(WordsFault::Clap(error)) => write_answer(&error, out, err),
     }
 }
@@ -69,16 +74,24 @@ fn do_job<
 }
 
 // Help goes to standard output with status 0, any other answer of `clap` to standard error with status 2.
-fn write_answer<O: Write + Drop, E: Write + Drop>(error: &clap::Error, mut out: O, mut err: E) -> u8
-    ensures most { result ≤ 2 }
-    ensures help { kind_of error.now ≡ DisplayHelp → result ≡ 0 }
-    ensures fault { kind_of error.now ≢ DisplayHelp → kind_of error.now ≢ DisplayVersion → result ≡ 2 }
+fn write_answer<O: Write + Drop, E: Write>(
+    error: &clap::Error,
+    mut out: O,
+    err: &mut StandardError<E>,
+) -> Ran<O>
+    ensures most { result.status ≤ 2 }
+    ensures help { kind_of error.now ≡ DisplayHelp → result.status ≡ 0 }
+    ensures fault { kind_of error.now ≢ DisplayHelp → kind_of error.now ≢ DisplayVersion → result.status ≡ 2 }
 {
-    if error.use_stderr() {
-        let _ = write!(err, "{error}");
+    let status = if error.use_stderr() {
+        err.text(format_args!("{error}"));
         2
     } else {
         let _ = write!(out, "{error}");
         0
+    };
+    Ran {
+        status,
+        out: Some(out),
     }
 }

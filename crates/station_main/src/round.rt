@@ -6,7 +6,7 @@ ghost use Rattle.station_shared.specs.Seats.{newcomer};
 ghost use Rattle.station_main.specs.Limits.{program_limits};
 ghost use Rattle.station_main.specs.Output.{buffered_of};
 ghost use Rattle.station_main.specs.Rounds.{EndsRound, IsLast, given_of};
-ghost use Rattle.station_main.specs.Run.{IsEarly, Leaves};
+ghost use Rattle.station_main.specs.Run.{HavePumped, IsEarly, Leaves};
 ghost use Rattle.station_main.specs.Telling.{told_of};
 
 mod ending;
@@ -149,6 +149,8 @@ fn work<L: StationName + Send + Sync, R: Threads + Wait + Clock + Sync, O: Write
     ensures early { IfErr result IsEarly }
     ensures answered { IfOk result (λ worked. All (λ r. is_some r.answer ≡ true) worked.receivers.items) }
     ensures many { IfOk result (λ worked. length worked.receivers.items ≡ length plan.inputs.items) }
+    ensures pumped { IfOk result (λ worked. HavePumped L.start plan.kept.recent.entries.items
+        (λ r. r.seat) (λ r. r.source) (λ r. r.answer) plan.inputs.items worked.receivers.items) }
     ensures output { IfOk result (λ worked. Leaves L.start plan.every plan.kept.last_tick
         (newcomer plan.kept.recent.entries.items (length plan.inputs.items)) worked.reporter
         (buffered_of O.contents plan.out).taken (O.contents worked.written.out) worked.written.has_failed) }

@@ -24,6 +24,16 @@ impl<E: Write> StandardError<E> {
         }
     }
 
+    /// Writes this text, which has its own line feeds.
+    pub fn text<D: Display + Drop>(&mut self, text: D)
+        ensures { IfSome (D.output text) (λ bytes.
+            Tells (told_of E.contents self.old) (told_of E.contents self.new) bytes) }
+    {
+        if write!(self.inner, "{text}").is_err() {
+            self.has_failed = true;
+        }
+    }
+
     /// Writes a line of this text.
     pub fn line<D: Display + Drop>(&mut self, text: D)
         ensures { IfSome (D.output text) (λ bytes.

@@ -8,6 +8,7 @@ mod through_time;
 mod words;
 
 use crate::program::program;
+use crate::standard_error::StandardError;
 use std::alloc::Global;
 use std::fs::File;
 use std::io::{self, Read, Write};
@@ -43,13 +44,23 @@ fn stream(rt: &impl Abort, alloc: Global) -> Vec<u8> {
     }
 }
 
+// The program, with what it tells on standard error written by `err`. Answers its status.
+fn status_of<
+    R: Threads + Wait + Clock + Files<File = File> + Sync,
+    I: Read + Drop,
+    O: Write + Send + Drop,
+    E: Write + Drop,
+>(rt: &R, alloc: Global, words: &[&str], input: I, out: O, err: E) -> u8 {
+    program(rt, alloc, words, input, out, &mut StandardError::new(err)).status
+}
+
 fn run_words<
     R: Threads + Wait + Clock + Files<File = File> + Sync + AllocGlobal + Abort,
     I: Read + Drop,
 >(rt: &R, words: &[&str], input: I) -> Ran {
     let mut out = stream(rt, rt.alloc());
     let mut err = stream(rt, rt.alloc());
-    let status = program(rt, rt.alloc(), words, input, &mut out, &mut err);
+    let status = status_of(rt, rt.alloc(), words, input, &mut out, &mut err);
     Ran { status, out, err }
 }
 
@@ -179,7 +190,7 @@ fn a_failed_read_or_write_is_told_after_the_tally(rt: HostRuntime) {
     );
     assert_eq!(rt; torn.status, 1);
     let mut err = Vec::new(rt.alloc());
-    let status = program(
+    let status = status_of(
         &rt,
         rt.alloc(),
         ["groundstation", "replay"].as_slice(),

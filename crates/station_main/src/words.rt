@@ -97,8 +97,11 @@ const AFTER_RUN_HELP: &str = concat!(
     "  groundstation run --every 1000 <(nc 127.0.0.1 30002 < /dev/null)\n",
     "  nc 127.0.0.1 30002 < /dev/null | groundstation run --every 1000 /dev/stdin\n",
     "\n",
-    "The clock is the time since the start. When every path has ended, the last table\n",
-    "is written, and a line of counts for each path goes to standard error.\n",
+    "The clock is the time since the start, and moves where a table is due: all that\n",
+    "is heard between two tables is dated to the earlier one. So MS is best 1000 or\n",
+    "so: above 10000 positions may be wrong, above 60000 no aircraft is shown.\n",
+    "When every path has ended, the last table is written, and a line of counts for\n",
+    "each path goes to standard error.\n",
     "Formats: docs/FORMATS.md. Receivers that drop: README.md.",
 );
 

@@ -1,8 +1,8 @@
 //! How a round begins: its station, a receiver of each path, and the reporter's seat.
-ghost use Rattle.std.specs.Prelude.{◌≡◌, ◌+◌, ◌≤◌, IfOk, length, reverse};
+ghost use Rattle.std.specs.Prelude.{◌≡◌, ◌+◌, ◌≤◌, IfOk, length, map, reverse};
 ghost use Rattle.station_journal.specs.Resume.{IsSound};
 ghost use Rattle.station_desk.specs.History.{base_of};
-ghost use Rattle.station_shared.specs.Seats.{newcomer};
+ghost use Rattle.station_shared.specs.Seats.{newcomer, newcomers};
 ghost use Rattle.station_main.specs.Limits.{program_limits};
 
 use crate::kept::Kept;
@@ -34,6 +34,9 @@ pub(super) fn begin<L: StationName, R: Wait>(
     requires limits { L.start.limits ≡ program_limits }
     requires sound { IsSound program_limits kept.recent.base (reverse kept.recent.entries.items) }
     ensures many { IfOk result (λ made. length made.1.items ≡ length inputs.items) }
+    ensures sources { IfOk result (λ made. map (λ r. r.source) made.1.items ≡ inputs.items) }
+    ensures seats { IfOk result (λ made. map (λ r. r.seat) made.1.items
+        ≡ newcomers kept.recent.entries.items (length inputs.items)) }
     ensures reporter { IfOk result (λ made.
         made.2 ≡ newcomer kept.recent.entries.items (length inputs.items)) }
 {
@@ -65,7 +68,8 @@ fn receivers<L: StationName>(
     inputs: Vec<Input>,
 ) -> Result<Vec<Receiver<L>>, NoMemory>
     requires { length seats.items ≡ length inputs.items }
-    ensures { IfOk result (λ made. length made.items ≡ length inputs.items) }
+    ensures seats { IfOk result (λ made. map (λ r. r.seat) made.items ≡ seats.items) }
+    ensures sources { IfOk result (λ made. map (λ r. r.source) made.items ≡ inputs.items) }
 {
     let mut receivers = Vec::new(alloc);
     for (seat, source) in seats.into_iter().zip(inputs) {

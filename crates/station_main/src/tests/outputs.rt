@@ -1,7 +1,6 @@
 //! Outputs that fail once, that wait, and that tell how they are written.
 use super::staged::{Staged, becomes_set, end_path, lasting_path};
-use super::{NO_LINES, TABLE_OF_NOBODY, text};
-use crate::program::program;
+use super::{NO_LINES, TABLE_OF_NOBODY, status_of, text};
 use std::alloc::{AllocError, Global};
 use std::io::{self, ErrorKind, Write};
 use std::sync::atomic::{AtomicBool, Ordering};
@@ -43,7 +42,7 @@ fn replay_writes_nothing_after_a_failed_write(rt: HostRuntime) {
         has_failed: &has_failed,
     };
     let words = ["groundstation", "replay"];
-    let status = program(&rt, rt.alloc(), words.as_slice(), lines, out, &mut err);
+    let status = status_of(&rt, rt.alloc(), words.as_slice(), lines, out, &mut err);
     assert_eq!(rt; text(&taken), TABLE_OF_NOBODY);
     assert_eq!(rt;
         text(&err),
@@ -79,7 +78,7 @@ fn run_writes_nothing_after_a_failed_write_and_reads_on(rt: HostRuntime) -> Resu
     let (was_fed, status) = join(
         &rt,
         || end_path(&rt, &has_failed, lines, b"*8D4840D6202CC371C32CE0576098;\n"),
-        || program(
+        || status_of(
             &staged,
             rt.alloc(),
             words.as_slice(),
@@ -173,7 +172,7 @@ fn output_that_waits_holds_no_receiver_up(rt: HostRuntime) -> Result<(), Fail> {
             is_fed.store(was_fed, Ordering::SeqCst);
             was_fed
         },
-        || program(&rt, rt.alloc(), words.as_slice(), NO_LINES, out, &mut err),
+        || status_of(&rt, rt.alloc(), words.as_slice(), NO_LINES, out, &mut err),
     );
     assert!(rt; was_fed);
     assert_eq!(rt;
@@ -254,7 +253,7 @@ fn a_full_table_is_written_at_once(rt: HostRuntime) -> Result<(), Fail> {
     let (was_fed, status) = join(
         &rt,
         || end_path(&rt, &is_written, lines, replies.as_bytes()),
-        || program(
+        || status_of(
             &staged,
             rt.alloc(),
             words.as_slice(),

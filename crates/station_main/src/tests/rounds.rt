@@ -4,8 +4,7 @@ use super::run::{
     remove, shown_where_refused, two_files,
 };
 use super::staged::{Staged, lasting_path};
-use super::{Closed, NO_LINES, NO_MEMORY, Ran, run_words, stream, text};
-use crate::program::program;
+use super::{Closed, NO_LINES, NO_MEMORY, Ran, run_words, status_of, stream, text};
 use std::fs::{self, File, OpenOptions};
 use std::io::{self, Write};
 use std::process::Abort;
@@ -107,7 +106,7 @@ fn run_closed<R: Threads + Wait + Clock + Files<File = File> + Sync + AllocGloba
         second,
     ];
     let mut err = stream(rt, rt.alloc());
-    let status = program(rt, rt.alloc(), words.as_slice(), NO_LINES, Closed, &mut err);
+    let status = status_of(rt, rt.alloc(), words.as_slice(), NO_LINES, Closed, &mut err);
     Ran {
         status,
         out: Vec::new(rt.alloc()),
@@ -169,7 +168,7 @@ fn a_path_that_is_gone_is_told_after_the_round_before(rt: HostRuntime) -> io::Re
         path: second,
         taken: &mut taken,
     };
-    let status = program(&rt, rt.alloc(), words.as_slice(), NO_LINES, out, &mut err);
+    let status = status_of(&rt, rt.alloc(), words.as_slice(), NO_LINES, out, &mut err);
     let told = format!(in rt.alloc(); "{ONE_FRAME_EACH}groundstation: cannot open {second}\n")?;
     assert_eq!(rt; text(&taken), TABLE_OF_BOTH);
     assert_eq!(rt; text(&err), told.as_str());
@@ -258,7 +257,7 @@ fn a_round_keeps_the_clock_and_the_ages(rt: HostRuntime) -> io::Result<()> {
         lines: None,
         tables: 0,
     };
-    let status = program(
+    let status = status_of(
         &staged,
         rt.alloc(),
         words.as_slice(),

@@ -1,6 +1,5 @@
 //! The job `run`, over files.
-use super::{Closed, NO_MEMORY, Ran, run_words, text};
-use crate::program::program;
+use super::{Closed, NO_MEMORY, Ran, run_words, status_of, text};
 use std::alloc::AllocError;
 use std::fs::File;
 use std::io::ErrorKind;
@@ -248,7 +247,7 @@ fn a_failed_write_is_told_after_all_tallies(rt: HostRuntime) -> io::Result<()> {
     let nothing: &[u8] = b"";
     let first = path_text(&files.first)?;
     let second = path_text(&files.second)?;
-    let status = program(
+    let status = status_of(
         &rt,
         rt.alloc(),
         ["groundstation", "run", "--every", "3600000", first, second].as_slice(),

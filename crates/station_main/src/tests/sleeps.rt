@@ -1,8 +1,7 @@
 //! How long the reporter sleeps, and what it does at a moment.
-use super::NO_LINES;
 use super::staged::{Staged, end_path, lasting_path};
+use super::{NO_LINES, status_of};
 use crate::bell::Bell;
-use crate::program::program;
 use crate::schedule::{Act, act_at};
 use std::sync::atomic::AtomicBool;
 use std::test::*;
@@ -68,7 +67,7 @@ fn the_reporter_sleeps_between_its_readings_of_the_clock(rt: HostRuntime) -> Res
             thread::sleep(&rt, Duration::from_millis(200));
             end_path(&rt, &has_looked, lines, NO_LINES)
         },
-        || program(
+        || status_of(
             &staged,
             rt.alloc(),
             words.as_slice(),
@@ -102,7 +101,7 @@ fn a_run_ends_while_its_reporter_sleeps(rt: HostRuntime) -> Result<(), Fail> {
                 let was_ended = end_path(&rt, &has_looked, lines, NO_LINES);
                 (was_ended, Instant::now(&rt))
             },
-            || program(
+            || status_of(
                 &staged,
                 rt.alloc(),
                 words.as_slice(),

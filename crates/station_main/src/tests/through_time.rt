@@ -1,7 +1,6 @@
 //! The job `run` while its paths last.
 use super::staged::{Staged, becomes_set, end_path, lasting_path};
-use super::{NO_LINES, text};
-use crate::program::program;
+use super::{NO_LINES, status_of, text};
 use std::io::{self, Write};
 use std::sync::atomic::{AtomicBool, Ordering};
 use std::test::*;
@@ -43,7 +42,7 @@ fn a_table_is_printed_when_it_is_due_and_at_the_end(rt: HostRuntime) -> Result<(
     let (was_shown, status) = join(
         &rt,
         || end_path(&rt, &has_ended, lines, NO_LINES),
-        || program(
+        || status_of(
             &staged,
             rt.alloc(),
             words.as_slice(),
@@ -108,7 +107,7 @@ fn paths_are_read_and_shown_side_by_side(rt: HostRuntime) -> Result<(), Fail> {
             drop(second_lines);
             were_shown
         },
-        || program(&rt, rt.alloc(), words.as_slice(), NO_LINES, out, &mut err),
+        || status_of(&rt, rt.alloc(), words.as_slice(), NO_LINES, out, &mut err),
     );
     assert!(rt; were_shown);
     assert_eq!(rt; status, 0);

@@ -10,3 +10,11 @@ returns-clause-output g c =
     let written = c.print_last-reporter.result.1 in
     subst (λ first. Leaves g.L.StationName.start c.args.plan.every c.args.plan.kept.last_tick first c.print_last-reporter.result.0 before (g.O.Write.contents written.out) written.has_failed) c.in-Ok.ensures.reporter
     (leaves _ _ _ _ _ _ _ _ _ _ _ c.in-Some.ensures.reporter c.print_last-reporter.ensures)
+
+pub returns-clause-pumped : goal.returns-clause-pumped
+returns-clause-pumped g c = record {
+  old = c.in-Ok.receivers.items;
+  seats = c.in-Ok.ensures.seats;
+  sources = c.in-Ok.ensures.sources;
+  worked = c.in-Some.ensures.receivers;
+}
