@@ -1,7 +1,7 @@
-// Refuses one growth of a program, or one thread. It is preloaded: of the program's calls of malloc and realloc it
-// answers the REFUSE_GROWTH-th, counted from 1, as a system without memory does, and of its calls of pthread_create the
-// REFUSE_THREAD-th as a system that gives no more threads. At the refusal it makes the file REFUSED, so that a run which
-// met none can be told from one that did, however it ended.
+// Refuses one allocation of a program, or one thread, when preloaded. Calls are counted from 1:
+// - call REFUSE_ALLOCATION of malloc and realloc fails as on a system that is out of memory;
+// - call REFUSE_THREAD of pthread_create fails as on a system that has no more threads.
+// A refusal makes the file REFUSED, so a run that met one differs from a run that met none, however it ended.
 #define _GNU_SOURCE
 #include <dlfcn.h>
 #include <errno.h>
@@ -11,8 +11,8 @@
 #include <stdlib.h>
 #include <unistd.h>
 
-static atomic_ulong growths, threads;
-static unsigned long refused_growth, refused_thread;
+static atomic_ulong allocations, threads;
+static unsigned long refused_allocation, refused_thread;
 
 static unsigned long number(const char *name) {
     const char *text = getenv(name);
@@ -20,8 +20,8 @@ static unsigned long number(const char *name) {
 }
 
 __attribute__((constructor)) static void begin(void) {
-    atomic_store(&growths, 0);
-    refused_growth = number("REFUSE_GROWTH");
+    atomic_store(&allocations, 0);
+    refused_allocation = number("REFUSE_ALLOCATION");
     refused_thread = number("REFUSE_THREAD");
 }
 
@@ -36,7 +36,7 @@ static int is_refused(atomic_ulong *calls, unsigned long refused) {
 void *malloc(size_t size) {
     static void *(*next)(size_t);
     if (!next) next = (void *(*)(size_t))dlsym(RTLD_NEXT, "malloc");
-    if (!is_refused(&growths, refused_growth)) return next(size);
+    if (!is_refused(&allocations, refused_allocation)) return next(size);
     errno = ENOMEM;
     return NULL;
 }
@@ -44,7 +44,7 @@ void *malloc(size_t size) {
 void *realloc(void *old, size_t size) {
     static void *(*next)(void *, size_t);
     if (!next) next = (void *(*)(void *, size_t))dlsym(RTLD_NEXT, "realloc");
-    if (!is_refused(&growths, refused_growth)) return next(old, size);
+    if (!is_refused(&allocations, refused_allocation)) return next(old, size);
     errno = ENOMEM;
     return NULL;
 }
