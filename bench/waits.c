@@ -3,9 +3,10 @@
  *   cc -O2 -shared -fPIC -o waits.so waits.c -ldl
  *   WAITS_FILE=F LD_PRELOAD=./waits.so groundstation run ..
  *
- * F has room for 16 threads, a `struct waits` each. What a thread sleeps on futexes is summed from one step of it to the
- * next. A step of a receiver is a read of its input, so that a sum is what the lines of one read waited for the lock. A
- * step of the reporter is a write or a pause, so that a sum is what a tick and the look after it waited.
+ * F has room for 16 threads, a `struct waits` each. A thread's sleep on futexes is summed from one of its steps to the
+ * next:
+ * - a receiver's step is a read of its input, and a sum is how long the lines of one read waited for the lock;
+ * - the reporter's step is a write or a pause, and a sum is how long a tick and the look after it waited.
  */
 #define _GNU_SOURCE
 #include <dlfcn.h>
@@ -81,7 +82,7 @@ long syscall(long number, ...)
     for (int i = 0; i < 6; i++) a[i] = va_arg(list, long);
     va_end(list);
     int is_sleep = number == SYS_futex && (a[1] & FUTEX_CMD_MASK) != FUTEX_WAKE && !at_end;
-    /* The reporter pauses for at most 50 ms, until a table is due. Who waits for the lock names a time without end. */
+    /* The reporter pauses for at most 50 ms at a time. A wait for the lock has no end time. */
     const struct timespec *longest = (const struct timespec *)a[3];
     int is_pause = is_sleep && longest && longest->tv_sec == 0, is_wait = is_sleep && !is_pause;
     if (is_pause) step(REPORTER);
