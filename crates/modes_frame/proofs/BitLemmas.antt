@@ -27,7 +27,7 @@ get_or-byte_bits b (suc (suc (suc (suc (suc (suc zero)))))) h = refl
 get_or-byte_bits b (suc (suc (suc (suc (suc (suc (suc zero))))))) h = let e : b ≡ b / 1 = omega arith in ap (λ n. n % 2 == 1) e
 get_or-byte_bits b (suc (suc (suc (suc (suc (suc (suc (suc j)))))))) h = absurd (omega (arith, h))
 
--- bit n stands in byte (n - 1) / 8
+-- bit n is in byte (n - 1) / 8
 pub bit_of-bits_of : (bytes : List ℕ) (n : ℕ) → 1 ≤ n → n ≤ 8 * length bytes
     → bit_of n (bits_of bytes) ≡ (bit_and (get_or bytes ((n - 1) / 8) 0 / 2 ^ (7 - (n - 1) % 8)) 1 == 1)
 unfolding bit_of

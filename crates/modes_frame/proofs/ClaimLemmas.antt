@@ -11,7 +11,7 @@ use Rattle.modes_frame.proofs.AllByteLemmas.{all_of_width, all_of_width-at}
 use Rattle.modes_frame.proofs.NumberLemmas.{number-lt, number-three}
 use Rattle.modes_frame.proofs.ParityLemmas.{remainder-lt}
 
--- the address announced has 24 bits
+-- the announced address has 24 bits
 pub address_field-lt : (bytes : List ℕ) → address_field bytes < 2 ^ 24
 unfolding address_field
 address_field-lt bytes =
@@ -21,7 +21,7 @@ address_field-lt bytes =
     let most : 2 ^ length bits ≤ 2 ^ 24 = pow-le-pow_right {n = 2} (omega arith) few in
     omega arith
 
--- it stands in the second, third and fourth byte
+-- it is in the second, third and fourth byte
 pub address_field-is : (a b c d : ℕ) (rest : List ℕ) → b < 256 → c < 256 → d < 256
     → address_field (a ∷ b ∷ c ∷ d ∷ rest) ≡ b * 65536 + c * 256 + d
 unfolding address_field byte_bits
@@ -43,7 +43,7 @@ pub control_field-bytes : (bytes : List ℕ) → 1 ≤ length bytes → slice_in
 control_field-bytes [] few la = absurd (omega arith)
 control_field-bytes (a ∷ rest) few la = sym (control_field-is a rest la)
 
--- ---- what holds of every claim
+-- ---- what is true of every claim
 
 either : (P : Claim → Type 0) (b : Bool) (r s : Result Claim CheckFault) → (b ≡ true → IfOk r P) → (b ≡ false → IfOk s P) → IfOk (cond b r s) P
 either P true r s p q = p refl

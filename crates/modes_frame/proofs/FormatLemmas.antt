@@ -1,9 +1,9 @@
--- The downlink format stands in the first byte.
+-- The downlink format is in the first byte.
 use Rattle.std.proofs.Common.{◌≡◌, ℕ, ◌/◌, ◌<◌, ◌==◌, true, List, [], ◌∷◌, get_or, refl, ap, sym, ◌∙◌, eqb-true}
 use Rattle.modes_frame.specs.Frames.{byte_bits, df_of}
 use Rattle.modes_frame.proofs.AllByteLemmas.{all_of_width, all_of_width-at}
 
--- no byte after the first counts
+-- the bytes after the first don't matter
 pub format-first : (bytes : List ℕ) → df_of bytes ≡ df_of (get_or bytes 0 0 ∷ [])
 unfolding df_of byte_bits
 format-first [] = refl

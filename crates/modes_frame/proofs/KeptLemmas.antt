@@ -12,11 +12,11 @@ use Rattle.modes_frame.proofs.FormatLemmas.{format-same}
 count-by : (xs ys : List ℕ) → df_of xs ≡ df_of ys → count_of xs ≡ count_of ys
 count-by xs ys e = ap (λ (df : ℕ). cond (nat_lt df 16) 7 14) e
 
--- the first bytes say how many there are
+-- the first bytes say how many bytes there are
 pub count-front : (n : ℕ) (padded : List ℕ) → 0 < n → count_of (take n padded) ≡ count_of padded
 count-front n padded some = count-by (take n padded) padded (format-same (take n padded) padded (get_or-take n padded 0 0 some))
 
--- 16 bytes of which those after the first are zeros have so many first
+-- where 16 bytes are n with zeros after them, the first n are n in number
 pub size-front : (n : ℕ) (padded : List ℕ) → n ≤ 16 → padded ≡ with_zeros (take n padded) → length (take n padded) ≡ n
 size-front n padded few zeros =
     let front = take n padded in
@@ -42,7 +42,7 @@ module _ (n : ℕ) (bytes padded : List ℕ) (len : length bytes ≡ n) (some : 
   pub kept : IsPaddedFrame n padded
   kept = record { size = size-padded; count = sym count-padded; same = ap count_of bytes-back ∙ count; rest = ap with_zeros bytes-back ∙ sym zeros }
 
--- ---- 16 bytes, of which those after the first 7 or 14 are zeros
+-- ---- 16 bytes, with zeros after the first 7 or 14
 
 module _ (n : ℕ) (padded : List ℕ) (number : (n ≡ 7) ⊎ (n ≡ 14)) (zeros : padded ≡ with_zeros (take n padded)) where
   some : 0 < n

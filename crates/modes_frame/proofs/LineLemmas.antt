@@ -55,7 +55,7 @@ cut-more line c =
       | inr long ↦ rw long (let more : nat_le (length (line ++ c ∷ [])) 64 ≡ false = search (rules, tests) in rw more)
     ]
 
--- what a byte does to what is pending, and which line it ends
+-- what a byte does to the pending line, and which line it ends
 pub pending-push : (bs : List ℕ) (c : ℕ) → after (pending bs) c ≡ pending (bs ++ c ∷ [])
 pending-push bs c = elim (eqb_tells c 10) [
   | inl h ↦ subst (λ (k : ℕ). after (pending bs) k ≡ pending (bs ++ k ∷ [])) (sym h.1) (ap (λ p. cut p.rest) (sym (pieces-line_feed bs)))
@@ -118,7 +118,7 @@ to-line_feed before bytes end within is =
     append_assoc before (take end bytes) (10 ∷ [])
     ∙ ap (λ l. before ++ l) (ap (λ c. take end bytes ++ c ∷ []) (sym is) ∙ sym (take_more bytes end 0 within))
 
--- what is held after the bytes before a line feed, and that no line was ended
+-- after the bytes before a line feed, the cutter has what is pending, and no line has ended
 pub held-before : (self new : Cut) (before bytes : List ℕ) (end : ℕ) → end ≤ length bytes → ((k : ℕ) → k < end → get_or bytes k 0 ≢ 10)
     → new ≡ lengthened self (take end bytes) → self ≡ pending before → new ≡ pending (before ++ take end bytes)
 held-before self new before bytes end within none e h =

@@ -26,7 +26,7 @@ xor-parts k a b c d lb ld =
 
 -- ---- one step
 
--- what comes down goes together with exclusive or
+-- bringing a bit down goes together with exclusive or
 brought_down-xor : (u v : ℕ) (bit : Bool) → brought_down (bit_xor u v) bit ≡ bit_xor (brought_down u false) (brought_down v bit)
 brought_down-xor u v true = (omega arith) ∙ sym (xor-parts 1 u 0 v 1 (omega arith) (omega arith)) ∙ (λ i. bit_xor ((let e : u * 2 + 0 ≡ 2 * u + 0 = omega arith in e) i) ((let e : v * 2 + 1 ≡ 2 * v + 1 = omega arith in e) i))
 brought_down-xor u v false = (omega arith) ∙ sym (xor-parts 1 u 0 v 0 (omega arith) (omega arith)) ∙ (λ i. bit_xor ((let e : u * 2 + 0 ≡ 2 * u + 0 = omega arith in e) i) ((let e : v * 2 + 0 ≡ 2 * v + 0 = omega arith in e) i))
@@ -103,7 +103,7 @@ pub divided-lt : (bits : List Bool) (rest : ℕ) → rest < 2 ^ 24 → fold divi
 divided-lt [] rest h = h
 divided-lt (bit ∷ bits) rest h = divided-lt bits (divide rest bit) (divide-lt rest bit h)
 
--- of two rests, the bits may come after either
+-- of two rests, the bits may be brought down after either
 pub divided-xor : (bits : List Bool) (u v : ℕ) → u < 2 ^ 24 → v < 2 ^ 24
     → fold divide (bit_xor u v) bits ≡ bit_xor (fold divide u (replicate (length bits) false)) (fold divide v bits)
 divided-xor [] u v lu lv = refl
@@ -133,7 +133,7 @@ room-more : (v n : ℕ) (bit : Bool) → (v + 1) * 2 ^ suc n ≤ 2 ^ 24 → (bro
 room-more v n true h = subst (λ (m : ℕ). m ≤ 2 ^ 24) (sym (pow-twice v n)) h
 room-more v n false h = less-room v (2 ^ n) (subst (λ (m : ℕ). m ≤ 2 ^ 24) (sym (pow-twice v n)) h)
 
--- where 24 bits are not passed, the rest is the number that the bits write
+-- up to 24 bits, the rest is the number that the bits write
 pub undivided : (bits : List Bool) (v : ℕ) → (v + 1) * 2 ^ length bits ≤ 2 ^ 24 → fold divide v bits ≡ fold brought_down v bits
 unfolding divide
 undivided [] v h = refl

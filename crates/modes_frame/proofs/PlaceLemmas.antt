@@ -41,7 +41,7 @@ bits-counted bytes =
     length-append (bits_of bytes) (replicate 24 false)
     ∙ (λ i. length-bits_of bytes i + length-replicate 24 false i)
 
--- the parity of bytes is that of the first, in its place, joined to that of the others
+-- the parity of bytes is that of the first, in its place, XOR that of the others
 pub parity-first : (byte : ℕ) (bytes : List ℕ) → byte < 256
     → parity_of (byte ∷ bytes) ≡ bit_xor (parity_of (byte ∷ replicate (length bytes) 0)) (parity_of bytes)
 unfolding parity_of
@@ -58,7 +58,7 @@ parity-none = refl
 
 -- ---- the last three bytes
 
--- they are joined to the parity of those before them
+-- they are XORed to the parity of the bytes before them
 pub remainder-split : (bytes last : List ℕ) → length last ≡ 3 → remainder_of (bytes ++ last) ≡ bit_xor (parity_of bytes) (number_of (bits_of last))
 remainder-split bytes last three =
     let rest = remainder_of bytes in
@@ -92,7 +92,7 @@ number-of_three (a ∷ b ∷ c ∷ d ∷ rest) three la lb lc = absurd (omega ar
 abbrev pub IsTable : ℕ → List ℕ → Type 0
 IsTable n table = (k : ℕ) → k < 256 → get_or table k 0 ≡ parity_of (k ∷ replicate n 0)
 
--- each entry is that of the place after it with eight zero bits more
+-- each entry is that of the table `after`, with eight more zero bits
 abbrev follows : List ℕ → List ℕ → Bool
 follows after table = all_of_width 8 (λ k. get_or table k 0 == fold divide (get_or after k 0) (replicate 8 false))
 

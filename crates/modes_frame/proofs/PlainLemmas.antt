@@ -1,4 +1,4 @@
--- A line of digits says its frame, and ends where its line feed is.
+-- A line of digits says its frame, and ends at its line feed.
 use Rattle.std.proofs.Common.{◌≡◌, ◌≢◌, ℕ, zero, suc, ◌-◌, ◌<◌, ◌≤◌, ◌⊎◌, ◌==◌, nat_le, nat_lt, inl, inr, true, false, cond, List, [], ◌∷◌, ◌++◌, Option, Some, None, Ok, length, length-append, append_assoc, take, get_or, refl, ap, sym, ◌∙◌, arith, rules, tests, eq-eqb}
 use Rattle.std.specs.List.{AllPass, suffix_len}
 use Rattle.std.specs.Option.{IfSome}

@@ -16,7 +16,7 @@ use Rattle.modes_frame.specs.LineRules.{IsStart, IsEnclosed, HasLength, IsDigit,
 
 -- ---- digits
 
--- what decoding digits tells: the bytes that they write, or the first that is none
+-- what decoding digits answers: the bytes that they write, or the first byte that is no digit
 abbrev Tells : ℕ → List ℕ → Result (List ℕ) FromHexError → Type 0
 Tells i digits (Ok bytes) = Writes digits bytes × All IsDigit digits
 Tells i digits (Err (InvalidHexCharacter c index)) = (place : ℕ) × (index ≡ i + place) × IsFirstBad digits (place + 1)

@@ -8,7 +8,7 @@ use Rattle.std.proofs.Math.Seq.{get_or-append_seam}
 use Rattle.modes_frame.specs.Reading.{is_blank, front_trimmed, back_trimmed, trimmed}
 use Rattle.modes_frame.specs.LineRules.{IsBlank, IsTrimmed}
 
--- how many blanks stand first, what follows them, how many blanks stand last in it, and what is left
+-- the number of blanks at the front, what follows them, the number of blanks at the back of that, and what is left
 abbrev ahead : List ℕ → ℕ
 ahead line = prefix_len is_blank line
 
@@ -63,7 +63,7 @@ module _ (line : List ℕ) where
       ∙ sym (get_or-take (kept line) (rest line) 0 0 some) ∙ ap (λ l. get_or l 0 0) e in
       no_blank c (ap is_blank (sym is) ∙ prefix_len_stops is_blank line 0 (omega arith))
 
-  -- and so is the last
+  -- and neither is the last
   last_kept : (c : ℕ) (cs : List ℕ) → take (kept line) (rest line) ≡ cs ++ c ∷ [] → ¬ IsBlank c
   last_kept c cs e =
       let count : length (take (kept line) (rest line)) ≡ length cs + 1 = ap length e ∙ length-append cs (c ∷ []) in

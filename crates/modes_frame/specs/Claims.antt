@@ -5,7 +5,7 @@ use Rattle.modes_frame.specs.declared.claims.Claim.{Claim}
 use Rattle.modes_frame.specs.declared.claims.CheckFault.{CheckFault}
 use Rattle.modes_frame.specs.declared.claims.CheckFault.TheVariants.{Unsupported, BadParity, Unassigned}
 
--- the address announced, AA: the number in bits 9 to 32 (3.1.2.5.2.2.2)
+-- the announced address AA: the number in bits 9 to 32 (3.1.2.5.2.2.2)
 unfoldable pub address_field : List ℕ → ℕ
 address_field bytes = number_of (take 24 (drop 8 (bits_of bytes)))
 
@@ -29,7 +29,7 @@ is_overlaid_format df = df == 0 || df == 4 || df == 5 || df == 16 || df == 20 ||
 abbrev pub is_announced_format : ℕ → ℕ → Bool
 is_announced_format df control = df == 11 || is_squitter_format df control
 
--- over the parity of an all-call reply lies a code of 7 bits, over that of an extended squitter nothing
+-- the parity of an all-call reply is overlaid with a code of 7 bits, that of an extended squitter with nothing
 abbrev pub has_parity : ℕ → ℕ → Bool
 has_parity df remainder = if df == 11 then nat_lt remainder 128 else remainder == 0
 
@@ -40,7 +40,7 @@ is_unassigned address = address == 0 || address == 0xFFFFFF
 abbrev pub assigned : ℕ → Bool → Result Claim CheckFault
 assigned address overlaid = if is_unassigned address then Err (Unassigned address) else Ok (record { address = address; overlaid = overlaid })
 
--- by the downlink format and the control field, the remainder of the whole frame and the address announced
+-- the claim, by the downlink format, the control field, the remainder of the whole frame and the announced address
 abbrev pub claim_by : ℕ → ℕ → ℕ → ℕ → Result Claim CheckFault
 claim_by df control remainder address =
     if is_overlaid_format df then Ok (record { address = remainder; overlaid = true })

@@ -3,7 +3,7 @@ use Rattle.std.specs.Prelude.{◌≡◌, ℕ, ◌+◌, ◌-◌, ◌*◌, ◌/◌
 use Rattle.std.specs.List.{flat_map}
 use Rattle.std.proofs.Common.{get_or}
 
--- the bits of a byte, the first sent, and highest, first
+-- the bits of a byte: the highest is sent first
 unfoldable pub byte_bits : ℕ → List Bool
 byte_bits b = (b / 128 % 2 == 1) ∷ (b / 64 % 2 == 1) ∷ (b / 32 % 2 == 1) ∷ (b / 16 % 2 == 1)
     ∷ (b / 8 % 2 == 1) ∷ (b / 4 % 2 == 1) ∷ (b / 2 % 2 == 1) ∷ (b % 2 == 1) ∷ []
@@ -16,7 +16,7 @@ bits_of bytes = flat_map byte_bits bytes
 unfoldable pub bit_of : ℕ → List Bool → Bool
 bit_of n bits = get_or bits (n - 1) false
 
--- the next bit comes down
+-- the rest with the next bit brought down
 abbrev pub brought_down : ℕ → Bool → ℕ
 brought_down rest bit = 2 * rest + (if bit then 1 else 0)
 
@@ -36,11 +36,11 @@ IsFrame bytes = length bytes ≡ (if nat_lt (df_of bytes) 16 then 7 else 14)
 abbrev pub generator : ℕ
 generator = 0xFFF409
 
--- a rest with x^24 in it, less the generator
+-- a rest, less the generator where it has x^24 in it
 abbrev pub reduced : ℕ → ℕ
 reduced n = if nat_le 16777216 n then bit_xor (n - 16777216) generator else n
 
--- one step of the long division: the next bit comes down, and the generator is taken away where it goes
+-- one step of the long division: the next bit is brought down, and the generator taken away where it fits
 unfoldable pub divide : ℕ → Bool → ℕ
 divide rest bit = reduced (brought_down rest bit)
 

@@ -27,7 +27,7 @@ pub record IsTrimmed (line rest : List ℕ) : Type 0 where
 abbrev pub IsStart : ℕ → ℕ → Type 0
 IsStart start counter = ((start ≡ 42) × (counter ≡ 0)) ⊎ ((start ≡ 64) × (counter ≡ 12))
 
--- a line that starts and ends as it should, and what stands between
+-- a line that starts and ends as it should, and the bytes between
 pub record IsEnclosed (rest : List ℕ) (counter : ℕ) (digits : List ℕ) : Type 0 where
   pub start : ℕ
   pub starts : IsStart start counter
@@ -48,7 +48,7 @@ Writes (high ∷ low ∷ digits) [] = ⊥
 Writes (high ∷ low ∷ digits) (byte ∷ bytes) =
     ((h : ℕ) × (l : ℕ) × (hex_digit_value high ≡ Some h) × (hex_digit_value low ≡ Some l) × (byte ≡ 16 * h + l)) × Writes digits bytes
 
--- the first that is no digit stands at this place, counted from 1
+-- the first byte that is no digit is at this place, counted from 1
 pub record IsFirstBad (digits : List ℕ) (place : ℕ) : Type 0 where
   pub before : List ℕ
   pub bad : ℕ
@@ -66,7 +66,7 @@ pub record Carries (rest bytes : List ℕ) : Type 0 where
   pub all_digits : All IsDigit digits
   pub written : Writes (drop counter digits) bytes
 
--- the one answer to a line that has at most 64 bytes and has lost the blanks at its ends
+-- the one answer to a line of at most 64 bytes, without the blanks at its ends
 abbrev pub Says : List ℕ → Result Line LineFault → Type 0
 Says rest (Ok Blank) = rest ≡ []
 Says rest (Ok ModeAc) = (bytes : List ℕ) × Carries rest bytes × (length bytes ≡ 2)

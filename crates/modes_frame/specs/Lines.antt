@@ -22,7 +22,7 @@ pieces [] = record { ended = []; rest = [] }
 pieces (c ∷ cs) = if c == 10 then record { ended = [] ∷ (pieces cs).ended; rest = (pieces cs).rest }
     else onto c (pieces cs).ended (pieces cs).rest
 
--- a longer line is too long
+-- a line of more than 64 bytes is too long
 abbrev pub cut : List ℕ → Cut
 cut line = if nat_le (length line) longest_line then Whole line else TooLong
 
@@ -31,14 +31,14 @@ abbrev pub last_line : List ℕ → List (List ℕ)
 last_line [] = []
 last_line (c ∷ cs) = (c ∷ cs) ∷ []
 
--- the lines that a line feed ended, and all of them
+-- the lines that a line feed ended; `cuts` has the last line too
 abbrev pub ended_cuts : List ℕ → List Cut
 ended_cuts bytes = map cut (pieces bytes).ended
 
 abbrev pub cuts : List ℕ → List Cut
 cuts bytes = map cut ((pieces bytes).ended ++ last_line (pieces bytes).rest)
 
--- what has come of the line that no line feed has ended
+-- the beginning of a line that no line feed has ended yet
 abbrev pub pending : List ℕ → Cut
 pending bytes = cut (pieces bytes).rest
 

@@ -1,4 +1,4 @@
--- Lines that say a frame, with their line feed.
+-- Lines, with their line feed, that say a frame.
 use Rattle.std.specs.Prelude.{◌≡◌, ◌≢◌, ℕ, ◌<◌, ◌≤◌, List, [], ◌∷◌, ◌++◌, Ok, length, slice_index}
 use Rattle.modes_frame.specs.declared.cutter.Cut.{Cut}
 use Rattle.modes_frame.specs.declared.cutter.Cut.TheVariants.{Whole}
@@ -14,7 +14,7 @@ pub record IsFrameLine (bytes frame : List ℕ) : Type 0 where
   pub short : length line ≤ longest_line
   pub says : reading_of line ≡ Ok (Frame frame)
 
--- these bytes, after any that leave a cutter so, end one line, which says this frame, and leave the cutter so again
+-- after any bytes that leave a cutter in this state, these end one line, which says this frame, and leave the same state
 pub record EndsFrame (held : Cut) (bytes frame : List ℕ) : Type 0 where
   pub line : List ℕ
   pub says : reading_of line ≡ Ok (Frame frame)

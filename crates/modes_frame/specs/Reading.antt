@@ -30,7 +30,7 @@ trimmed line = back_trimmed (front_trimmed line)
 
 -- ---- from the start byte on
 
--- how many digits of a counter stand first
+-- the number of digits of the counter, which come first
 abbrev pub counter_len : ℕ → ℕ
 counter_len start = if start == 64 then 12 else 0
 
@@ -40,13 +40,13 @@ is_start c = c == 42 || c == 64
 abbrev pub fits_length : ℕ → ℕ → Bool
 fits_length start n = n == counter_len start + 4 || n == counter_len start + 14 || n == counter_len start + 28
 
--- a mode A/C reply has two bytes, a frame as many as its format has
+-- a Mode A/C reply has two bytes, a frame the number that its format has
 abbrev pub said_by : List ℕ → Result Line LineFault
 said_by bytes = if length bytes == 2 then Ok ModeAc
     else if length bytes == (if nat_lt (df_of bytes) 16 then 7 else 14) then Ok (Frame bytes)
     else Err (WrongLength (df_of bytes))
 
--- places are counted from 1; digits of an even number have no other fault
+-- places are counted from 1; an even number of digits has no other fault
 abbrev pub from_digits : ℕ → Result (List ℕ) FromHexError → Result Line LineFault
 from_digits start (Ok bytes) = said_by (drop (counter_len start / 2) bytes)
 from_digits start (Err (InvalidHexCharacter c index)) = Err (BadDigit (index + 1))
@@ -60,7 +60,7 @@ digits_of start digits = if fits_length start (length digits) then from_digits s
 abbrev pub body_of : ℕ → List ℕ → Result Line LineFault
 body_of start rest = if nat_lt 0 (length rest) && slice_index rest (length rest - 1) == 59 then digits_of start (take (length rest - 1) rest) else Err NoEnd
 
--- what a line says that has no blank at its ends
+-- what a line without blanks at its ends says
 abbrev pub line_of : List ℕ → Result Line LineFault
 line_of [] = Ok Blank
 line_of (start ∷ rest) = if is_start start then body_of start rest else Err NoStart
@@ -71,7 +71,7 @@ reading_of line = if nat_lt longest_line (length line) then Err Faults.TooLong e
 
 -- ---- the digits' bytes
 
--- the bytes of the digits, or the place of the first that is none, counted from 1
+-- the bytes of the digits, or the place of the first byte that is no digit, counted from 1
 abbrev pub Decoded : Result (List ℕ) FromHexError → List ℕ → Result (Unit {0}) ℕ → Type 0
 Decoded (Ok decoded) bytes result = (result ≡ Ok tt) × (bytes ≡ decoded)
 Decoded (Err (InvalidHexCharacter c index)) bytes result = result ≡ Err (index + 1)

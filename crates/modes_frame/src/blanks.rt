@@ -2,8 +2,8 @@
 ghost use Rattle.std.specs.Prelude.{◌≡◌, ◌≤◌, length};
 ghost use Rattle.modes_frame.specs.Reading.{is_blank, front_trimmed, back_trimmed, trimmed};
 
-/// The line without the spaces, tabs and carriage returns at both its ends. Other bytes stay, vertical tabs,
-/// form feeds and line feeds too.
+/// The line without the spaces, tabs and carriage returns at its ends. All other bytes stay, also vertical tabs,
+/// form feeds and line feeds.
 pub fn trim_blanks(line: &[u8]) -> &[u8]
     ensures value { result.now ≡ trimmed line.now }
     ensures within { length result.now ≤ length line.now }

@@ -9,7 +9,7 @@ use crate::frame::Frame;
 use hex::FromHexError;
 use std::marker::Model;
 
-/// The bytes of some digits, or the place of the first that is none, counted from 1.
+// Decodes digits into bytes, or answers the place of the first byte that is no digit, counted from 1.
 pub(crate) fn decode_digits(digits: &[u8], bytes: &mut [u8]) -> Result<(), u8>
     requires even { length digits.now ≡ 2 * length bytes.old }
     requires few { length digits.now ≤ 40 }
@@ -24,7 +24,7 @@ pub(crate) fn decode_digits(digits: &[u8], bytes: &mut [u8]) -> Result<(), u8>
     }
 }
 
-/// The value of a digit.
+// The value of a hexadecimal digit, if the byte is one.
 fn digit_value(byte: u8) -> Option<u8>
     ensures { result ≡ hex_digit_value byte }
 {
@@ -35,10 +35,10 @@ fn digit_value(byte: u8) -> Option<u8>
     }
 }
 
-/// What stands for a byte that is no digit.
+// In a table, the value of a byte that is no digit.
 const NO_DIGIT: u8 = 16;
 
-/// The value of each byte as a digit, which `hex` was asked for once.
+// The value of each byte as a hexadecimal digit, by one call of `hex` each.
 #[derive(Drop)]
 pub(crate) struct DigitTable {
     values: [u8; 256],
@@ -63,8 +63,8 @@ impl DigitTable {
         DigitTable { values }
     }
 
-    /// The frame that 14 or 28 digits write. None where one of them is no digit, or their number doesn't fit the
-    /// downlink format.
+    // The frame that 14 or 28 digits write. None where a byte is no digit, or where their number doesn't fit the
+    // downlink format.
     #[inline(always)]
     pub(crate) fn frame(&self, digits: &[u8]) -> Option<Frame>
         requires { (length digits.now ≡ 14) ⊎ (length digits.now ≡ 28) }
@@ -80,7 +80,7 @@ impl DigitTable {
         }
     }
 
-    /// Whether all are digits; then these are their bytes.
+    // Decodes digits into bytes. Where it answers false, one of them is no digit, and the bytes mean nothing.
     #[inline(always)]
     pub(crate) fn decode(&self, digits: &[u8], bytes: &mut [u8]) -> bool
         requires even { length digits.now ≡ 2 * length bytes.old }

@@ -35,7 +35,7 @@ impl Frame {
     ghost use Rattle.modes_frame.specs.Frames.{IsFrame, bits_of, bit_of};
     ghost use Rattle.modes_frame.specs.Kept.{with_zeros};
 
-    /// The frame of these bytes. None where their number is not the one that their downlink format has.
+    /// The frame of these bytes. None where their number doesn't fit their downlink format.
     pub fn from_bytes(bytes: &[u8]) -> Option<Frame>
         ensures some { IsSome result ↔ IsFrame bytes.now }
         ensures value { IfSome result (λ f. f ≡ bytes.now) }
@@ -48,8 +48,8 @@ impl Frame {
         Frame::from_padded(bytes.len() as u8, padded)
     }
 
-    /// The frame of the first bytes of 16, 7 or 14, after which there are zeros. None where their number is not the one
-    /// that their downlink format has.
+    // The frame of the first `count` of 16 bytes, 7 or 14, with zeros after them. None where that number doesn't fit
+    // their downlink format.
     #[inline(always)]
     pub(crate) fn from_padded(count: u8, padded: [u8; 16]) -> Option<Frame>
         requires count { (count ≡ 7) ⊎ (count ≡ 14) }
@@ -88,7 +88,7 @@ impl Frame {
         8 * self.bytes().len()
     }
 
-    /// Bit `n`, where bit 1 is the first that was sent.
+    /// Bit `n`, from 1 to 56 or 112: bit 1 was sent first.
     pub fn bit(&self, n: usize) -> bool
         requires first { 1 ≤ n }
         requires last { n ≤ 8 * length self.now }
@@ -98,7 +98,7 @@ impl Frame {
     }
 }
 
-/// How many bytes a frame has that begins with these.
+// The number of bytes of a frame that begins with these.
 fn byte_count(bytes: &[u8]) -> u8
     requires { 0 < length bytes.now }
     ensures { result ≡ count_of bytes.now }
@@ -106,7 +106,7 @@ fn byte_count(bytes: &[u8]) -> u8
     if format_of(bytes) < 16 { 7 } else { 14 }
 }
 
-/// The downlink format with which bytes begin.
+// The downlink format of a frame that begins with these bytes.
 pub(crate) fn format_of(bytes: &[u8]) -> u8
     requires { 0 < length bytes.now }
     ensures { result ≡ df_of bytes.now }

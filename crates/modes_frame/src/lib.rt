@@ -21,10 +21,4 @@ pub use parity::remainder;
 pub use plain::PlainLine;
 
 #[cfg(test)]
-mod byte_tests;
-#[cfg(test)]
-mod parity_tests;
-#[cfg(test)]
-mod plain_tests;
-#[cfg(test)]
 mod tests;

@@ -5,7 +5,7 @@ ghost use Rattle.modes_frame.specs.Frames.{remainder_of, parity_of};
 use crate::frame::Frame;
 use crate::parity::{parity_of_byte, sent};
 
-/// What `remainder` gives, by as many look-ups, which go on side by side.
+// The same as `remainder`, by as many look-ups that the processor can overlap.
 pub(crate) fn remainder_by_place(frame: &Frame) -> u32
     ensures value { result ≡ remainder_of frame.now }
     ensures small { result < 2 ^ 24 }
@@ -18,8 +18,7 @@ pub(crate) fn remainder_by_place(frame: &Frame) -> u32
     }
 }
 
-/// What is left of the bits of some bytes, of which three come after the first `count`. Put where it is called, with
-/// what it calls, it knows `count`, and no loop is left.
+// The remainder of `count` + 3 bytes. Inlined where `count` is a constant, it has no loop.
 #[inline(always)]
 fn remainder_after(bytes: &[u8], count: usize) -> u32
     requires few { count ≤ 11 }
@@ -30,7 +29,7 @@ fn remainder_after(bytes: &[u8], count: usize) -> u32
     parity_by_place(&bytes[..count]) ^ sent(&bytes[count..])
 }
 
-/// What is left of the bits of some bytes and of 24 zero bits after them.
+// The remainder of some bytes with 24 zero bits after them.
 #[inline(always)]
 fn parity_by_place(bytes: &[u8]) -> u32
     requires { length bytes.now ≤ 11 }
@@ -43,7 +42,7 @@ fn parity_by_place(bytes: &[u8]) -> u32
     parity
 }
 
-/// The parity of a byte with so many bytes of zeros after it.
+// The parity of a byte with `after` zero bytes after it.
 #[inline(always)]
 pub(crate) fn parity_before(after: usize, byte: u8) -> u32
     requires { after < 11 }
@@ -65,7 +64,7 @@ pub(crate) fn parity_before(after: usize, byte: u8) -> u32
     }
 }
 
-// All sums of some numbers by exclusive or: at index k that of those whose bit k has, the first's bit the lowest.
+// Entry k is the XOR of the numbers whose bit is set in k. The first number is bit 0.
 macro_rules! sums {
     ([$($sum:expr),*]) => {
         [$($sum),*]
@@ -75,8 +74,8 @@ macro_rules! sums {
     };
 }
 
-// Entry k of BEFORE_n is what is left of the byte k, n bytes of zeros and 24 zero bits. Written are the entries of the
-// bits.
+// Entry k of BEFORE_n is the parity of the byte k with n zero bytes after it. Only the entries 0, 1, 2, 4 and so on are
+// written out.
 const BEFORE_1: [u32; 256] =
     sums!([0] 0x0E_0D80 0x1C_1B00 0x38_3600 0x70_6C00 0xE0_D800 0x3E_4409 0x7C_8812 0xF9_1024);
 

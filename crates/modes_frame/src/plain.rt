@@ -1,4 +1,4 @@
-//! Plain lines, which are read where they lie.
+//! Plain lines, which are read in place.
 ghost use Rattle.std.specs.Prelude.{◌<◌, ◌≤◌, IfSome, length, take};
 ghost use Rattle.modes_frame.specs.Plain.{EndsFrame};
 
@@ -9,18 +9,20 @@ use crate::line::LineReader;
 /// A plain line: `*`, the 14 or 28 digits of a frame, `;` and a line feed, with no blank.
 #[derive(Clone, Copy, Debug, PartialEq, Eq)]
 pub struct PlainLine {
-    /// The number of its bytes, 17 or 31: the line feed is one of them.
+    /// The number of its bytes, with the line feed: 17 or 31.
     pub length: usize,
-    /// What it says.
+    /// The frame that it says.
     pub frame: Frame,
 }
 
 impl Cutter {
-    /// The plain line with which the bytes begin, where nothing is held of a line before. To take its bytes ends this
-    /// line, whose reading is the frame, and leaves the cutter as it is: so a caller goes on behind it.
+    /// The plain line at the front of the bytes, where the cutter keeps no byte of an earlier line. Pushing its bytes
+    /// would end this one line and leave the cutter as it is, so a caller skips them.
     ///
-    /// Where it answers None, nothing is said of the bytes, and [`Cutter::push_line`] takes them. It answers so to any
-    /// other line, to one that goes on behind the bytes, and always with a reader of a few lines.
+    /// None says nothing about the bytes: push them. It is the answer
+    /// - to any other line,
+    /// - to a line that goes on behind the bytes,
+    /// - always with a reader for a few lines.
     #[inline(always)]
     pub fn plain_line(&self, lines: &LineReader, bytes: &[u8]) -> Option<PlainLine>
         ensures some { IfSome result (λ line. 0 < line.length) }

@@ -1,4 +1,4 @@
-//! Readers named as types.
+//! Whose frame it is: the claim that parity and format allow.
 ghost use Rattle.std.specs.Prelude.{◌≡◌, ◌^◌, ◌<◌, ◌==◌, not, IfOk, length};
 ghost use Rattle.std.specs.Bool.{OnTrue};
 ghost use Rattle.modes_frame.specs.Claims.{claim_of, address_field, assigned, control_field, is_squitter_frame};
@@ -8,7 +8,7 @@ use crate::frame::Frame;
 use crate::parity_by_place::remainder_by_place;
 
 /// Whom a frame speaks for, by its downlink format and the remainder of the whole frame (ICAO Annex 10 Volume IV,
-/// 3.1.2.3.3). An address is below 2^24.
+/// 3.1.2.3.3). The address is below 2^24. [`CheckFault`] lists when a frame speaks for nobody.
 #[tactic(auto, unfolding(crate::specs::Claims::claim_of))]
 pub fn claim(frame: &Frame) -> Result<Claim, CheckFault>
     ensures value { result ≡ claim_of frame.now }
@@ -29,8 +29,8 @@ pub fn claim(frame: &Frame) -> Result<Claim, CheckFault>
     }
 }
 
-/// Whether a frame is an extended squitter whose sender's address it announces: DF 17, or DF 18 with control field 0
-/// (bits 6 to 8), from a device that is no transponder (ICAO Annex 10 Volume IV, 3.1.2.8.6 and 3.1.2.8.7). Such a frame
+/// Whether a frame is an extended squitter that announces its sender's address (ICAO Annex 10 Volume IV, 3.1.2.8.6 and
+/// 3.1.2.8.7): DF 17, or DF 18 with control field 0 (bits 6 to 8), from a device that is no transponder. Such a frame
 /// has 14 bytes.
 #[inline(always)]
 pub fn is_squitter(frame: &Frame) -> bool
@@ -44,14 +44,14 @@ pub fn is_squitter(frame: &Frame) -> bool
     }
 }
 
-/// The number in bits 6 to 8.
+// The control field: the number in bits 6 to 8.
 fn control(frame: &Frame) -> u8
     ensures { result ≡ control_field frame.now }
 {
     frame.bytes()[0] % 8
 }
 
-/// The claim of the address that is announced.
+// The claim to the announced address, in a frame with this remainder.
 fn announced(frame: &Frame, remainder: u32) -> Result<Claim, CheckFault>
     ensures value { result ≡ assigned (address_field frame.now) (not (remainder == 0)) }
     ensures below { IfOk result (λ claim. claim.address < 2 ^ 24) }
@@ -67,7 +67,7 @@ fn announced(frame: &Frame, remainder: u32) -> Result<Claim, CheckFault>
     }
 }
 
-/// The number in bits 9 to 32.
+// The announced address: the number in bits 9 to 32.
 fn announced_address(frame: &Frame) -> u32
     ensures value { result ≡ address_field frame.now }
     ensures below { result < 2 ^ 24 }

@@ -1,17 +1,97 @@
 //! Values from known lines and frames.
+mod bytes;
+mod known;
+mod plain;
+
 use crate::parity::parity_of_byte;
+use crate::parity_by_place::remainder_by_place;
 use crate::readers::claim;
-use crate::{CheckFault, Claim, Cut, Cutter, Frame, Line, LineFault, read_line, remainder};
+use crate::tests::known::{ALL_CALL, KLM1023};
+use crate::{
+    CheckFault, Claim, Cut, Cutter, Frame, Line, LineFault, LineReader, read_line, remainder,
+};
 use std::test::Fail;
 
-const KLM1023: [u8; 14] = [
-    0x8D, 0x48, 0x40, 0xD6, 0x20, 0x2C, 0xC3, 0x71, 0xC3, 0x2C, 0xE0, 0x57, 0x60, 0x98,
-];
+#[test]
+fn lines_say_a_frame_or_their_first_fault(rt: HostRuntime) -> Result<(), Fail> {
+    let known = Ok(Line::Frame(Frame::from_bytes(&KLM1023).ok_or("no frame")?));
+    let lines = LineReader::new();
+    for (line, want) in [
+        ("*8D4840D6202CC371C32CE0576098;", known),
+        ("*8d4840d6202cc371c32ce0576098;", known),
+        ("@0123456789AB8D4840D6202CC371C32CE0576098;\r", known),
+        (" \t*8D4840D6202CC371C32CE0576098;\r \t", known),
+        ("", Ok(Line::Blank)),
+        ("   ", Ok(Line::Blank)),
+        ("*0000;", Ok(Line::ModeAc)),
+        ("@0123456789AB7700;", Ok(Line::ModeAc)),
+        ("8D4840D6;", Err(LineFault::NoStart)),
+        ("\x0B*0000;", Err(LineFault::NoStart)),
+        ("*8D4840D6", Err(LineFault::NoEnd)),
+        ("*", Err(LineFault::NoEnd)),
+        ("@", Err(LineFault::NoEnd)),
+        ("*;", Err(LineFault::BadLength(0))),
+        ("*8D4840D6202CC;", Err(LineFault::BadLength(13))),
+        ("@0123456789AB;", Err(LineFault::BadLength(12))),
+        ("*8DG840D6202CC3;", Err(LineFault::BadDigit(3))),
+        ("@01234567x9AB0000;", Err(LineFault::BadDigit(9))),
+        ("*8D4840D6202CC3;", Err(LineFault::WrongLength(17))),
+    ] {
+        assert_eq!(rt; read_line(line.as_bytes()), want, "{line}");
+        assert_eq!(rt; lines.read_line(line.as_bytes()), want, "{line}");
+    }
+    Ok(())
+}
 
-const KLM1023_LINE: [u8; 30] = *b"*8D4840D6202CC371C32CE0576098;";
+#[test]
+fn blanks_count_towards_the_64_bytes_of_a_line(rt: HostRuntime) {
+    for (count, want) in [(64, Ok(Line::Blank)), (65, Err(LineFault::TooLong))] {
+        assert_eq!(rt; read_line(&[b' '; 65][..count]), want, "{count} spaces");
+    }
+}
 
-fn frame(line: &[u8]) -> Result<Frame, Fail> {
-    match read_line(line) {
+#[test]
+fn a_cut_line_reads_as_its_bytes(rt: HostRuntime) -> Result<(), Fail> {
+    let lines = LineReader::new();
+    for bytes in [" *0000;\t\n", "*0000\n", " \r\n", "\n"] {
+        match Cutter::new().push_line(bytes.as_bytes()).1 {
+            Some(Cut::Whole(cut)) => {
+                assert_eq!(rt; lines.read_cut(&cut), read_line(cut.bytes()), "{bytes}")
+            }
+            _ => return Err("no line".into()),
+        }
+    }
+    Ok(())
+}
+
+#[test]
+fn frames_have_the_bytes_of_their_format(rt: HostRuntime) {
+    for (bytes, want) in [
+        (KLM1023.as_slice(), Some((17, 112))),
+        (&ALL_CALL, Some((11, 56))),
+        (&KLM1023[..7], None),
+        (&[0; 14], None),
+        (&[], None),
+    ] {
+        let frame = Frame::from_bytes(bytes);
+        let format_and_bits = frame.map(|frame| (frame.df(), frame.bits()));
+        assert_eq!(rt; format_and_bits, want, "{} bytes", bytes.len());
+    }
+}
+
+#[test]
+fn bits_are_counted_in_the_order_in_which_they_are_sent(rt: HostRuntime) -> Result<(), Fail> {
+    let frame = Frame::from_bytes(&KLM1023).ok_or("no frame")?;
+    let mut number: u128 = 0;
+    for n in 1..=frame.bits() {
+        number = number << 1 | u128::from(frame.bit(n));
+    }
+    assert_eq!(rt; number, 0x8D48_40D6_202C_C371_C32C_E057_6098);
+    Ok(())
+}
+
+fn frame(line: &str) -> Result<Frame, Fail> {
+    match read_line(line.as_bytes()) {
         Ok(line) => Ok(frame_in(line).ok_or("no frame")?),
         Err(_) => Err("no line".into()),
     }
@@ -25,216 +105,139 @@ fn frame_in(line: Line) -> Option<Frame> {
 }
 
 #[test]
-fn lines_of_a_frame(rt: HostRuntime) -> Result<(), Fail> {
-    let known = Frame::from_bytes(&KLM1023).ok_or("no frame")?;
-    let line = Ok(Line::Frame(known));
-    assert_eq!(rt; read_line(&KLM1023_LINE), line);
-    assert_eq!(rt; read_line(b"*8d4840d6202cc371c32ce0576098;"), line);
-    assert_eq!(rt;
-        read_line(b"@0123456789AB8D4840D6202CC371C32CE0576098;\r"),
-        line
-    );
-    assert_eq!(rt; read_line(b" \t*8D4840D6202CC371C32CE0576098;\r \t"), line);
-    Ok(())
-}
-
-#[test]
-fn other_lines(rt: HostRuntime) {
-    assert_eq!(rt; read_line(b""), Ok(Line::Blank));
-    assert_eq!(rt; read_line(b"   "), Ok(Line::Blank));
-    assert_eq!(rt; read_line(&[b' '; 64]), Ok(Line::Blank));
-    assert_eq!(rt; read_line(b"*0000;"), Ok(Line::ModeAc));
-    assert_eq!(rt; read_line(b"@0123456789AB7700;"), Ok(Line::ModeAc));
-}
-
-#[test]
-fn line_faults(rt: HostRuntime) {
-    assert_eq!(rt; read_line(&[b' '; 65]), Err(LineFault::TooLong));
-    assert_eq!(rt; read_line(b"8D4840D6;"), Err(LineFault::NoStart));
-    assert_eq!(rt; read_line(b"\x0B*0000;"), Err(LineFault::NoStart));
-    assert_eq!(rt; read_line(b"*8D4840D6"), Err(LineFault::NoEnd));
-    assert_eq!(rt; read_line(b"*"), Err(LineFault::NoEnd));
-    assert_eq!(rt; read_line(b"@"), Err(LineFault::NoEnd));
-    assert_eq!(rt; read_line(b"*;"), Err(LineFault::BadLength(0)));
-    assert_eq!(rt;
-        read_line(b"*8D4840D6202CC;"),
-        Err(LineFault::BadLength(13))
-    );
-    assert_eq!(rt; read_line(b"@0123456789AB;"), Err(LineFault::BadLength(12)));
-    assert_eq!(rt; read_line(b"*8DG840D6202CC3;"), Err(LineFault::BadDigit(3)));
-    assert_eq!(rt;
-        read_line(b"@01234567x9AB0000;"),
-        Err(LineFault::BadDigit(9))
-    );
-    assert_eq!(rt;
-        read_line(b"*8D4840D6202CC3;"),
-        Err(LineFault::WrongLength(17))
-    );
-}
-
-#[test]
-fn frames_and_their_bits(rt: HostRuntime) -> Result<(), Fail> {
-    let long = Frame::from_bytes(&KLM1023).ok_or("no frame")?;
-    assert_eq!(rt; (long.df(), long.bits()), (17, 112));
-    assert_eq!(rt;
-        (long.bit(1), long.bit(2), long.bit(8), long.bit(112)),
-        (true, false, true, false)
-    );
-    let short = frame(b"*5D484FDEA248E3;")?;
-    assert_eq!(rt; (short.df(), short.bits()), (11, 56));
-    assert!(rt; Frame::from_bytes(&KLM1023[..7]).is_none());
-    assert!(rt; Frame::from_bytes(&[0; 14]).is_none());
-    assert!(rt; Frame::from_bytes(&[]).is_none());
-    Ok(())
-}
-
-#[test]
-fn remainders(rt: HostRuntime) -> Result<(), Fail> {
-    assert_eq!(rt;
-        remainder(&frame(b"*8D4840D6202CC371C32CE0576098;")?),
-        0x00_0000
-    );
-    assert_eq!(rt; remainder(&frame(b"*2A00516D492B80;")?), 0x51_0AF9);
-    assert_eq!(rt; remainder(&frame(b"*20000100DF6126;")?), 0x51_0AF9);
-    assert_eq!(rt; remainder(&frame(b"*5D484FDEA248E3;")?), 0x00_0000);
-    assert_eq!(rt; remainder(&frame(b"*5D484FDEA248F5;")?), 0x00_0016);
-    assert_eq!(rt; remainder(&frame(b"*000014B496B148;")?), 0x48_40D6);
-    assert_eq!(rt;
-        remainder(&frame(b"*800014B4000000000000003EAE64;")?),
-        0x48_40D6
-    );
-    Ok(())
-}
-
-#[test]
-fn parities_of_bytes(rt: HostRuntime) {
-    assert_eq!(rt; parity_of_byte(0), 0x00_0000);
-    assert_eq!(rt; parity_of_byte(1), 0xFF_F409);
-    assert_eq!(rt; parity_of_byte(2), 0x00_1C1B);
-    assert_eq!(rt; parity_of_byte(3), 0xFF_E812);
-    assert_eq!(rt; parity_of_byte(128), 0x07_06C0);
-}
-
-fn plain(address: u32) -> Result<Claim, CheckFault> {
-    Ok(Claim {
-        address,
-        overlaid: false,
-    })
-}
-
-fn overlaid(address: u32) -> Result<Claim, CheckFault> {
-    Ok(Claim {
-        address,
-        overlaid: true,
-    })
-}
-
-#[test]
-fn claims_of_extended_squitters(rt: HostRuntime) -> Result<(), Fail> {
-    assert_eq!(rt; claim(&frame(&KLM1023_LINE)?), plain(0x48_40D6));
-    let flipped = frame(b"*8D4840D6202CC371C32CE0576099;")?;
-    assert_eq!(rt; claim(&flipped), Err(CheckFault::BadParity(1)));
-    Ok(())
-}
-
-#[test]
-fn claims_of_devices_that_are_no_transponders(rt: HostRuntime) -> Result<(), Fail> {
-    let device = frame(b"*904840D6202CC371C32CE02A6C6D;")?;
-    assert_eq!(rt; claim(&device), plain(0x48_40D6));
-    let flipped = frame(b"*904840D6202CC371C32CE02A6C6C;")?;
-    assert_eq!(rt; claim(&flipped), Err(CheckFault::BadParity(1)));
-    let rebroadcast = frame(b"*914840D6202CC371C32CE0000000;")?;
-    assert_eq!(rt; claim(&rebroadcast), Err(CheckFault::Unsupported(18)));
-    Ok(())
-}
-
-#[test]
-fn claims_of_all_call_replies(rt: HostRuntime) -> Result<(), Fail> {
-    assert_eq!(rt; claim(&frame(b"*5D484FDEA248E3;")?), plain(0x48_4FDE));
-    assert_eq!(rt; claim(&frame(b"*5D484FDEA2489C;")?), overlaid(0x48_4FDE));
-    assert_eq!(rt;
-        claim(&frame(b"*5D484FDEA24863;")?),
-        Err(CheckFault::BadParity(128))
-    );
-    assert_eq!(rt;
-        claim(&frame(b"*5D00000064E712;")?),
-        Err(CheckFault::Unassigned(0))
-    );
-    assert_eq!(rt;
-        claim(&frame(b"*5DFFFFFF28E024;")?),
-        Err(CheckFault::Unassigned(0xFF_FFFF))
-    );
-    Ok(())
-}
-
-#[test]
-fn claims_of_other_formats(rt: HostRuntime) -> Result<(), Fail> {
-    assert_eq!(rt; claim(&frame(b"*2A00516D492B80;")?), overlaid(0x51_0AF9));
-    assert_eq!(rt; claim(&frame(b"*00000000000000;")?), overlaid(0));
-    assert_eq!(rt;
-        claim(&frame(b"*08000000000000;")?),
-        Err(CheckFault::Unsupported(1))
-    );
-    let last = frame(b"*C000000000000000000000000000;")?;
-    assert_eq!(rt; claim(&last), Err(CheckFault::Unsupported(24)));
-    Ok(())
-}
-
-fn told(cutter: &mut Cutter, bytes: &[u8]) -> Option<Cut> {
-    let mut last = None;
-    for byte in bytes {
-        last = cutter.push(*byte);
+fn remainders_are_what_was_laid_over_the_parity(rt: HostRuntime) -> Result<(), Fail> {
+    for (line, want) in [
+        ("*8D4840D6202CC371C32CE0576098;", 0x00_0000),
+        ("*2A00516D492B80;", 0x51_0AF9),
+        ("*20000100DF6126;", 0x51_0AF9),
+        ("*5D484FDEA248E3;", 0x00_0000),
+        ("*5D484FDEA248F5;", 0x00_0016),
+        ("*000014B496B148;", 0x48_40D6),
+        ("*800014B4000000000000003EAE64;", 0x48_40D6),
+    ] {
+        let frame = frame(line)?;
+        assert_eq!(rt; remainder(&frame), want, "{line}");
+        assert_eq!(rt; remainder_by_place(&frame), want, "{line}");
     }
-    last
+    Ok(())
 }
 
-fn is_whole(cut: Option<Cut>, line: &[u8]) -> bool {
+#[test]
+fn parities_of_single_bytes(rt: HostRuntime) {
+    for (byte, want) in [
+        (0, 0x00_0000),
+        (1, 0xFF_F409),
+        (2, 0x00_1C1B),
+        (3, 0xFF_E812),
+        (128, 0x07_06C0),
+    ] {
+        assert_eq!(rt; parity_of_byte(byte), want, "byte {byte}");
+    }
+}
+
+#[test]
+fn frames_speak_for_an_address(rt: HostRuntime) -> Result<(), Fail> {
+    for (line, address, overlaid) in [
+        ("*8D4840D6202CC371C32CE0576098;", 0x48_40D6, false),
+        // DF 18 with control field 0
+        ("*904840D6202CC371C32CE02A6C6D;", 0x48_40D6, false),
+        ("*5D484FDEA248E3;", 0x48_4FDE, false),
+        ("*5D484FDEA2489C;", 0x48_4FDE, true),
+        ("*2A00516D492B80;", 0x51_0AF9, true),
+        ("*00000000000000;", 0, true),
+    ] {
+        assert_eq!(rt;
+            claim(&frame(line)?),
+            Ok(Claim { address, overlaid }),
+            "{line}"
+        );
+    }
+    Ok(())
+}
+
+#[test]
+fn frames_speak_for_nobody_with_their_first_fault(rt: HostRuntime) -> Result<(), Fail> {
+    for (line, fault) in [
+        ("*8D4840D6202CC371C32CE0576099;", CheckFault::BadParity(1)),
+        ("*904840D6202CC371C32CE02A6C6C;", CheckFault::BadParity(1)),
+        // DF 18 with control field 1
+        (
+            "*914840D6202CC371C32CE0000000;",
+            CheckFault::Unsupported(18),
+        ),
+        ("*5D484FDEA24863;", CheckFault::BadParity(128)),
+        ("*5D00000064E712;", CheckFault::Unassigned(0)),
+        ("*5DFFFFFF28E024;", CheckFault::Unassigned(0xFF_FFFF)),
+        ("*08000000000000;", CheckFault::Unsupported(1)),
+        (
+            "*C000000000000000000000000000;",
+            CheckFault::Unsupported(24),
+        ),
+    ] {
+        assert_eq!(rt; claim(&frame(line)?), Err(fault), "{line}");
+    }
+    Ok(())
+}
+
+// What a cutter answers: the bytes of a line, or that it is too long, or that no line ended.
+fn answer(cut: &Option<Cut>) -> Option<Result<&[u8], TooLong>> {
     match cut {
-        Some(Cut::Whole(buffer)) => buffer.bytes() == line,
-        _ => false,
+        Some(Cut::Whole(line)) => Some(Ok(line.bytes())),
+        Some(Cut::TooLong) => Some(Err(TooLong)),
+        None => None,
+    }
+}
+
+#[derive(Clone, Copy, Debug, PartialEq, Eq)]
+struct TooLong;
+
+#[test]
+fn bytes_are_cut_one_by_one(rt: HostRuntime) {
+    let mut cutter = Cutter::new();
+    for (bytes, want) in [
+        (b"*8D4840D6202CC371C32CE0576098;".as_slice(), None),
+        // No bytes are the end of the input.
+        (b"", Some(Ok(b"*8D4840D6202CC371C32CE0576098;".as_slice()))),
+        (b"", None),
+        (&[b' '; 65], None),
+        (b"\n", Some(Err(TooLong))),
+        (b"*0000;\n", Some(Ok(b"*0000;"))),
+        (b"\n", Some(Ok(b""))),
+        (b"", None),
+        (&[b'x'; 64], None),
+        (b"\n", Some(Ok(&[b'x'; 64]))),
+        (&[b'x'; 65], None),
+        (b"", Some(Err(TooLong))),
+    ] {
+        let mut cut = None;
+        if bytes.is_empty() {
+            cut = cutter.finish();
+        }
+        for byte in bytes {
+            cut = cutter.push(*byte);
+        }
+        assert_eq!(rt; answer(&cut), want, "{bytes:?}");
     }
 }
 
 #[test]
-fn a_last_line_without_a_line_feed(rt: HostRuntime) {
-    let mut cutter = Cutter::new();
-    assert!(rt; told(&mut cutter, &KLM1023_LINE).is_none());
-    assert!(rt; is_whole(cutter.finish(), &KLM1023_LINE));
-    assert!(rt; cutter.finish().is_none());
-}
-
-#[test]
-fn a_line_too_long_and_the_next(rt: HostRuntime) {
-    let mut cutter = Cutter::new();
-    assert!(rt; told(&mut cutter, &[b' '; 65]).is_none());
-    assert_eq!(rt; cutter.push(b'\n'), Some(Cut::TooLong));
-    assert!(rt; is_whole(told(&mut cutter, b"*0000;\n"), b"*0000;"));
-    assert!(rt; is_whole(cutter.push(b'\n'), b""));
-    assert!(rt; cutter.finish().is_none());
-}
-
-#[test]
-fn a_line_of_64_bytes(rt: HostRuntime) {
-    let mut cutter = Cutter::new();
-    assert!(rt; told(&mut cutter, &[b'x'; 64]).is_none());
-    assert!(rt; is_whole(cutter.push(b'\n'), &[b'x'; 64]));
-    assert!(rt; told(&mut cutter, &[b'x'; 65]).is_none());
-    assert_eq!(rt; cutter.finish(), Some(Cut::TooLong));
-}
-
-#[test]
-fn lines_of_a_piece(rt: HostRuntime) {
+fn bytes_are_cut_in_pieces(rt: HostRuntime) {
     let mut cutter = Cutter::new();
     assert_eq!(rt; cutter.push(b'*'), None);
-    let (count, cut) = cutter.push_line(b"0000;\n\n*00");
-    assert_eq!(rt; count, 6);
-    assert!(rt; is_whole(cut, b"*0000;"));
-    let (count, cut) = cutter.push_line(b"\n*00");
-    assert_eq!(rt; count, 1);
-    assert!(rt; is_whole(cut, b""));
-    assert_eq!(rt; cutter.push_line(b"*00"), (3, None));
-    assert_eq!(rt; cutter.push_line(&[b'0'; 62]), (62, None));
-    assert_eq!(rt; cutter.push_line(b"\n"), (1, Some(Cut::TooLong)));
-    assert_eq!(rt; cutter.push_line(b""), (0, None));
+    for (bytes, count, want) in [
+        (
+            b"0000;\n\n*00".as_slice(),
+            6,
+            Some(Ok(b"*0000;".as_slice())),
+        ),
+        (b"\n*00", 1, Some(Ok(b""))),
+        (b"*00", 3, None),
+        (&[b'0'; 62], 62, None),
+        (b"\n", 1, Some(Err(TooLong))),
+        (b"", 0, None),
+    ] {
+        let (taken, cut) = cutter.push_line(bytes);
+        assert_eq!(rt; (taken, answer(&cut)), (count, want), "{bytes:?}");
+    }
     assert_eq!(rt; cutter.finish(), None);
 }

@@ -1,0 +1,76 @@
+//! Plain lines, and what they are not.
+use crate::tests::known::{ALL_CALL, KLM1023, KLM1023_LINE};
+use crate::{Cut, Cutter, Frame, LineReader, PlainLine};
+use std::test::Fail;
+
+#[test]
+fn plain_lines_are_of_17_or_31_bytes(rt: HostRuntime) -> Result<(), Fail> {
+    let long = PlainLine {
+        length: 31,
+        frame: Frame::from_bytes(&KLM1023).ok_or("no frame")?,
+    };
+    let short = PlainLine {
+        length: 17,
+        frame: Frame::from_bytes(&ALL_CALL).ok_or("no frame")?,
+    };
+    let lines = LineReader::new();
+    for (bytes, want) in [
+        ("*8D4840D6202CC371C32CE0576098;\n", Some(long)),
+        ("*8d4840d6202cc371c32ce0576098;\n", Some(long)),
+        ("*8D4840D6202CC371C32CE0576098;\n*5D", Some(long)),
+        ("*5D484FDEA248E3;\n", Some(short)),
+        (
+            "*5d484fdea248e3;\n*8D4840D6202CC371C32CE0576098;\n",
+            Some(short),
+        ),
+        ("*8D4840D6202CC371C32CE057609;\n", None),
+        ("*5D484FDEA248E;\n", None),
+        ("*8D4840D6202CC371C32CE0576098;\r\n", None),
+        (" *8D4840D6202CC371C32CE0576098;\n", None),
+        ("@0123456789AB8D4840D6202CC371C32CE0576098;\n", None),
+        ("@5D484FDEA248E3;\n", None),
+        ("*0000;\n", None),
+        ("\n", None),
+        ("+1000\n*5D484FDEA248E3;\n", None),
+        ("*8D4840D6202CC3;\n", None),
+        ("*5D484FDEA248E371C32CE0576098;\n", None),
+    ] {
+        assert_eq!(rt;
+            Cutter::new().plain_line(&lines, bytes.as_bytes()),
+            want,
+            "{bytes}"
+        );
+    }
+    Ok(())
+}
+
+#[test]
+fn a_plain_line_that_goes_on_behind_the_bytes_is_not_seen(rt: HostRuntime) {
+    let lines = LineReader::new();
+    for line in [KLM1023_LINE.as_slice(), b"*5D484FDEA248E3;\n"] {
+        for count in 0..line.len() {
+            let seen = Cutter::new().plain_line(&lines, &line[..count]);
+            assert_eq!(rt; seen, None, "{count} of {} bytes", line.len());
+        }
+    }
+}
+
+#[test]
+fn a_plain_line_behind_a_line_without_its_end_is_not_seen(rt: HostRuntime) {
+    let lines = LineReader::new();
+    let mut cutter = Cutter::new();
+    for (bytes, cut, is_seen) in [
+        (b"*".as_slice(), None, false),
+        (&[b' '; 64], None, false),
+        (b"\n", Some(Cut::TooLong), true),
+    ] {
+        assert_eq!(rt; cutter.push_line(bytes), (bytes.len(), cut));
+        assert_eq!(rt; cutter.plain_line(&lines, &KLM1023_LINE).is_some(), is_seen);
+    }
+}
+
+#[test]
+fn a_reader_of_a_few_lines_sees_no_plain_line(rt: HostRuntime) {
+    let lines = LineReader::without_digits();
+    assert_eq!(rt; Cutter::new().plain_line(&lines, &KLM1023_LINE), None);
+}
