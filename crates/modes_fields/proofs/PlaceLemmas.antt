@@ -1,4 +1,4 @@
--- A place that a frame carries is a place.
+-- The bins of a place that a frame carries are below 2^17.
 use Rattle.std.proofs.Common.{◌≡◌, ℕ, zero, ◌^◌, ◌<◌, ◌≤◌, Bool, true, false, List, length, take, drop, Option, Some, None, if◌then◌else◌, refl, subst, arith}
 use Rattle.std.proofs.Math.Nat.{pow-le-pow_right}
 use Rattle.std.proofs.lemmas.List.{length-take}
@@ -15,7 +15,7 @@ use Rattle.modes_fields.specs.declared.place.Place.{Place}
 use Rattle.modes_fields.specs.declared.fields.Fields.{Fields}
 use Rattle.modes_fields.proofs.NumberLemmas.{number-lt}
 
--- a place, where there is one, has numbers of 17 bits
+-- a place, where there is one, has bins of 17 bits
 abbrev Holds : Option Place → Type 0
 Holds place = (p : Place) → place ≡ Some p → IsPlace p.odd p
 
@@ -61,7 +61,7 @@ message_holds_place me =
     (chosen (is_type 19 19 me) (record no_fields { velocity = velocity_in me; vertical = vertical_in me }) _ holds_none
     (chosen (is_type 20 22 me) (record no_fields { place = Some (place_in me) }) no_fields (holds_place_in me) holds_none)))
 
--- the place that a list of bytes carries has numbers of 17 bits
+-- the place that a list of bytes carries has bins of 17 bits
 pub fields_of-IsPlace : (frame : List ℕ) (p : Place) → (fields_of frame).place ≡ Some p → IsPlace p.odd p
 unfolding fields_of
 fields_of-IsPlace frame =

@@ -5,7 +5,7 @@ use Rattle.modes_fields.specs.declared.fields.Fields.{Fields}
 use Rattle.modes_fields.specs.declared.fields.Carried.{Carried}
 use Rattle.modes_fields.specs.declared.fields.Carried.TheVariants.{Nothing, Altitude, Squawk, Callsign, AirbornePosition, GnssPosition, AirborneVelocity}
 
--- the fields of a frame that carries this: those that no frame of the kind has are none
+-- the fields of a frame that carries this: those that its kind does not have are none
 abbrev pub fields_by : Carried → Fields
 fields_by Nothing = no_fields
 fields_by (Altitude altitude) = record no_fields { altitude = altitude }

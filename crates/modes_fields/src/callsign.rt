@@ -27,7 +27,7 @@ impl Model for Callsign {
 }
 
 impl Callsign {
-    /// The first `len` bytes; those after them are spaces.
+    // The callsign of the first `len` bytes. The other bytes are spaces.
     pub(crate) fn new(bytes: [u8; 8], len: u8) -> Callsign
         requires some { 1 ≤ len }
         requires most { len ≤ 8 }

@@ -7,21 +7,19 @@ use crate::place::Place;
 use crate::squawk::Squawk;
 use crate::velocity::Velocity;
 
-/// What one frame carries; a field that it does not carry is None. A squitter is a frame of DF 17, or of DF 18 with
+/// What one frame carries. A field that it does not carry is None. A squitter is a frame of DF 17, or of DF 18 with
 /// control field 0.
 #[derive(Clone, Copy, Debug, Default, PartialEq, Eq)]
 pub struct Fields {
     /// Of a squitter with type code 1 to 4.
     pub callsign: Option<Callsign>,
-    /// In feet, -1,200 to 126,700: of DF 0, 4, 16 and 20, and of a squitter with type code 9 to
-    /// 18.
+    /// In feet, -1,200 to 126,700: of DF 0, 4, 16 and 20, and of a squitter with type code 9 to 18.
     pub altitude: Option<i32>,
     /// Of DF 5 and 21.
     pub squawk: Option<Squawk>,
     /// Of a squitter with type code 19.
     pub velocity: Option<Velocity>,
-    /// The vertical rate in feet per minute, negative downwards, -32,640 to 32,640: of a squitter
-    /// with type code 19.
+    /// The vertical rate in feet per minute, negative downwards, -32,640 to 32,640: of a squitter with type code 19.
     pub vertical: Option<i32>,
     /// Of a squitter with type code 9 to 18 and 20 to 22.
     pub place: Option<Place>,
@@ -32,15 +30,15 @@ pub struct Fields {
 pub enum Carried {
     /// No field: any other downlink format or type code.
     Nothing,
-    /// DF 0, 4, 16 and 20: an altitude in feet, -1,200 to 126,700, if the code tells one.
+    /// DF 0, 4, 16 and 20: the altitude in feet, -1,200 to 126,700, if the code has one.
     Altitude(Option<i32>),
     /// DF 5 and 21.
     Squawk(Squawk),
-    /// Type code 1 to 4: a callsign, if each of its codes is a character.
+    /// Type code 1 to 4: the callsign, if each of its codes is a character, and not all are spaces.
     Callsign(Option<Callsign>),
     /// Type code 9 to 18.
     AirbornePosition {
-        /// The barometric altitude in feet, -1,200 to 126,700, if the code tells one.
+        /// The barometric altitude in feet, -1,200 to 126,700, if the code has one.
         altitude: Option<i32>,
         place: Place,
     },
@@ -56,7 +54,7 @@ pub enum Carried {
 }
 
 impl Carried {
-    /// The same as fields; those that no frame of the kind carries are None.
+    /// The fields of the frame: those that its kind does not carry are None.
     #[inline(always)]
     pub fn fields(self) -> Fields
         ensures { result ≡ fields_by self }

@@ -1,4 +1,4 @@
-//! The words that bytes and messages write.
+//! Frames and messages as words.
 ghost use Rattle.std.specs.Prelude.{◌≡◌, ◌+◌, ◌-◌, ◌^◌, ◌<◌, ◌≤◌, length};
 ghost use Rattle.modes_frame.specs.Frames.{bits_of};
 ghost use Rattle.modes_fields.specs.Bits.{number, field as field_of};
@@ -6,7 +6,7 @@ ghost use Rattle.modes_fields.specs.Bits.{number, field as field_of};
 use modes_frame::Frame;
 use std::marker::Model;
 
-/// Up to eight bytes as one word, the first byte highest.
+// Up to eight bytes as one word, the first byte highest.
 fn word(bytes: &[u8]) -> u64
     requires { length bytes.now ≤ 8 }
     ensures { result ≡ number (bits_of bytes.now) }
@@ -18,7 +18,7 @@ fn word(bytes: &[u8]) -> u64
     word
 }
 
-/// The code in bits 20 to 32 of a frame: the fields AC and ID.
+// The code in bits 20 to 32 of a frame: the fields AC and ID.
 pub(crate) fn code13(frame: &Frame) -> u16
     ensures value { result ≡ field_of 20 32 (bits_of frame.now) }
     ensures below { result < 2 ^ 13 }
@@ -26,7 +26,7 @@ pub(crate) fn code13(frame: &Frame) -> u16
     (word(&frame.bytes()[..4]) & 0x1FFF) as u16
 }
 
-/// ME of a long frame: 56 bits, numbered from 1.
+// The message ME of a long frame: 56 bits, numbered from 1.
 #[derive(Drop)]
 pub(crate) struct Message {
     word: u64,
@@ -56,7 +56,7 @@ impl Message {
         }
     }
 
-    /// The number in bits `first` to `last`.
+    // The number in bits `first` to `last`.
     pub(crate) fn field(&self, first: usize, last: usize) -> u64
         requires first { 1 ≤ first }
         requires order { first ≤ last }

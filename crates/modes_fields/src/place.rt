@@ -3,10 +3,10 @@
 /// A place in compact position reporting, as an airborne position sends it.
 #[derive(Clone, Copy, Debug, PartialEq, Eq)]
 pub struct Place {
-    /// Whether the place is of the odd kind.
+    /// Whether the place is in the odd grid.
     pub odd: bool,
-    /// The latitude's part of its zone in 1/2^17: below 131,072.
+    /// The bin of the latitude, in 1/2^17 of a zone: below 131,072.
     pub lat: u32,
-    /// The longitude's part of its zone in 1/2^17: below 131,072.
+    /// The bin of the longitude, in 1/2^17 of a zone: below 131,072.
     pub lon: u32,
 }

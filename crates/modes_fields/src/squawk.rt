@@ -3,7 +3,7 @@ ghost use Rattle.std.specs.Prelude.{◌≡◌, ◌<◌};
 
 use std::marker::Model;
 
-/// A transponder code: a number below 4,096 whose four octal digits are the squawk.
+/// A squawk: a number below 4,096, written as four octal digits.
 #[derive(Clone, Copy, Debug, PartialEq, Eq)]
 pub struct Squawk {
     value: u16,
@@ -29,7 +29,7 @@ impl Squawk {
         Squawk { value }
     }
 
-    /// The number whose four octal digits are the squawk, below 4,096.
+    /// The number, below 4,096: written in octal, it is the squawk.
     pub fn value(self) -> u16
         ensures value { result ≡ self }
         ensures below { result < 4096 }

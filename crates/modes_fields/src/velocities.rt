@@ -6,7 +6,7 @@ ghost use Rattle.modes_fields.specs.Velocities.{signed_by, steps_of, step_of, kn
 use crate::message::Message;
 use crate::velocity::Velocity;
 
-/// What `v` counts in steps, unless it is 0.
+// What `v` counts in steps from 1 on. None where it is 0.
 fn steps(step: u16, v: u16) -> Option<u16>
     requires step { step ≤ 64 }
     requires product { step * v < 2 ^ 15 }
@@ -24,7 +24,7 @@ fn signed(negative: bool, count: u16) -> i16
     if negative { -count } else { count }
 }
 
-/// How many knots a step is.
+// The knots of a step.
 fn knot_step(message: &Message) -> u16
     ensures value { result ≡ step_of message.now }
     ensures most { result ≤ 4 }
@@ -35,7 +35,7 @@ fn knot_step(message: &Message) -> u16
     }
 }
 
-/// The knots that the ten bits from `first` on tell.
+// The knots in the ten bits from `first` on.
 fn knots(message: &Message, first: usize) -> Option<u16>
     requires first { 1 ≤ first }
     requires last { first ≤ 47 }
@@ -45,7 +45,7 @@ fn knots(message: &Message, first: usize) -> Option<u16>
     steps(knot_step(message), message.field(first, first + 9) as u16)
 }
 
-/// Where both components are given.
+// The velocity over ground, where both components are given.
 #[tactic(auto, unfolding(crate::specs::Velocities::ground_of))]
 fn ground(message: &Message) -> Option<Velocity>
     ensures { result ≡ ground_of message.now }
@@ -58,7 +58,7 @@ fn ground(message: &Message) -> Option<Velocity>
     })
 }
 
-/// Where the heading and the airspeed are given.
+// Heading and airspeed, where both are given.
 #[tactic(auto, unfolding(crate::specs::Velocities::air_of))]
 fn air(message: &Message) -> Option<Velocity>
     ensures { result ≡ air_of message.now }
@@ -74,7 +74,7 @@ fn air(message: &Message) -> Option<Velocity>
     })
 }
 
-/// The velocity in a message of type code 19.
+// The velocity in a message of type code 19.
 #[tactic(auto, unfolding(crate::specs::Velocities::velocity_in))]
 pub(crate) fn message_velocity(message: &Message) -> Option<Velocity>
     ensures { result ≡ velocity_in message.now }
@@ -86,7 +86,7 @@ pub(crate) fn message_velocity(message: &Message) -> Option<Velocity>
     }
 }
 
-/// The vertical rate in a message of type code 19, in feet per minute.
+// The vertical rate in a message of type code 19, in feet per minute.
 #[tactic(auto, unfolding(crate::specs::Velocities::vertical_in))]
 pub(crate) fn message_vertical(message: &Message) -> Option<i32>
     ensures { result ≡ vertical_in message.now }

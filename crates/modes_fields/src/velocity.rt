@@ -1,6 +1,6 @@
 //! Velocities.
 
-/// A velocity, as messages of type code 19 tell it.
+/// A velocity, as a message of type code 19 sends it.
 #[derive(Clone, Copy, Debug, PartialEq, Eq)]
 pub enum Velocity {
     /// Over ground, in knots: eastward and northward, -4,088 to 4,088 each.
