@@ -1,4 +1,4 @@
--- An angle in bins: encoding rounds it to the nearest whole number of bins, and sends what is left of that in a zone.
+-- An angle in bins: encoding rounds it to the nearest whole number of bins, and sends the bins from the zone's start.
 use Rattle.std.proofs.Common.{◌≡◌, ℕ, ◌+◌, ◌-◌, ◌*◌, ◌<◌, ◌≤◌, ℤ, pos, ◌+ℤ◌, ◌-ℤ◌, ◌*ℤ◌, ap, ◌∙◌, arith}
 use Rattle.std.proofs.lemmas.Int.{ints}
 use Rattle.std.proofs.Math.Nat.{mul-le-mul_left, mul-lt-mul_of_pos_left, lt_of_mul-lt-mul_left}
@@ -42,7 +42,7 @@ steps-sent z a =
     let f = floor_is (bin_of z a) bins (omega arith) in
     record { up_is = omega (arith, ints); small = omega (arith, ints) }
 
--- two roundings of one point, in grids of z0 and z1 zones, differ by less than (z0 + z1)/2 where they are carried to a common grid
+-- two roundings of one point, in grids of z0 and z1 zones, differ by less than (z0 + z1)/2 in a common grid
 pub same_point : (z0 z1 : ℕ) (a : Degrees) (K0 K1 : ℤ) → 0 < a.den → 0 < z0 → IsNearest z0 a K0 → IsNearest z1 a K1
     → 2 * (z1 * up K0) + 2 * (z0 * down K1) < 2 * (z0 * up K1) + 2 * (z1 * down K0) + z0 + z1
 same_point z0 z1 a K0 K1 some band h0 h1 =
@@ -51,7 +51,7 @@ same_point z0 z1 a K0 K1 some band h0 h1 =
     let e : 360 * a.den * (2 * (z1 * up K0) + 2 * (z0 * down K1)) < 360 * a.den * (2 * (z0 * up K1) + 2 * (z1 * down K0) + z0 + z1) = omega arith in
     lt_of_mul-lt-mul_left (360 * a.den) e
 
--- so the index of a zone is found from what was sent
+-- by this, the index of a zone is found from what was sent
 pub zone_index_is : (z : ℕ) (K0 K1 q0 q1 : ℤ) (y0 y1 : ℕ) → z ≤ 59 → IsSent K0 q0 y0 → IsSent K1 q1 y1
     → 2 * (z * up K0) + 2 * ((z + 1) * down K1) < 2 * ((z + 1) * up K1) + 2 * (z * down K0) + (z + 1) + z
     → 2 * ((z + 1) * up K1) + 2 * (z * down K0) < 2 * (z * up K0) + 2 * ((z + 1) * down K1) + z + (z + 1)

@@ -32,7 +32,7 @@ apart_is even odd z p q few =
     (λ i. to_z w64 (of_z w64 (to_z w64 (of_z w64 (small_product even (z - 1) p (omega arith) i -ℤ small_product odd z q few i)) +ℤ pos 65536)))
     ∙ omega (arith, ints)
 
--- an angle within a turn lies in one of the zones from -z to z
+-- an angle within a turn is in one of the zones from -z to z
 pub zone_bound : (z : ℕ) (a : Degrees) → 0 < a.den → unsigned_abs a.num ≤ 360 * a.den → unsigned_abs (zone_of z a) ≤ z
 unfolding zone_of
 zone_bound z a some turn =

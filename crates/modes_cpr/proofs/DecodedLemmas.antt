@@ -1,4 +1,4 @@
--- What is decoded from the bins that were sent for a point is the point, rounded to the nearest bin.
+-- The bins that are sent for a point decode to the point, rounded to the nearest bin.
 use Rattle.std.proofs.Common.{◌≡◌, ℕ, ◌+◌, ◌*◌, ◌^◌, ◌<◌, ◌≤◌, ℤ, pos, negsuc, neg_ℤ, ◌+ℤ◌, ◌-ℤ◌, ◌*ℤ◌, ◌≤ℤ◌, ◌<ℤ◌, ap, ◌∙◌, sym, subst, arith, unsigned_abs, Bool, true, false, cond}
 use Rattle.std.specs.Prelude.{int_le}
 use Rattle.std.proofs.lemmas.Int.{ints, by_lt_z}
@@ -110,7 +110,7 @@ within-turned z K t a h =
     let e = ap unsigned_abs (same_difference z K t a) in
     (neg_ℤ t, subst (λ v. 2 ^ 18 * z * v ≤ 360 * (z * bins * a.den)) (sym e) w)
 
--- round the circle, what is decoded in a grid of z zones is the point, rounded to the nearest bin
+-- up to whole turns, the bins decode in a grid of z zones to the point, rounded to the nearest bin
 pub longitude-decoded : (z x : ℕ) (m p K : ℤ) (a : Degrees) → 0 < z → IsNearest z a K → IsSent K p x → modulo m z ≡ modulo p z
     → IsWithinHalfBinRound z (decoded 180 z m x) a
 unfolding decoded

@@ -23,7 +23,7 @@ floor_unique a b q h =
     let hi : q ≤ℤ floor a b = at_most_by b q (floor a b) (omega (arith, ints)) in
     omega (arith, ints)
 
--- multiples of b go through
+-- multiples of b pass through the floor
 pub floor_shift : (a k : ℤ) (b : ℕ) → 0 < b → floor (pos b *ℤ k +ℤ a) b ≡ k +ℤ floor a b
 floor_shift a k b h =
     let f = floor_is a b h in
@@ -35,7 +35,7 @@ modulo_shift a k b h =
     let e = ap (λ q. pos b *ℤ q) (floor_shift a k b h) ∙ *ℤ-+ℤ (pos b) k (floor a b) in
     omega (arith, ints)
 
--- std's remainder is what is left over the multiple
+-- std's remainder is a less the multiple
 pub modulo_is : (a : ℤ) (b : ℕ) → 0 < b → int_rem_euclid a (pos b) ≡ modulo a b
 unfolding floor
 modulo_is (pos a) b h = omega (arith, ints)

@@ -16,22 +16,22 @@ odd y x = record { odd = true; lat = y; lon = x }
 abbrev point : ℤ → ℕ → ℤ → ℕ → Option Position
 point a b c d = Some (record { lat = record { num = a; den = b }; lon = record { num = c; den = d } })
 
-row_at_a_transition : position_of (even 65536 0) (odd 33860 0) false ≡ point (pos 684195840) 7864320 (pos 0) 262144
+position_at_the_last_transition : position_of (even 65536 0) (odd 33860 0) false ≡ point (pos 684195840) 7864320 (pos 0) 262144
 unfolding position_by decoded zone_index floor zone_count transitions
-row_at_a_transition = refl
+position_at_the_last_transition = refl
 
-row_known : position_of (even 93000 51372) (odd 74158 50194) true ≡ point (pos 404184240) 7733248 (pos 18069840) 4587520
+position_of_a_known_pair : position_of (even 93000 51372) (odd 74158 50194) true ≡ point (pos 404184240) 7733248 (pos 18069840) 4587520
 unfolding position_by decoded zone_index floor zone_count transitions
-row_known = refl
+position_of_a_known_pair = refl
 
-row_south : position_of (even 0 0) (odd 2185 0) false ≡ point (neg_ℤ (pos 47185920)) 7864320 (pos 0) 7733248
+position_south_of_the_equator : position_of (even 0 0) (odd 2185 0) false ≡ point (neg_ℤ (pos 47185920)) 7864320 (pos 0) 7733248
 unfolding position_by decoded zone_index floor zone_count transitions
-row_south = refl
+position_south_of_the_equator = refl
 
-row_two_counts : position_of (even 97658 0) (odd 93847 0) false ≡ None
+no_position_where_the_zone_counts_differ : position_of (even 97658 0) (odd 93847 0) false ≡ None
 unfolding position_by decoded zone_index floor zone_count transitions
-row_two_counts = refl
+no_position_where_the_zone_counts_differ = refl
 
-row_back : place_of (record { num = pos 404184240; den = 7733248 }) (record { num = pos 18069840; den = 4587520 }) true ≡ odd 74158 50194
+known_position_encoded_again : place_of (record { num = pos 404184240; den = 7733248 }) (record { num = pos 18069840; den = 4587520 }) true ≡ odd 74158 50194
 unfolding place_by bin_of zone_of floor zone_count transitions
-row_back = refl
+known_position_encoded_again = refl

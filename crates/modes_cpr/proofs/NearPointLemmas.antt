@@ -1,4 +1,4 @@
--- The two places that are sent for a point tell a position near the point.
+-- The two places that are sent for a point give a position near the point.
 use Rattle.std.proofs.Common.{◌≡◌, ℕ, zero, suc, ◌+◌, ◌<◌, ◌≤◌, ℤ, pos, ◌+ℤ◌, ◌-ℤ◌, ◌*ℤ◌, ap, ◌∙◌, refl, sym, subst, arith, Bool, true, false, Some}
 use Rattle.std.specs.Prelude.{if◌then◌else◌, IsSomeAnd}
 use Rattle.std.proofs.lemmas.Int.{ints}

@@ -54,7 +54,7 @@ module _ (nl : ℤ → ℕ → ℕ) (even odd : Place) (newest : Bool) (a0 a1 : 
   pub zones_differ : (nl a0.num a0.den ≡ nl a1.num a1.den → ⊥) → position_by nl even odd newest ≡ None
   zones_differ apart = position_at false (and_right (is_latitude a0 && is_latitude a1) (nl a0.num a0.den == nl a1.num a1.den) (ne_eqb (nl a0.num a0.den) (nl a1.num a1.den) apart))
 
-  -- what the code made of its parts is that position
+  -- the code's result from these parts is that position
   pub made_is : (lat lon : Degrees) (n g x : ℕ) (i : ℤ)
       → lat ≡ (if newest then a1 else a0) → x ≡ (if newest then odd.lon else even.lon) → n ≡ nl a0.num a0.den
       → FitsSigned w64 i → i ≡ zone_index n even.lon odd.lon → g ≡ longitude_zones n newest

@@ -1,4 +1,4 @@
--- What a pair of places tells is encoded as the newest of them.
+-- The position of a pair of places is encoded as the newest of them.
 use Rattle.std.proofs.Common.{◌≡◌, ℕ, ◌<◌, ℤ, pos, ap, ◌∙◌, refl, sym, subst, arith, Bool, true, false, Some, None}
 use Rattle.std.proofs.lemmas.Bool.{eqb-true, and_parts}
 use Rattle.std.specs.Prelude.{◌==◌, ◌&&◌, if◌then◌else◌}

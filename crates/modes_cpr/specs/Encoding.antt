@@ -6,7 +6,7 @@ use Rattle.modes_cpr.specs.Floor.{floor, modulo}
 use Rattle.modes_cpr.specs.Zones.{zone_count}
 use Rattle.modes_cpr.specs.Pair.{bins, latitude_zones, longitude_zones, angle}
 
--- floor(a/D) with D = 360/z: the zone that a lies in
+-- floor(a/D) with D = 360/z: the zone of a
 unfoldable pub zone_of : ℕ → Degrees → ℤ
 zone_of z a = floor (a.num *ℤ pos z) (360 * a.den)
 
@@ -32,6 +32,6 @@ place_by nl lat lon odd =
       lon = sent (bin_of (longitude_zones (nl r.num r.den) odd) lon);
     }
 
--- the same with the table's number of zones
+-- the place, with the table's number of zones
 abbrev pub place_of : Degrees → Degrees → Bool → Place
 place_of = place_by zone_count

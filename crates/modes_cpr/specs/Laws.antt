@@ -1,5 +1,5 @@
--- What encoding and pairing have to do with each other.
--- NL is any number from 1 to 59 that the latitude decides: no law uses the table.
+-- Laws of encoding and pairing.
+-- NL is any number that depends on the latitude, from 1 to 59: no law uses the table.
 use Rattle.std.specs.Prelude.{ℕ, ◌*◌, ◌<◌, ◌≤◌, ◌^◌, ◌≡◌, ℤ, pos, ◌+ℤ◌, ◌-ℤ◌, ◌*ℤ◌, unsigned_abs, Bool, true, false, if◌then◌else◌, Some, IsSomeAnd}
 use Rattle.modes_fields.specs.declared.place.Place.{Place}
 use Rattle.modes_fields.specs.Places.{IsPlace}
@@ -13,7 +13,7 @@ pub record IsZoneCount (nl : ℤ → ℕ → ℕ) : Type 0 where
   pub least : (num : ℤ) (den : ℕ) → 1 ≤ nl num den
   pub most : (num : ℤ) (den : ℕ) → nl num den ≤ 59
 
--- nl is decided by |num/den| alone
+-- nl depends on |num/den| alone
 pub record IsDecidedByLatitude (nl : ℤ → ℕ → ℕ) : Type 0 where
   pub decided : (a b : Degrees) → 0 < a.den → 0 < b.den → unsigned_abs a.num * b.den ≡ unsigned_abs b.num * a.den → nl a.num a.den ≡ nl b.num b.den
 
@@ -21,11 +21,11 @@ pub record IsDecidedByLatitude (nl : ℤ → ℕ → ℕ) : Type 0 where
 abbrev pub IsWithinHalfBin : ℕ → Degrees → Degrees → Type 0
 IsWithinHalfBin z a b = 2 ^ 18 * z * unsigned_abs (a.num *ℤ pos b.den -ℤ b.num *ℤ pos a.den) ≤ 360 * (a.den * b.den)
 
--- the same round the circle: after some whole turns
+-- the same up to whole turns
 abbrev pub IsWithinHalfBinRound : ℕ → Degrees → Degrees → Type 0
 IsWithinHalfBinRound z a b = (turns : ℤ) × IsWithinHalfBin z a (record { num = b.num +ℤ pos (360 * b.den) *ℤ turns; den = b.den })
 
--- a position that a pair of places tells is encoded as the newest of them
+-- the position of a pair of places is encoded as the newest of them
 abbrev pub RoundTrip : (ℤ → ℕ → ℕ) → Type 0
 RoundTrip nl = (even odd : Place) (newest_odd : Bool) (p : Position) → IsPlace false even → IsPlace true odd
     → position_by nl even odd newest_odd ≡ Some p
@@ -35,7 +35,8 @@ RoundTrip nl = (even odd : Place) (newest_odd : Bool) (p : Position) → IsPlace
 abbrev pub zones_at : (ℤ → ℕ → ℕ) → Degrees → Bool → ℕ
 zones_at nl lat odd = let r = rounded_latitude odd lat in nl r.num r.den
 
--- the two places of a point, whose rounded latitudes have as many longitude zones, tell a position near the point
+-- the two places of a point give a position near the point, where the rounded latitudes have the same number of longitude
+-- zones
 abbrev pub Near : (ℤ → ℕ → ℕ) → Type 0
 Near nl = (lat lon : Degrees) (newest_odd : Bool) → 0 < lat.den → 0 < lon.den → unsigned_abs lat.num ≤ 90 * lat.den
     → zones_at nl lat false ≡ zones_at nl lat true

@@ -1,4 +1,4 @@
--- The position that an even and an odd place tell together.
+-- The position of an even and an odd place together.
 -- In each grid the circle of 360 degrees has a number of zones, and each zone has 2^17 bins.
 use Rattle.std.specs.Prelude.{ℕ, ◌-◌, ◌*◌, ◌<◌, max, ℤ, pos, ◌+ℤ◌, ◌-ℤ◌, ◌*ℤ◌, int_le, unsigned_abs, nat_le, ◌==◌, Bool, ◌&&◌, if◌then◌else◌, Option, Some, None}
 use Rattle.modes_fields.specs.declared.place.Place.{Place}
@@ -42,7 +42,7 @@ is_latitude a = nat_le (unsigned_abs a.num) (90 * a.den)
 -- the position, where nl gives the number of longitude zones at a latitude
 unfoldable pub position_by : (ℤ → ℕ → ℕ) → Place → Place → Bool → Option Position
 position_by nl even odd newest_odd =
-    -- the latitude that each place tells
+    -- the latitude of each place
     let j = zone_index 60 even.lat odd.lat in
     let lat0 = decoded 270 60 j even.lat in
     let lat1 = decoded 270 59 j odd.lat in
@@ -54,11 +54,11 @@ position_by nl even odd newest_odd =
     if is_latitude lat0 && is_latitude lat1 && (n == nl lat1.num lat1.den) then Some (record { lat = lat; lon = decoded 180 (longitude_zones n newest_odd) m x })
     else None
 
--- the same with the table's number of zones
+-- the position, with the table's number of zones
 abbrev pub position_of : Place → Place → Bool → Option Position
 position_of = position_by zone_count
 
--- both denominators are 1 at the least
+-- both denominators are at least 1
 pub record IsWhole (p : Position) : Type 0 where
   pub lat : 0 < p.lat.den
   pub lon : 0 < p.lon.den

@@ -1,4 +1,4 @@
-//! The position that an even and an odd place tell.
+//! The position of an even and an odd place.
 
 ghost use Rattle.std.specs.Prelude.{◌≡◌, ◌<◌, ◌≤◌, ◌^◌, ◌*◌, ℕ, pos, unsigned_abs, IfSome, false, true};
 ghost use Rattle.modes_cpr.specs.Pair.{zone_index as zone_index_of, wrapped as wrapped_of, IsWhole, decoded as decoded_of, is_latitude as is_latitude_of, position_of};
@@ -9,10 +9,12 @@ use crate::rounding::{floor, modulo};
 use crate::transitions::{has_zones, zones};
 use modes_fields::Place;
 
-/// The position that an even and an odd place tell together, as seen by the newest of them.
+/// The position of an even and an odd place together, in the zone and at the bin of the newest of them (Doc 9871
+/// C.2.6).
 ///
 /// There is none where a latitude is beyond a pole, or where the two latitudes have different numbers of longitude
-/// zones. Denominators are the number of zones times 2^17; the fractions aren't reduced (Doc 9871 C.2.6).
+/// zones. Each denominator is a number of zones times 2^17; the fractions aren't reduced. Bins of 2^17 and above give
+/// no error: the longitude may then be out of its range.
 pub fn pair(even: Place, odd: Place, newest_odd: bool) -> Option<Position>
     ensures value { result ≡ position_of even odd newest_odd }
     ensures whole { IfSome result IsWhole }
@@ -37,7 +39,7 @@ pub fn pair(even: Place, odd: Place, newest_odd: bool) -> Option<Position>
     Some(Position { lat, lon })
 }
 
-/// The index of the zone of a point, from its bins in a grid of `zones` zones and in one of a zone less.
+// The index of a point's zone, from its bins in a grid of `zones` zones and in a grid of one zone less.
 fn zone_index(zones: u8, even: u32, odd: u32) -> i64
     requires zones { 0 < zones }
     ensures { result ≡ zone_index_of zones even odd }
@@ -46,7 +48,7 @@ fn zone_index(zones: u8, even: u32, odd: u32) -> i64
     floor(apart + BINS as i64 / 2, BINS as u64)
 }
 
-/// The angle of a bin in the zone of that index, less a turn where it is `limit` degrees or more.
+// The angle of a bin in the zone of an index, less a turn where it is `limit` degrees or more.
 fn decoded(limit: u16, zones: u8, index: i64, bin: u32) -> Degrees
     requires zones { 0 < zones }
     requires limit { limit ≤ 360 }
@@ -57,7 +59,7 @@ fn decoded(limit: u16, zones: u8, index: i64, bin: u32) -> Degrees
     wrapped(limit, angle(zones, zone as i64, bin))
 }
 
-/// An angle below a turn, less a turn where it is `limit` degrees or more.
+// An angle below a turn, less a turn where it is `limit` degrees or more.
 fn wrapped(limit: u16, angle: Degrees) -> Degrees
     requires limit { limit ≤ 360 }
     requires fits { unsigned_abs angle.num < 2 ^ 62 }
@@ -74,7 +76,7 @@ fn wrapped(limit: u16, angle: Degrees) -> Degrees
     }
 }
 
-/// Whether an angle is neither below -90 nor above 90 degrees.
+// Whether an angle is neither below -90 nor above 90 degrees.
 fn is_latitude(angle: Degrees) -> bool
     ensures { result ≡ is_latitude_of angle }
 {

@@ -10,9 +10,9 @@ use crate::rounding::{floor, modulo};
 use crate::transitions::zones;
 use modes_fields::Place;
 
-/// The place that is sent in the even or the odd grid for a point.
+/// The place that is sent for a point in the even or the odd grid (Doc 9871 C.2.6).
 ///
-/// The latitude is from -90 to 90 degrees, the longitude from -360 to 360 (Doc 9871 C.2.6).
+/// The latitude is from -90 to 90 degrees, the longitude from -360 to 360.
 pub fn encode(lat: Degrees, lon: Degrees, odd: bool) -> Place
     requires lat_whole { 0 < lat.den }
     requires lon_whole { 0 < lon.den }
@@ -32,7 +32,7 @@ pub fn encode(lat: Degrees, lon: Degrees, odd: bool) -> Place
     }
 }
 
-/// The zone that an angle lies in.
+// The zone of an angle.
 fn zone_of(zones: u8, a: Degrees) -> i64
     requires some { 0 < zones }
     requires zones { zones ≤ 60 }
@@ -44,7 +44,7 @@ fn zone_of(zones: u8, a: Degrees) -> i64
     floor(a.num * zones as i64, 360 * a.den as u64)
 }
 
-/// The nearest bin to an angle in its zone, or the zone's end.
+// The nearest bin to an angle in its zone, or the zone's end.
 fn bin_of(zones: u8, a: Degrees) -> u32
     requires some { 0 < zones }
     requires zones { zones ≤ 60 }

@@ -5,17 +5,17 @@ ghost use Rattle.modes_cpr.specs.Pair.{latitude_zones as latitude_zones_of, long
 
 use crate::points::Degrees;
 
-/// The bins of a zone.
+/// The number of bins of a zone.
 pub const BINS: u32 = 131_072;
 
-/// The latitude zones of a grid.
+/// The number of latitude zones of a grid.
 pub fn latitude_zones(odd: bool) -> u8
     ensures { result ≡ latitude_zones_of odd }
 {
     if odd { 59 } else { 60 }
 }
 
-/// The longitude zones of a grid, at a latitude that has `zones` of them.
+/// The number of longitude zones of a grid, at a latitude that has `zones` of them.
 pub fn longitude_zones(zones: u8, odd: bool) -> u8
     ensures { result ≡ longitude_zones_of zones odd }
 {

@@ -1,15 +1,17 @@
 //! Positions in degrees.
 
-/// An angle: the fraction num/den of degrees, `den` being 1 at the least. It need not be reduced.
+/// An angle of `num / den` degrees. The fraction need not be reduced, and `den` is at least 1.
 #[derive(Clone, Copy, Debug, PartialEq, Eq)]
 pub struct Degrees {
     pub num: i64,
     pub den: u32,
 }
 
-/// A point on the earth: its latitude, from -90 to 90 degrees, and its longitude, from -180 to below 180.
+/// A point on the earth, as [`pair`](crate::pair) finds it.
 #[derive(Clone, Copy, Debug, PartialEq, Eq)]
 pub struct Position {
+    /// From -90 to 90 degrees.
     pub lat: Degrees,
+    /// From -180 to below 180 degrees, where all bins of the pair are below 2^17.
     pub lon: Degrees,
 }
