@@ -1,20 +1,20 @@
--- Values with their moments: how they age, and when two of them are alike from a moment on.
+-- Values with their times: how they age, and when two show the same from some time on.
 use Rattle.std.proofs.Common.{◌≡◌, ℕ, ◌≤◌, Option, Some, None, refl, sym, arith}
 use Rattle.std.proofs.lemmas.Bool.Decides.{nat_tests}
 use Rattle.station_journal.specs.declared.aircraft.Stamped.{Stamped}
 use Rattle.station_journal.specs.Past.{or_older, fresh}
 
--- from now on both show the same
+-- both show the same at each time from now on
 abbrev pub AgreeFrom : {V : Type 0} → ℕ → ℕ → Option (Stamped V) → Option (Stamped V) → Type 0
 AgreeFrom limit now kept found = (later : ℕ) → now ≤ later → fresh limit later kept ≡ fresh limit later found
 
 module _ {V : Type 0} where
-  -- what is too old stays too old
+  -- a value that is too old stays too old
   pub fresh_stays_none : (limit now later : ℕ) (s : Option (Stamped V)) → now ≤ later → fresh limit now s ≡ None → fresh limit later s ≡ None
   fresh_stays_none limit now later None le old = refl
   fresh_stays_none limit now later (Some s) le old = grind (arith, nat_tests)
 
-  -- what is too old for a limit is too old for a smaller one
+  -- a value too old for a limit is too old for a smaller one
   pub fresh_none_below : (small limit now : ℕ) (s : Option (Stamped V)) → small ≤ limit → fresh limit now s ≡ None → fresh small now s ≡ None
   fresh_none_below small limit now None le old = refl
   fresh_none_below small limit now (Some s) le old = grind (arith, nat_tests)
@@ -27,6 +27,6 @@ module _ {V : Type 0} where
   agree_newer limit now None kept found agree later le = agree later le
   agree_newer limit now (Some s) kept found agree later le = refl
 
-  -- nothing kept is as good as something too old
+  -- no value shows the same as one that is too old
   pub agree_none : (limit now : ℕ) (found : Option (Stamped V)) → fresh limit now found ≡ None → AgreeFrom limit now None found
   agree_none limit now found old later le = sym (fresh_stays_none limit now later found le old)

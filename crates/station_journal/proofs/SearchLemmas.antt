@@ -1,4 +1,4 @@
--- What a search of the past finds: its moment, and that it is old where the aircraft is not live.
+-- The time of what a search of the past finds. It is old where the aircraft isn't live.
 use Rattle.std.proofs.Common.{◌≡◌, ℕ, ◌-◌, ◌≤◌, Bool, true, false, ◌&&◌, ◌||◌, if◌then◌else◌, List, [], ◌∷◌, Option, Some, None, IfSome, is_some, refl, arith}
 use Rattle.std.specs.Prelude.{nat_le}
 use Rattle.std.proofs.lemmas.Bool.Decides.{nat_tests}
@@ -10,7 +10,7 @@ use Rattle.station_journal.specs.declared.aircraft.Stamped.{Stamped}
 use Rattle.station_journal.specs.Past.{clock, speaks_for, heard_within, stamp, or_older, fresh, read_for, newest, newest_fix, fix_by, place_of, sighting_of, IsTimed}
 
 module _ {V : Type 0} where
-  -- one step back: the reading of the newest frame, or what is found before it
+  -- one step: the reading of the newest frame, or what is found before it
   old_step : (now m : ℕ) (speaks : Bool) (reading : Option V) (rest : Bool) (older : Option (Stamped V)) → (speaks && nat_le (now - m) 60000) || rest ≡ false → (rest ≡ false → fresh 60000 now older ≡ None) → fresh 60000 now (or_older (stamp m (if speaks then reading else None)) older) ≡ None
   old_step now m false reading rest older old before = before old
   old_step now m true None rest older old before = before (grind (arith, nat_tests))
@@ -24,32 +24,32 @@ module _ {V : Type 0} where
   moment_later now later None le before = tt
   moment_later now later (Some s) le before = omega arith
 
-  -- what is found is no newer than the clock
+  -- a value that is found is no newer than the clock
   pub newest_moment : (read : Frame → Option V) (base a : ℕ) (past : List Entry) → IsTimed base past → IfSome (newest read base a past) (λ s. s.at ≤ clock base past)
   newest_moment read base a [] timed = tt
   newest_moment read base a (Tick seat at ∷ past) timed = moment_later (clock base past) at (newest read base a past) (omega arith) (newest_moment read base a past timed.1)
   newest_moment read base a (Heard seat frame ∷ past) timed = moment_step (clock base past) (read_for read a frame) (newest read base a past) (newest_moment read base a past timed)
 
-  -- of an aircraft that is not live every reading is old
+  -- each reading of an aircraft that isn't live is old
   pub newest_old : (read : Frame → Option V) (now base a : ℕ) (past : List Entry) → heard_within now base a past ≡ false → fresh 60000 now (newest read base a past) ≡ None
   newest_old read now base a [] old = refl
   newest_old read now base a (Tick seat at ∷ past) old = newest_old read now base a past old
   newest_old read now base a (Heard seat frame ∷ past) old =
       old_step now (clock base past) (speaks_for a frame) (read frame) (heard_within now base a past) (newest read base a past) old (newest_old read now base a past)
 
--- without a place there is no fix, so a fix needs a frame of the aircraft
+-- a fix needs a place, and so a frame of the aircraft
 fix_of_none : (now m : ℕ) (speaks : Bool) (base a : ℕ) (past : List Entry) (frame : Frame) (rest : Bool) (older : Option (Stamped Position)) → (speaks && nat_le (now - m) 60000) || rest ≡ false → (rest ≡ false → fresh 60000 now older ≡ None) → fresh 60000 now (or_older (stamp m (fix_by base a past (if speaks then place_of frame else None))) older) ≡ None
 fix_of_none now m false base a past frame rest older old before = before old
 fix_of_none now m true base a past frame rest older old before = old_step now m true (fix_by base a past (place_of frame)) rest older old before
 
--- of an aircraft that is not live every fix is old
+-- each fix of an aircraft that isn't live is old
 pub newest_fix_old : (now base a : ℕ) (past : List Entry) → heard_within now base a past ≡ false → fresh 60000 now (newest_fix base a past) ≡ None
 newest_fix_old now base a [] old = refl
 newest_fix_old now base a (Tick seat at ∷ past) old = newest_fix_old now base a past old
 newest_fix_old now base a (Heard seat frame ∷ past) old =
     fix_of_none now (clock base past) (speaks_for a frame) base a past frame (heard_within now base a past) (newest_fix base a past) old (newest_fix_old now base a past)
 
--- in a past whose ticks rise, an aircraft was heard within 60,000 ms exactly where its newest frame was
+-- where ticks rise, an aircraft was heard within 60,000 ms exactly where its newest frame was
 live_step : (now m : ℕ) (speaks : Bool) (rest : Bool) (older : Option (Stamped ℕ)) → rest ≡ is_some (fresh 60000 now older) → IfSome older (λ s. s.at ≤ m) → (speaks && nat_le (now - m) 60000) || rest ≡ is_some (fresh 60000 now (or_older (stamp m (if speaks then Some 0 else None)) older))
 live_step now m false rest older same before = same
 live_step now m true rest None same before = grind (arith, nat_tests)

@@ -1,4 +1,4 @@
-//! Values with their moments, and how they age.
+//! Values with their times in milliseconds, and how they age.
 
 ghost use Rattle.std.specs.Prelude.{◌≡◌};
 ghost use Rattle.station_journal.specs.Past.{stamp, fresh, or_older, with_parity, pair_with};
@@ -7,7 +7,7 @@ use crate::Stamped;
 use modes_cpr::{Position, pair};
 use modes_fields::Place;
 
-/// The value with its moment.
+/// The value with its time, if there is one.
 pub fn stamp<T: Copy>(at: u64, value: Option<T>) -> Option<Stamped<T>>
     ensures { result ≡ stamp at value }
 {
@@ -17,7 +17,7 @@ pub fn stamp<T: Copy>(at: u64, value: Option<T>) -> Option<Stamped<T>>
     }
 }
 
-/// The value, where its moment is at most `limit` before `now`.
+/// The value, unless it is more than `limit` older than `now`.
 pub fn fresh<T: Copy>(limit: u64, now: u64, kept: Option<Stamped<T>>) -> Option<T>
     ensures { result ≡ fresh limit now kept }
 {
@@ -43,7 +43,7 @@ pub fn or_older<T: Copy>(newer: Option<T>, older: Option<T>) -> Option<T>
     }
 }
 
-/// The place, where it has this parity.
+/// The place, if it has this parity.
 pub fn with_parity(odd: bool, place: Option<Place>) -> Option<Place>
     ensures { result ≡ with_parity odd place }
 {
@@ -53,7 +53,7 @@ pub fn with_parity(odd: bool, place: Option<Place>) -> Option<Place>
     }
 }
 
-/// The position of a place and an earlier one of the other parity.
+/// The position that a place gives with an earlier one of the other parity, if it gives any.
 pub fn pair_with(place: Place, other: Option<Place>) -> Option<Position>
     ensures { result ≡ pair_with place other }
 {

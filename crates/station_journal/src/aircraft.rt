@@ -5,14 +5,14 @@ ghost use Rattle.station_journal.specs.declared.aircraft.Aircraft.{Aircraft};
 use modes_cpr::Position;
 use modes_fields::{Callsign, Squawk, Velocity};
 
-/// A value and the moment of the frame that gave it, in milliseconds.
+/// A value, and the time of the frame that gave it, in milliseconds.
 #[derive(Clone, Copy, Debug, PartialEq, Eq)]
 pub struct Stamped<T> {
     pub value: T,
     pub at: u64,
 }
 
-/// A row of the table: a live aircraft, with each value that a frame at most 60,000 ms old gave.
+/// A row of the table: a live aircraft, with the newest value of each field that is at most 60,000 ms old.
 #[derive(Clone, Copy, Debug, PartialEq, Eq)]
 pub struct Aircraft {
     /// The ICAO address, below 2^24.
@@ -27,7 +27,7 @@ pub struct Aircraft {
     pub vertical: Option<i32>,
     /// In degrees.
     pub position: Option<Position>,
-    /// The moment of its newest frame, in milliseconds.
+    /// The time of its newest frame, in milliseconds.
     pub heard: u64,
 }
 
@@ -35,7 +35,7 @@ pub struct Aircraft {
 pub trait Rows {
     ghost rows: { Self → List Aircraft };
 
-    /// How many rows there are.
+    /// The number of rows.
     fn len(&self) -> usize
         ensures { result ≡ length (rows self.now) };
 

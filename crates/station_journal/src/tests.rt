@@ -3,19 +3,15 @@
 ghost use Rattle.std.specs.Prelude.{◌≡◌, ◌<◌, ◌≤◌, length, OnOk};
 ghost use Rattle.station_journal.specs.Log.{most_entries};
 
-mod ages;
 mod known;
-mod positions;
-mod repeats;
 mod resumed;
+mod stories;
 
 use crate::tests::known::{
-    AIRSPEED, ALL_CALL, COMM_B_ALTITUDE, COMM_B_IDENTITY, EVEN, FORMAT_1, IDENTIFICATION, IDENTITY,
-    INTERROGATED, LONG_AIR, LOW, NOBODY, ONES, SHORT_AIR, SPEED, SPOILED, SPOILED_REPLY, SQUITTER,
-    SURFACE, UNNAMED, ZEROS,
+    ALL_CALL, FORMAT_1, IDENTIFICATION, IDENTITY, NOBODY, ONES, SHORT_AIR, SPEED, SPOILED,
+    SPOILED_REPLY, ZEROS,
 };
 use crate::{Aircraft, Entry, Journal, Limits, NoMemory, Refusal, Rows};
-use modes_fields::Velocity;
 use modes_frame::Frame;
 use std::alloc::Global;
 use std::process::Abort;
@@ -36,13 +32,15 @@ const ONE_ENTRY: Limits = Limits {
     aircraft: 1,
 };
 
+// A call of seat 0, or a frame that seat 1 hears.
 #[derive(Clone, Copy)]
 enum Call {
     Tick(u64),
     Hear(&'static [u8]),
+    HearToo(&'static [u8]),
 }
 
-use Call::{Hear, Tick};
+use Call::{Hear, HearToo, Tick};
 
 type Script = &'static [(Call, Result<u64, Refusal>)];
 
@@ -50,14 +48,53 @@ fn frame(bytes: &[u8]) -> Result<Frame, Fail> {
     Ok(Frame::from_bytes(bytes).ok_or("no frame")?)
 }
 
-fn once(journal: &mut Journal, call: Call) -> Result<Result<u64, Refusal>, Fail> {
-    match call {
-        Tick(at) => Ok(journal.tick(0, at)),
-        Hear(bytes) => Ok(journal.feed(0, frame(bytes)?)),
+// The entry of the call, once it is accepted.
+fn entry(call: Call) -> Result<Entry, Fail> {
+    let (seat, bytes) = match call {
+        Tick(at) => return Ok(Entry::Tick { seat: 0, at }),
+        Hear(bytes) => (0, bytes),
+        HearToo(bytes) => (1, bytes),
+    };
+    Ok(Entry::Heard {
+        seat,
+        frame: frame(bytes)?,
+    })
+}
+
+fn once(journal: &mut Journal, entry: &Entry) -> Result<u64, Refusal> {
+    match entry {
+        Entry::Tick { seat, at } => journal.tick(*seat, *at),
+        Entry::Heard { seat, frame } => journal.feed(*seat, *frame),
     }
 }
 
-// What a journal shows: how many entries, the moment, how many aircraft are live, and the last entry.
+fn is_at(journal: &Journal, place: u64, entry: &Entry) -> bool {
+    match journal.get(place) {
+        Some(there) => there == *entry,
+        None => false,
+    }
+}
+
+// The journal after the calls. Each answers as the script says, and what is accepted is the entry at that place.
+fn played(rt: &impl Abort, alloc: Global, limits: Limits, script: Script) -> Result<Journal, Fail>
+    requires { limits.entries ≤ most_entries }
+{
+    let mut journal = Journal::new(alloc, limits);
+    for (call, answer) in script {
+        let entry = entry(*call)?;
+        assert_eq!(rt; once(&mut journal, &entry), *answer);
+        if let Ok(place) = answer {
+            assert!(rt; is_at(&journal, *place, &entry));
+        }
+    }
+    Ok(journal)
+}
+
+fn row(journal: &Journal, address: u32) -> Result<Aircraft, Fail> {
+    Ok(journal.aircraft(address).ok_or("no aircraft")?)
+}
+
+// What a journal shows: its length, its time, the number of live aircraft, and the last entry.
 fn shown(journal: &Journal) -> (u64, u64, usize, Option<Entry>) {
     let len = journal.len();
     (
@@ -68,42 +105,41 @@ fn shown(journal: &Journal) -> (u64, u64, usize, Option<Entry>) {
     )
 }
 
-// A call that answers want of memory leaves the journal as it was, and is made once more.
-fn answer(
-    rt: &impl Abort,
-    journal: &mut Journal,
-    call: Call,
-) -> Result<Result<u64, Refusal>, Fail> {
+// A call that is out of memory leaves the journal as it was, and is made once more. For the tests that run with each
+// allocation refused in turn; all others make a call once.
+fn retried(rt: &impl Abort, journal: &mut Journal, entry: &Entry) -> Result<u64, Refusal> {
     let before = shown(journal);
-    match once(journal, call)? {
+    match once(journal, entry) {
         Err(Refusal::NoMemory) => {
             assert_eq!(rt; shown(journal), before);
-            once(journal, call)
+            once(journal, entry)
         }
-        told => Ok(told),
+        answer => answer,
     }
 }
 
-// The journal after the calls, each of which answers as the script says.
-fn played(rt: &impl Abort, alloc: Global, limits: Limits, script: Script) -> Result<Journal, Fail>
+// Makes the calls, each of which may be out of memory once. Each answers as the script says.
+fn go_on(
+    rt: &impl Abort,
+    journal: &mut Journal,
+    script: &[(Call, Result<u64, Refusal>)],
+) -> Result<(), Fail> {
+    for (call, answer) in script {
+        assert_eq!(rt; retried(rt, journal, &entry(*call)?), *answer);
+    }
+    Ok(())
+}
+
+// As `played`, where each call may be out of memory once.
+fn replayed(rt: &impl Abort, alloc: Global, limits: Limits, script: Script) -> Result<Journal, Fail>
     requires { limits.entries ≤ most_entries }
 {
     let mut journal = Journal::new(alloc, limits);
-    for (call, told) in script {
-        assert_eq!(rt; answer(rt, &mut journal, *call)?, *told);
-    }
+    go_on(rt, &mut journal, script)?;
     Ok(journal)
 }
 
-// The journal after the calls, each of which is accepted.
-fn after(rt: &impl Abort, alloc: Global, calls: &[Call]) -> Result<Journal, Fail> {
-    let mut journal = Journal::new(alloc, MANY);
-    for call in calls {
-        assert!(rt; answer(rt, &mut journal, *call)?.is_ok());
-    }
-    Ok(journal)
-}
-
+// The table. Where it is out of memory, it is asked for once more.
 fn table(journal: &Journal, alloc: Global) -> Result<Vec<Aircraft>, NoMemory> {
     match journal.all(alloc) {
         Ok(rows) => Ok(rows),
@@ -111,6 +147,7 @@ fn table(journal: &Journal, alloc: Global) -> Result<Vec<Aircraft>, NoMemory> {
     }
 }
 
+// Reserves room. Where that is out of memory, it is tried once more.
 fn reserve(journal: &mut Journal) -> Result<(), NoMemory>
     ensures same { journal.new.log ≡ journal.old.log }
     ensures ok { OnOk result (length journal.new.log.entries < journal.new.room) }
@@ -119,10 +156,6 @@ fn reserve(journal: &mut Journal) -> Result<(), NoMemory>
         Ok(()) => Ok(()),
         Err(_) => journal.room(),
     }
-}
-
-fn row(journal: &Journal, address: u32) -> Result<Aircraft, Fail> {
-    Ok(journal.aircraft(address).ok_or("no aircraft")?)
 }
 
 const IN_ORDER: Script = &[
@@ -144,13 +177,9 @@ const IN_ORDER: Script = &[
 
 #[test]
 fn refusals_in_their_order(rt: HostRuntime) -> Result<(), Fail> {
-    let journal = played(&rt, rt.alloc(), ONE_ENTRY, IN_ORDER)?;
+    let journal = replayed(&rt, rt.alloc(), ONE_ENTRY, IN_ORDER)?;
     assert_eq!(rt; journal.len(), 1);
-    let first = Entry::Heard {
-        seat: 0,
-        frame: frame(IDENTIFICATION)?,
-    };
-    assert_eq!(rt; journal.get(0), Some(first));
+    assert_eq!(rt; journal.get(0), Some(entry(Hear(IDENTIFICATION))?));
     assert_eq!(rt; journal.get(1), None);
     assert_eq!(rt; journal.limits(), ONE_ENTRY);
     Ok(())
@@ -176,23 +205,26 @@ const SQUITTER_AT_A_FULL_TABLE: Script = &[
 #[test]
 fn a_full_table_takes_another_aircraft_when_one_is_gone(rt: HostRuntime) -> Result<(), Fail> {
     for script in [REPLY_AT_A_FULL_TABLE, SQUITTER_AT_A_FULL_TABLE] {
-        let journal = played(&rt, rt.alloc(), ONE_AIRCRAFT, script)?;
+        let journal = replayed(&rt, rt.alloc(), ONE_AIRCRAFT, script)?;
         assert_eq!(rt; journal.aircraft(0x4840D6), None);
         assert_eq!(rt; Rows::len(&journal), 1);
     }
     Ok(())
 }
 
+const TWO_AIRCRAFT: Script = &[(Hear(IDENTIFICATION), Ok(0)), (Hear(SPEED), Ok(1))];
+
+fn are_rows_of_two(rt: &impl Abort, rows: &impl Rows) {
+    assert_eq!(rt; Rows::len(rows), 2);
+    assert_eq!(rt; Rows::row(rows, 0).address, 0x4840D6);
+    assert_eq!(rt; Rows::row(rows, 1).address, 0x485020);
+}
+
 #[test]
 fn aircraft_stand_by_rising_address(rt: HostRuntime) -> Result<(), Fail> {
-    let mut journal = after(&rt, rt.alloc(), &[Hear(IDENTIFICATION), Hear(SPEED)])?;
-    let rows = table(&journal, rt.alloc())?;
-    assert_eq!(rt; rows.len(), 2);
-    assert_eq!(rt; Rows::row(&rows, 0).address, 0x4840D6);
-    assert_eq!(rt; Rows::row(&rows, 1).address, 0x485020);
-    assert_eq!(rt; Rows::len(&journal), 2);
-    assert_eq!(rt; Rows::row(&journal, 0).address, 0x4840D6);
-    assert_eq!(rt; Rows::row(&journal, 1).address, 0x485020);
+    let mut journal = replayed(&rt, rt.alloc(), MANY, TWO_AIRCRAFT)?;
+    are_rows_of_two(&rt, &table(&journal, rt.alloc())?);
+    are_rows_of_two(&rt, &journal);
     assert_eq!(rt; journal.aircraft(1), None);
     reserve(&mut journal)?;
     assert_eq!(rt; journal.len(), 2);
@@ -202,76 +234,9 @@ fn aircraft_stand_by_rising_address(rt: HostRuntime) -> Result<(), Fail> {
 #[test]
 fn an_entry_goes_into_the_room_reserved(rt: HostRuntime) -> Result<(), Fail> {
     let mut journal = Journal::new(rt.alloc(), MANY);
-    reserve(&mut journal)?;
+    journal.room()?;
     journal.push_reserved(Entry::Tick { seat: 3, at: 5 });
     assert_eq!(rt; journal.get(0), Some(Entry::Tick { seat: 3, at: 5 }));
     assert_eq!(rt; journal.now(), 5);
-    Ok(())
-}
-
-#[test]
-fn fields_of_one_frame(rt: HostRuntime) -> Result<(), Fail> {
-    let calls = [
-        Hear(SPEED),
-        Hear(AIRSPEED),
-        Hear(EVEN),
-        Hear(UNNAMED),
-        Hear(SURFACE),
-    ];
-    let journal = after(&rt, rt.alloc(), &calls)?;
-    let by_ground = row(&journal, 0x485020)?;
-    let ground = Velocity::Ground {
-        east: -8,
-        north: -159,
-    };
-    assert_eq!(rt; by_ground.velocity, Some(ground));
-    assert_eq!(rt; by_ground.vertical, Some(-832));
-    assert_eq!(rt; by_ground.callsign, None);
-    let by_air = row(&journal, 0xA05F21)?;
-    let air = Velocity::Air {
-        heading: 694,
-        is_true: true,
-        speed: 375,
-    };
-    assert_eq!(rt; by_air.velocity, Some(air));
-    assert_eq!(rt; by_air.vertical, Some(-2304));
-    let at_a_place = row(&journal, 0x40621D)?;
-    assert_eq!(rt; at_a_place.altitude, Some(38_000));
-    assert_eq!(rt; at_a_place.position, None);
-    let sighted = row(&journal, 0x4840D6)?;
-    assert_eq!(rt; sighted.callsign, None);
-    assert_eq!(rt; sighted.altitude, None);
-    assert_eq!(rt; sighted.velocity, None);
-    Ok(())
-}
-
-const OVERLAID: Script = &[
-    (Hear(IDENTITY), Err(Refusal::Unknown(0x510AF9))),
-    (Hear(ALL_CALL), Ok(0)),
-    (Hear(IDENTITY), Ok(1)),
-    (Hear(LOW), Ok(2)),
-    (Hear(INTERROGATED), Err(Refusal::Unknown(0x484FDE))),
-    (Hear(SQUITTER), Ok(3)),
-    (Hear(INTERROGATED), Ok(4)),
-    (Hear(SHORT_AIR), Err(Refusal::Unknown(0x4840D6))),
-    (Hear(LONG_AIR), Err(Refusal::Unknown(0x4840D6))),
-    (Hear(COMM_B_ALTITUDE), Err(Refusal::Unknown(0x4840D6))),
-    (Hear(COMM_B_IDENTITY), Err(Refusal::Unknown(0x4840D6))),
-    (Hear(IDENTIFICATION), Ok(5)),
-    (Hear(COMM_B_IDENTITY), Ok(6)),
-];
-
-#[test]
-fn overlaid_frames_speak_for_aircraft_that_are_live(rt: HostRuntime) -> Result<(), Fail> {
-    let journal = played(&rt, rt.alloc(), MANY, OVERLAID)?;
-    let low = row(&journal, 0x510AF9)?;
-    assert_eq!(rt; low.altitude, Some(-1200));
-    assert_eq!(rt; low.squawk.ok_or("no squawk")?.value(), 0o356);
-    let klm = row(&journal, 0x4840D6)?;
-    assert_eq!(rt; klm.squawk.ok_or("no squawk")?.value(), 0o356);
-    for bytes in [SHORT_AIR, LONG_AIR, COMM_B_ALTITUDE] {
-        let journal = after(&rt, rt.alloc(), &[Hear(IDENTIFICATION), Hear(bytes)])?;
-        assert_eq!(rt; row(&journal, 0x4840D6)?.altitude, Some(32_300));
-    }
     Ok(())
 }

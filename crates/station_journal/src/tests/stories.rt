@@ -1,0 +1,138 @@
+//! Stories of calls, each made once, and what they leave.
+
+use crate::tests::Call::{Hear, HearToo, Tick};
+use crate::tests::known::{ALL_CALL, EVEN, IDENTIFICATION, IDENTITY, LOW, SPEED};
+use crate::tests::{MANY, Script, frame, played, row};
+use crate::{Journal, Refusal, Rows};
+use modes_fields::Velocity;
+use std::test::Fail;
+
+const AT_60_SECONDS: Script = &[
+    (Tick(0), Err(Refusal::NotLater(0))),
+    (Tick(1000), Ok(0)),
+    (Hear(IDENTIFICATION), Ok(1)),
+    (Tick(61_000), Ok(2)),
+];
+
+const REPLIES: Script = &[
+    (Hear(ALL_CALL), Ok(0)),
+    (Hear(IDENTITY), Ok(1)),
+    (Hear(LOW), Ok(2)),
+];
+
+// What a story is, its calls, and how many entries it leaves, at which time in milliseconds, with how many aircraft.
+const STORIES: &[(&str, Script, (u64, u64, usize))] = &[
+    ("a life of 60,000 ms", AT_60_SECONDS, (3, 61_000, 1)),
+    (
+        "the last tick of all",
+        &[
+            (Tick(1000), Ok(0)),
+            (Hear(IDENTIFICATION), Ok(1)),
+            (Tick(61_000), Ok(2)),
+            (Tick(61_001), Ok(3)),
+            (Tick(61_001), Err(Refusal::NotLater(61_001))),
+            (Tick(u64::MAX), Ok(4)),
+            (Tick(u64::MAX), Err(Refusal::NotLater(u64::MAX))),
+            (Tick(7), Err(Refusal::NotLater(u64::MAX))),
+        ],
+        (5, u64::MAX, 0),
+    ),
+    (
+        "a life that an overlaid reply prolongs",
+        &[
+            (Hear(ALL_CALL), Ok(0)),
+            (Tick(60_000), Ok(1)),
+            (Hear(IDENTITY), Ok(2)),
+            (Tick(120_001), Ok(3)),
+            (Hear(IDENTITY), Err(Refusal::Unknown(0x510AF9))),
+        ],
+        (4, 120_001, 0),
+    ),
+    ("replies of one aircraft", REPLIES, (3, 0, 1)),
+    (
+        "repeats before the first tick",
+        &[
+            (Hear(ALL_CALL), Ok(0)),
+            (Hear(IDENTITY), Ok(1)),
+            (Hear(ALL_CALL), Err(Refusal::Repeated)),
+            (Hear(IDENTITY), Err(Refusal::Repeated)),
+        ],
+        (2, 0, 1),
+    ),
+    (
+        "a frame that another seat heard, until a tick",
+        &[
+            (Tick(1), Ok(0)),
+            (Hear(IDENTIFICATION), Ok(1)),
+            (HearToo(IDENTIFICATION), Err(Refusal::Repeated)),
+            (Tick(2), Ok(2)),
+            (HearToo(IDENTIFICATION), Ok(3)),
+        ],
+        (4, 2, 1),
+    ),
+];
+
+#[test]
+fn stories_end_as_known(rt: HostRuntime) -> Result<(), Fail> {
+    for (name, script, left) in STORIES {
+        let journal = played(&rt, rt.alloc(), MANY, *script)?;
+        assert_eq!(rt;
+            (journal.len(), journal.now(), Rows::len(&journal)),
+            *left,
+            "{name}"
+        );
+    }
+    Ok(())
+}
+
+#[test]
+fn ticks_and_ages(rt: HostRuntime) -> Result<(), Fail> {
+    let journal = played(&rt, rt.alloc(), MANY, AT_60_SECONDS)?;
+    let klm = row(&journal, 0x4840D6)?;
+    assert_eq!(rt; klm.heard, 1000);
+    assert!(rt; klm.callsign.ok_or("no callsign")?.bytes() == b"KLM1023".as_slice());
+    let journal = played(&rt, rt.alloc(), MANY, REPLIES)?;
+    let low = row(&journal, 0x510AF9)?;
+    let squawk = low.squawk.ok_or("no squawk")?;
+    assert_eq!(rt; (low.altitude, squawk.value()), (Some(-1200), 0o356));
+    Ok(())
+}
+
+const HEARD: [&[u8]; 4] = [SPEED, EVEN, ALL_CALL, IDENTIFICATION];
+
+// The rows of these: address, time of the newest frame in milliseconds, altitude and velocity.
+const ROWS: [(u32, u64, Option<i32>, Option<Velocity>); 4] = [
+    (0x40621D, 970, Some(38_000), None),
+    (0x4840D6, 990, None, None),
+    (
+        0x485020,
+        1000,
+        None,
+        Some(Velocity::Ground {
+            east: -8,
+            north: -159,
+        }),
+    ),
+    (0x510AF9, 980, None, None),
+];
+
+// A tick at each millisecond, and after every tenth a frame of the next of four aircraft.
+#[test]
+fn a_table_of_1100_entries(rt: HostRuntime) -> Result<(), Fail> {
+    let mut journal = Journal::new(rt.alloc(), MANY);
+    for at in 1..=1000 {
+        assert!(rt; journal.tick(0, at).is_ok());
+        if at % 10 == 0 {
+            let frame = frame(HEARD[at as usize / 10 % 4])?;
+            assert!(rt; journal.feed(0, frame).is_ok());
+        }
+    }
+    let rows = journal.all(rt.alloc())?;
+    assert_eq!(rt; (journal.len(), rows.len()), (1100, 4));
+    for (i, (address, heard, altitude, velocity)) in ROWS.iter().enumerate() {
+        let row = rows.as_slice().get(i).ok_or("no row")?;
+        assert_eq!(rt; (row.address, row.heard), (*address, *heard));
+        assert_eq!(rt; (row.altitude, row.velocity), (*altitude, *velocity));
+    }
+    Ok(())
+}
