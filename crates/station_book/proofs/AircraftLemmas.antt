@@ -1,4 +1,4 @@
--- One aircraft: what is kept of it serves as well as a search, before and after each entry.
+-- One aircraft: its track shows what a search finds, before and after each entry.
 use Rattle.std.proofs.Common.{◌≡◌, ℕ, ◌-◌, ◌<◌, ◌≤◌, Bool, true, false, ◌&&◌, ◌||◌, List, [], ◌∷◌, Option, Some, None, refl, ap, ◌∙◌, arith}
 use Rattle.std.specs.Prelude.{nat_le, unwrap_or}
 use Rattle.std.proofs.lemmas.Bool.Decides.{nat_tests}
@@ -16,7 +16,7 @@ use Rattle.station_book.specs.declared.tracks.Track.{Track}
 use Rattle.station_book.specs.Tracks.{blank, kept_partner, kept_fix, updated}
 use Rattle.station_book.specs.Matching.{AgreeFrom, Tracks, TracksAt}
 
--- the values kept of an aircraft serve as well as a search
+-- the values of a track show what a search finds, now and later
 pub record Serves (base : ℕ) (past : List Entry) (a : ℕ) (track : Track) : Type 0 where
   pub callsign : AgreeFrom 60000 (clock base past) track.callsign (newest callsign_of base a past)
   pub altitude : AgreeFrom 60000 (clock base past) track.altitude (newest altitude_of base a past)
@@ -27,7 +27,7 @@ pub record Serves (base : ℕ) (past : List Entry) (a : ℕ) (track : Track) : T
   pub odd : AgreeFrom 10000 (clock base past) track.odd (newest odd_place_of base a past)
   pub position : AgreeFrom 60000 (clock base past) track.position (newest_fix base a past)
 
--- who isn't heard within 60,000 ms now isn't later
+-- an aircraft that isn't heard within 60,000 ms now isn't later
 pub old_later : (now later base a : ℕ) (past : List Entry) → now ≤ later → heard_within now base a past ≡ false → heard_within later base a past ≡ false
 old_later now later base a [] le old = refl
 old_later now later base a (Tick seat at ∷ past) le old = old_later now later base a past le old
@@ -39,7 +39,7 @@ old_later now later base a (Heard seat frame ∷ past) le old =
     step true m rest rest' old before = grind (arith, nat_tests)
 
 module _ (base a : ℕ) (past : List Entry) where
-  -- nothing kept serves for an aircraft that isn't live
+  -- a blank track shows what a search finds of an aircraft that isn't live
   pub blank_serves : live base past a ≡ false → Serves base past a (blank a)
   blank_serves old = record {
     callsign = agree_none 60000 (clock base past) (newest callsign_of base a past) (newest_old callsign_of (clock base past) base a past old);
@@ -64,7 +64,7 @@ module _ (base a : ℕ) (past : List Entry) where
     position = t.position;
   }
 
-  -- the kept places give the position that the search gives
+  -- the kept places give the position that the search finds
   same_partner : (track : Track) → Serves base past a track → (odd : Bool) → kept_partner (clock base past) track odd ≡ partner odd base a past
   same_partner track serves true = serves.even (clock base past) (omega arith)
   same_partner track serves false = serves.odd (clock base past) (omega arith)
@@ -73,7 +73,7 @@ module _ (base a : ℕ) (past : List Entry) where
   same_fix track serves None = refl
   same_fix track serves (Some place) = ap (pair_with place) (same_partner track serves place.odd)
 
-  -- after a tick: an aircraft whose newest frame is at most 60,000 ms old is kept
+  -- after a tick the track stays where the newest frame is at most 60,000 ms old
   pub kept_by_tick : (seat at : ℕ) (track : Track) → IsTimed base past → clock base past < at → nat_le (at - track.heard) 60000 ≡ true → Tracks base past a track → Tracks base (Tick seat at ∷ past) a track
   kept_by_tick seat at track timed later recent t = record {
     address = t.address;
@@ -89,11 +89,11 @@ module _ (base a : ℕ) (past : List Entry) where
     position = agree_later 60000 (clock base past) at track.position (newest_fix base a past) (omega arith) t.position;
   }
 
-  -- one whose newest frame is older isn't live any more
+  -- an aircraft whose newest frame is older isn't live any more
   pub swept_by_tick : (seat at : ℕ) (track : Track) → IsTimed base past → nat_le (at - track.heard) 60000 ≡ false → Tracks base past a track → live base (Tick seat at ∷ past) a ≡ false
   swept_by_tick seat at track timed old t = heard_by_newest at base a past timed ∙ rw (t.heard, old) refl
 
-  -- one that wasn't live stays so
+  -- an aircraft that wasn't live isn't live after a tick
   pub absent_after_tick : (seat at : ℕ) → clock base past < at → live base past a ≡ false → live base (Tick seat at ∷ past) a ≡ false
   absent_after_tick seat at later old = old_later (clock base past) at base a past (omega arith) old
 
@@ -124,7 +124,7 @@ module _ (base a : ℕ) (past : List Entry) where
       position = rw same_newest_fix t.position;
     }
 
-  -- a frame of the aircraft itself updates what is kept
+  -- a frame of the aircraft itself updates the track
   module _ (seat : ℕ) (frame : Frame) (own : speaks_for a frame ≡ true) where
     newer_read : {V : Type 0} (read : Frame → Option V) → newest read base a (Heard seat frame ∷ past) ≡ or_older (stamp (clock base past) (read frame)) (newest read base a past)
     newer_read read = rw own refl

@@ -1,4 +1,4 @@
--- A book that takes over what an entry changed is the one that took the entry.
+-- A book that copies what an entry changed equals the one that applied the entry.
 use Rattle.std.proofs.Common.{◌≡◌, ℕ, Bool, true, false, if◌then◌else◌, List, [], ◌∷◌, ◌++◌, length, Option, Some, IfSome, Ok, Err, refl, ◌∙◌, subst, arith}
 use Rattle.std.specs.Prelude.{nat_lt, not, ◌&&◌}
 use Rattle.modes_frame.specs.Claims.{is_unassigned}
@@ -20,14 +20,14 @@ place_from_fit : (unassigned place : Bool) → not unassigned && place ≡ true 
 place_from_fit true place fit = cc
 place_from_fit false place fit = fit
 
--- a track that was put is copied
+-- a copy of the track that was put gives the same tracks
 copied : (n a : ℕ) (track : Track) (tracks : List Track) → track.address ≡ a → has_place n a tracks ≡ true →
     with_track n (find_track a (put_track track tracks)) tracks ≡ put_track track tracks
 copied n a track tracks named place =
     let found : find_track a (put_track track tracks) ≡ Some track = find_put_as a a track tracks named ∙ grind (arith, nat_tests) in
     rw (found, named, place) refl
 
--- so is a frame that was taken, or none where there were as many as are looked at
+-- a copy of the frame that was added gives the same frames, and of none where there were 256
 frame_copied : (frame : Frame) (frames : List Frame) → with_frame_ahead (with_heard frame frames) frames ≡ with_heard frame frames
 frame_copied frame frames = by_room (nat_lt (length frames) most_looked_at) refl
   where
@@ -45,7 +45,7 @@ by_decoded n book (Heard (Ok sighting)) fit =
     rw (tracks, frame_copied sighting.frame book.first_frames) refl
 by_decoded n book (Heard (Err fault)) fit = tt
 
--- the book that takes over a change is the one that took the entry
+-- the book that copies a change equals the one that applied the entry
 pub catches_up : (n : ℕ) (book : BookState) (decoded : DecodedEntry) (change : Change) → fits n book decoded ≡ true → change_of decoded ≡ Some change →
     caught_up n (applied_decoded book decoded) change book ≡ applied_decoded book decoded
 catches_up n book decoded change fit is =

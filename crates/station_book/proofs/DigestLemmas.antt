@@ -1,4 +1,4 @@
--- What hints and digests say of the frames that are kept.
+-- What hints and digests say of the kept frames.
 use Rattle.std.proofs.Common.{◌≡◌, ◌≢◌, ℕ, ◌+◌, ◌%◌, ◌<◌, Bool, true, false, ◌&&◌, ◌||◌, List, [], ◌∷◌, ◌++◌, length, map, take, set, get_or, nat_lt, refl, sym, ap, ◌∙◌, arith}
 use Rattle.std.specs.Prelude.{◌==◌}
 use Rattle.std.specs.List.{list_any}
@@ -11,11 +11,11 @@ use Rattle.station_journal.specs.Past.{Frame}
 use Rattle.station_journal.specs.Repeats.{same_frame, is_one_of}
 use Rattle.station_book.specs.Digests.{digest_of, Hinted}
 
--- a frame that is the same has the same digest
+-- equal frames have the same digest
 same_digest : (frame other : Frame) → same_frame frame other ≡ true → digest_of frame ≡ digest_of other
 same_digest frame other same = ap digest_of ((bytes_eq-Decides frame other).0 same)
 
--- where the hint is 0, the frame isn't kept
+-- where the hint is 0, the frame isn't one of them
 pub absent_by_hint : (hints : List ℕ) (frame : Frame) (frames : List Frame) → get_or hints (digest_of frame % 8192) 0 ≡ 0 → Hinted hints frames → is_one_of frames frame ≡ false
 absent_by_hint hints frame [] none hinted = refl
 absent_by_hint hints frame (other ∷ rest) none hinted = by_test (same_frame frame other) refl (absent_by_hint hints frame rest none hinted.1)
@@ -26,7 +26,7 @@ absent_by_hint hints frame (other ∷ rest) none hinted = by_test (same_frame fr
         absurd (omega (arith, there, none))
     by_test false same absent = absent
 
--- one hint more is no loss
+-- the hints stay right when another is set
 hinted_at : (hints : List ℕ) (i hint j : ℕ) → 0 < hint → i < length hints → 0 < get_or hints j 0 → 0 < get_or (set hints i hint) j 0
 hinted_at hints i hint j some within before = by_test (j == i) refl
   where
@@ -43,13 +43,13 @@ hinted_append : (hints : List ℕ) (frame : Frame) (frames : List Frame) → 0 <
 hinted_append hints frame [] there hinted = (there, tt)
 hinted_append hints frame (other ∷ rest) there hinted = (hinted.0, hinted_append hints frame rest there hinted.1)
 
--- a frame is taken with its hint
+-- the hints stay right when a frame is added with its own
 pub hinted_push : (hints : List ℕ) (hint : ℕ) (frame : Frame) (frames : List Frame) → 0 < hint → digest_of frame % 8192 < length hints → Hinted hints frames → Hinted (set hints (digest_of frame % 8192) hint) (frames ++ frame ∷ [])
 hinted_push hints hint frame frames some within hinted =
     let i = digest_of frame % 8192 in
     hinted_append (set hints i hint) frame frames (rw (get_or-set_same hints i hint 0 within) some) (hinted_set hints i hint frames some within hinted)
 
--- a frame that stands at a place is one of them
+-- a frame that is at a place is one of them
 pub one_of_at : (frame : Frame) (frames : List Frame) (place : ℕ) → (nat_lt place (length frames) && same_frame frame (get_or frames place [])) ≡ true → is_one_of frames frame ≡ true
 one_of_at frame frames place stands = by_test (nat_lt place (length frames)) refl stands
   where
@@ -57,11 +57,11 @@ one_of_at frame frames place stands = by_test (nat_lt place (length frames)) ref
     by_test true within same = list_any_at (same_frame frame) frames place [] (grind (arith, nat_tests)) same
     by_test false within same = cc
 
--- one that doesn't stand at a place where there is one is another
+-- a frame that isn't at a place differs from the one there
 pub other_at : (frame : Frame) (frames : List Frame) (place : ℕ) → place < length frames → (nat_lt place (length frames) && same_frame frame (get_or frames place [])) ≡ false → same_frame frame (get_or frames place []) ≡ false
 other_at frame frames place within absent = grind (arith, nat_tests)
 
--- a frame with another digest is another
+-- frames with different digests differ
 pub other_by_digest : (frame : Frame) (frames : List Frame) (place d : ℕ) → place < length frames → get_or (map digest_of frames) place d ≢ digest_of frame → same_frame frame (get_or frames place []) ≡ false
 other_by_digest frame frames place d within other = by_test (same_frame frame (get_or frames place [])) refl
   where
@@ -69,6 +69,6 @@ other_by_digest frame frames place d within other = by_test (same_frame frame (g
     by_test true same = absurd (other (get_or-map digest_of frames place [] d within ∙ sym (same_digest frame (get_or frames place []) same)))
     by_test false same = refl
 
--- a place more at which the frame doesn't stand
+-- one more place where the frame isn't
 pub passed : (frame : Frame) (frames : List Frame) (place : ℕ) → place < length frames → same_frame frame (get_or frames place []) ≡ false → list_any (same_frame frame) (take place frames) ≡ false → list_any (same_frame frame) (take (place + 1) frames) ≡ false
 passed frame frames place within other before = rw (list_any_more (same_frame frame) frames place [] within, before, other) refl

@@ -1,4 +1,4 @@
--- Moments before which no track was heard.
+-- Times before which no track was heard.
 use Rattle.std.proofs.Common.{◌≡◌, ℕ, ◌-◌, ◌≤◌, List, [], ◌∷◌, ◌++◌, refl, arith}
 use Rattle.std.proofs.lemmas.Bool.Decides.{nat_tests}
 use Rattle.station_book.specs.declared.tracks.Track.{Track}
@@ -16,7 +16,7 @@ pub heard_append : (moment : ℕ) (track : Track) (tracks : List Track) → mome
 heard_append moment track [] le heard = (le, tt)
 heard_append moment track (other ∷ rest) le heard = (heard.0, heard_append moment track rest le heard.1)
 
--- where none is old, nothing is swept
+-- a sweep drops nothing where no track is old
 pub none_swept : (moment now : ℕ) (tracks : List Track) → now - moment ≤ 60000 → HeardFrom moment tracks → swept now tracks ≡ tracks
 none_swept moment now [] recent heard = refl
 none_swept moment now (track ∷ rest) recent heard = grind (arith, nat_tests, heard.0, none_swept moment now rest recent heard.1)

@@ -45,7 +45,7 @@ offer_is_taken log book entry accepted few m =
 pub match_after_offer : (log : Log) (book : BookState) (entry : Entry) → refusal_of log entry ≡ None → length log.entries < most_entries → Matches log.limits.aircraft log.base book log.entries → Matches log.limits.aircraft log.base (offered log.limits.aircraft book entry) (log.entries ++ entry ∷ [])
 match_after_offer log book entry accepted few m = rw (offer_is_taken log book entry accepted few m) (match_after_accepted log book entry accepted m)
 
--- after the entries of a sound list the book matches it
+-- a book that has applied the entries of a sound list matches it
 pub matches_sound : (n base : ℕ) (past : List Entry) → Sound n base past → MatchesPast n base (book_of_past base past) past
 matches_sound n base [] sound = matches_starting n base
 matches_sound n base (entry ∷ past) sound = matches_applied n base past entry (book_of_past base past) sound.0 (matches_sound n base past sound.1)

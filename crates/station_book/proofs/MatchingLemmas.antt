@@ -1,4 +1,4 @@
--- A book that matches a past matches it with one more entry that fits.
+-- A book that matches a past also matches it with one more entry that fits.
 use Rattle.std.proofs.Common.{◌≡◌, ℕ, ◌-◌, ◌<◌, Bool, true, false, if◌then◌else◌, List, [], ◌∷◌, ◌++◌, Option, Some, None, Result, Ok, Err, refl, sym, subst, arith}
 use mathlib.Core.List.{reverse}
 use Rattle.std.specs.Prelude.{nat_le, ◌==◌, unwrap_or}
@@ -35,7 +35,7 @@ pub matches_starting : (n base : ℕ) → MatchesPast n base (starting base) []
 matches_starting n base = record { sound = tt; moment = refl; entries = refl; rising = tt; each = λ a. refl; first_frames = refl }
 
 module _ (n base : ℕ) (past : List Entry) where
-  -- what is kept of one aircraft after a tick
+  -- the track of one aircraft after a tick
   after_tick : (seat at a : ℕ) (kept : Option Track) → IsTimed base past → clock base past < at → TracksAt base past a kept → TracksAt base (Tick seat at ∷ past) a (keep_if (λ track. nat_le (at - track.heard) 60000) kept)
   after_tick seat at a None timed later absent = absent_after_tick base a past seat at later absent
   after_tick seat at a (Some track) timed later tracks = by_test (nat_le (at - track.heard) 60000) refl
@@ -75,7 +75,7 @@ module _ (n base : ℕ) (past : List Entry) where
         let not_own : speaks_for b frame ≡ false = rw is other in
         unchanged_by_other base b past seat frame not_own (find_track b tracks) (each b)
 
-    -- what is kept of each aircraft after the frame
+    -- the track of each aircraft after the frame
     pub after_frame : (b : ℕ) → TracksAt base (Heard seat frame ∷ past) b (find_track b (with_sighting (clock base past) (with_frame frame (Ok claim)) tracks))
     after_frame b = rw (find_put_as claim.address b (track_after frame claim.address tracks) tracks (address_of_found claim.address (find_track claim.address tracks) (each claim.address))) (by_test b (claim.address == b) refl)
 
@@ -95,6 +95,6 @@ module _ (n base : ℕ) (past : List Entry) where
   matches_applied (Tick seat at) book fit m = matches_tick seat at book m fit
   matches_applied (Heard seat frame) book fit m = matches_frame seat frame (claim_of frame) book refl fit m
 
--- the same, with the oldest entry first
+-- the same for a list with the oldest entry first
 pub matches_push : (n base : ℕ) (entries : List Entry) (entry : Entry) (book : BookState) → Fits n base (reverse entries) entry → Matches n base book entries → Matches n base (applied book entry) (entries ++ entry ∷ [])
 matches_push n base entries entry book fit m = rw (reverse-append entries (entry ∷ [])) (matches_applied n base (reverse entries) entry book fit m)

@@ -1,4 +1,4 @@
--- An offer leaves a match, with the entry or without it.
+-- A book that is offered an entry still matches, with the entry or without it.
 use Rattle.std.proofs.Common.{◌≡◌, ◌⊎◌, ℕ, Bool, true, false, List, [], ◌∷◌, ◌++◌, refl}
 use Rattle.std.specs.Prelude.{nat_lt}
 use mathlib.Core.Logic.{inl, inr}
@@ -18,6 +18,6 @@ module _ (n base : ℕ) (book : BookState) (journal : List Entry) (entry : Entry
   by_tests true false fit few = inl (rw (fit, few) refl)
   by_tests false few fit is = inl (rw fit refl)
 
-  -- the book matches the journal with the entry, or is as it was
+  -- the book matches the journal with the entry, or hasn't changed
   pub match_or_same : (offered n book entry ≡ book) ⊎ Matches n base (offered n book entry) (journal ++ entry ∷ [])
   match_or_same = by_tests (fits n book (decoded_of entry)) (nat_lt book.entries most_entries) refl refl

@@ -1,4 +1,4 @@
--- What stands at the rank of an address among rising tracks, and what an edit there does.
+-- What is at the rank of an address among rising tracks, and what an edit there does.
 use Rattle.std.proofs.Common.{◌≡◌, ℕ, zero, suc, ◌<◌, ◌≤◌, ◌≢◌, List, [], ◌∷◌, length, map, get_or, ltb, true, false, set, drop, None, Some, is_some, Ok, Err, refl, ap, sym, subst, ◌∙◌, arith}
 use Rattle.std.specs.List.{insert, refill}
 use Rattle.std.specs.Prelude.{slice_get, unwrap_or}
@@ -13,7 +13,7 @@ use Rattle.station_book.specs.declared.tracks.Track.{Track}
 use Rattle.station_book.specs.Tracks.{blank, updated, find_track, put_track, track_or_blank, address_of, Rising, IsRank, StandsAt, with_track}
 use Rattle.station_book.proofs.TrackLemmas.{find_below, found_address}
 
--- a slice written back whole
+-- a slice that is written back whole
 pub refill_same : (xs ws : List Track) → length ws ≡ length xs → refill (length xs) xs ws ≡ ws
 refill_same xs ws e = rw (← e) (take-append_seam ws (drop (length ws) xs))
 
@@ -24,38 +24,38 @@ rank_tail x xs a i r = record {
   after = λ d lt. r.after d (omega arith);
 }
 
--- over the track of the same address
+-- a put at the rank of a track of the same address writes over it
 pub set_is_put : (t : Track) (xs : List Track) (i d : ℕ) → IsRank (map address_of xs) t.address i → i < length xs → get_or (map address_of xs) i d ≡ t.address → set xs i t ≡ put_track t xs
 set_is_put t [] i d r lt same = absurd (omega arith)
 set_is_put t (x ∷ xs) zero d r lt same = grind (arith, nat_tests)
 set_is_put t (x ∷ xs) (suc i) d r lt same = grind (arith, nat_tests, r.before 0 d (omega arith), set_is_put t xs i d (rank_tail x.address (map address_of xs) t.address i r) (omega arith) same)
 
--- into the gap
+-- a put at a rank without such a track inserts there
 pub insert_is_put : (t : Track) (xs : List Track) (i d : ℕ) → IsRank (map address_of xs) t.address i → (i < length xs → get_or (map address_of xs) i d ≢ t.address) → insert xs i t ≡ put_track t xs
 insert_is_put t [] zero d r gap = refl
 insert_is_put t [] (suc i) d r gap = absurd (omega (arith, r.in_range))
 insert_is_put t (x ∷ xs) zero d r gap = grind (arith, nat_tests, r.after d (omega arith), gap (omega arith))
 insert_is_put t (x ∷ xs) (suc i) d r gap = grind (arith, nat_tests, r.before 0 d (omega arith), insert_is_put t xs i d (rank_tail x.address (map address_of xs) t.address i r) (λ lt. gap (omega arith)))
 
--- what stands at the rank is found
+-- a track of the address at its rank is found
 find_at_rank : (a : ℕ) (xs : List Track) (i d : ℕ) → IsRank (map address_of xs) a i → i < length xs → get_or (map address_of xs) i d ≡ a → slice_get xs i ≡ find_track a xs
 find_at_rank a [] i d r lt same = absurd (omega arith)
 find_at_rank a (x ∷ xs) zero d r lt same = grind (arith, nat_tests)
 find_at_rank a (x ∷ xs) (suc i) d r lt same = grind (arith, nat_tests, r.before 0 d (omega arith), find_at_rank a xs i d (rank_tail x.address (map address_of xs) a i r) (omega arith) same)
 
--- where another address or none stands there, nothing is found
+-- where the rank has another address or none, nothing is found
 find_at_gap : (a : ℕ) (xs : List Track) (i d : ℕ) → Rising xs → IsRank (map address_of xs) a i → (i < length xs → get_or (map address_of xs) i d ≢ a) → find_track a xs ≡ None
 find_at_gap a [] i d up r gap = refl
 find_at_gap a (x ∷ xs) zero d up r gap = grind (arith, nat_tests, r.after d (omega arith), gap (omega arith), find_below a x.address xs up.0)
 find_at_gap a (x ∷ xs) (suc i) d up r gap = grind (arith, nat_tests, r.before 0 d (omega arith), find_at_gap a xs i d up.1 (rank_tail x.address (map address_of xs) a i r) (λ lt. gap (omega arith)))
 
--- the place of an address whose track stands at its rank
+-- the place of an address that has a track at its rank
 pub place_at_rank : (a : ℕ) (xs : List Track) (i d : ℕ) → IsRank (map address_of xs) a i → i < length (map address_of xs) → get_or (map address_of xs) i d ≡ a → StandsAt xs a (Ok i)
 place_at_rank a xs i d r lt same =
     let within : i < length xs = omega (arith, length-map xs address_of) in
     (within, find_at_rank a xs i d r within same, λ t is. set_is_put t xs i d (subst (λ x. IsRank (map address_of xs) x i) (sym is) r) within (same ∙ sym is))
 
--- the place of one that has none there
+-- the place of an address that has none there
 pub place_at_gap : (a : ℕ) (xs : List Track) (i d : ℕ) → Rising xs → IsRank (map address_of xs) a i → (i < length (map address_of xs) → get_or (map address_of xs) i d ≢ a) → StandsAt xs a (Err i)
 place_at_gap a xs i d up r gap =
     let gap' : i < length xs → get_or (map address_of xs) i d ≢ a = λ lt. gap (omega (arith, length-map xs address_of)) in
@@ -67,7 +67,7 @@ over_at b [] k d up lt = absurd (omega arith)
 over_at b (x ∷ xs) zero d up lt = up.0
 over_at b (x ∷ xs) (suc k) d up lt = over_at b xs k d up.1 (omega arith)
 
--- rising addresses, by places
+-- rising addresses, in terms of places
 pub rising_at : (xs : List ℕ) → IsRising xs → (i j d : ℕ) → i ≤ j → j < length xs → get_or xs i d ≤ get_or xs j d
 rising_at [] up i j d le lt = absurd (omega arith)
 rising_at (x ∷ xs) up zero zero d le lt = omega arith
@@ -75,7 +75,7 @@ rising_at (x ∷ xs) up zero (suc j) d le lt = let above : x < get_or xs j d = o
 rising_at (x ∷ xs) up (suc i) zero d le lt = absurd (omega arith)
 rising_at (x ∷ xs) up (suc i) (suc j) d le lt = rising_at xs up.1 i j d (omega arith) (omega arith)
 
--- where an address stands among rising ones is its rank
+-- the place of an address among rising ones is its rank
 below_at : (xs : List ℕ) → IsRising xs → (k i d e : ℕ) → k < i → i < length xs → get_or xs k d < get_or xs i e
 below_at [] up k i d e lt within = absurd (omega arith)
 below_at (x ∷ xs) up k zero d e lt within = absurd (omega arith)
@@ -94,7 +94,7 @@ rank_where_it_stands xs a i d up within same = record {
   after = λ e lt. let here : get_or xs i e ≡ get_or xs i d = same_within xs i e d within in omega (arith, same);
 }
 
--- a search by halves gives the rank
+-- a binary search finds the rank
 pub rank_from_point : (xs : List ℕ) (a i : ℕ) → i ≤ length xs → IsPartitionPoint (λ x. ltb x a ≡ true) (λ x. ltb x a ≡ false) xs i → IsRank xs a i
 rank_from_point xs a i le point = record {
   in_range = le;
@@ -114,18 +114,18 @@ map_insert t [] (suc i) = refl
 map_insert t (x ∷ xs) zero = refl
 map_insert t (x ∷ xs) (suc i) = ap (λ rest. x.address ∷ rest) (map_insert t xs i)
 
--- the track at the place of its address, updated, is put there
+-- an update of the track at its place is a put of the updated track
 pub update_there : (a i now : ℕ) (fields : Fields) (xs : List Track) (d : Track) → StandsAt xs a (Ok i) → set xs i (updated now fields (get_or xs i d)) ≡ put_track (updated now fields (track_or_blank a xs)) xs
 update_there a i now fields xs d place =
     let stood : get_or xs i d ≡ track_or_blank a xs = ap (λ o. unwrap_or o (blank a)) (sym (slice_get-get_or xs i d place.0) ∙ place.1) in
     let address : (updated now fields (get_or xs i d)).address ≡ a = ap address_of stood ∙ found_address a xs in
     place.2 (updated now fields (get_or xs i d)) address ∙ ap (λ t. put_track (updated now fields t) xs) stood
 
--- the track at the place of an address is of that address
+-- the track at the place of an address has that address
 pub stands_there : (a i : ℕ) (xs : List Track) (d : Track) → StandsAt xs a (Ok i) → (get_or xs i d).address ≡ a
 stands_there a i xs d place = ap (λ o. (unwrap_or o (blank a)).address) (sym (slice_get-get_or xs i d place.0) ∙ place.1) ∙ found_address a xs
 
--- a track is copied over the one of its address
+-- a copy over the track at its place is a put
 pub copy_there : (n i : ℕ) (t : Track) (xs : List Track) → StandsAt xs t.address (Ok i) → set xs i t ≡ with_track n (Some t) xs
 copy_there n i t xs place =
     let known : is_some (find_track t.address xs) ≡ true = ap is_some (sym place.1 ∙ slice_get-get_or xs i t place.0) in

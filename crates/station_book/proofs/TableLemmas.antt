@@ -1,4 +1,4 @@
--- The rows of a book that matches are the table.
+-- The rows of a matching book are the table.
 use Rattle.std.proofs.Common.{◌≡◌, ℕ, Bool, true, false, if◌then◌else◌, List, [], ◌∷◌, length, map, Option, Some, None, is_some, refl, sym, ap, ◌∙◌, subst, arith}
 use Rattle.std.specs.Prelude.{◌==◌}
 use Rattle.std.proofs.lemmas.Bool.Decides.{nat_tests}
@@ -27,7 +27,7 @@ is_in_addresses : (a : ℕ) (tracks : List Track) → is_in a (map address_of tr
 is_in_addresses a [] = refl
 is_in_addresses a (track ∷ rest) = grind (arith, nat_tests, is_in_addresses a rest)
 
--- a list of rising tracks is given by what is found in it
+-- what is found in a list of rising tracks determines its addresses
 rows_agree : (f : Track → Aircraft) (g : ℕ → Aircraft) (tracks : List Track) → Rising tracks → ((a : ℕ) (track : Track) → find_track a tracks ≡ Some track → f track ≡ g a) → map f tracks ≡ map g (map address_of tracks)
 rows_agree f g [] rising agree = refl
 rows_agree f g (track ∷ rest) rising agree =
@@ -41,15 +41,15 @@ module _ (n base : ℕ) (past : List Entry) (book : BookState) (m : MatchesPast 
   found_is_live a None absent = sym absent
   found_is_live a (Some track) t = sym t.live
 
-  -- an aircraft is kept exactly where it is live
+  -- an aircraft has a track exactly where it is live
   pub kept_is_live : (a : ℕ) → is_some (find_track a book.tracks) ≡ live base past a
   kept_is_live a = found_is_live a (find_track a book.tracks) (m.each a)
 
-  -- the kept addresses are the live ones, in the same order
+  -- the addresses of the tracks are the live ones, in the same order
   pub same_addresses : map address_of book.tracks ≡ live_addresses base past
   same_addresses = same_rising (map address_of book.tracks) (live_addresses base past) (rising_addresses book.tracks m.rising) (rising_live base past) (λ a. is_in_addresses a book.tracks ∙ kept_is_live a ∙ sym (in_live base past a))
 
-  -- as many are kept as are live
+  -- there are as many tracks as live aircraft
   pub same_count : length book.tracks ≡ length (live_addresses base past)
   same_count = sym (length-map book.tracks address_of) ∙ ap length same_addresses
 
@@ -63,7 +63,7 @@ module _ (n base : ℕ) (past : List Entry) (book : BookState) (m : MatchesPast 
   pub rows_are_table : rows book ≡ table base past
   rows_are_table = rows_agree (track_row book.moment) (row base past) book.tracks m.rising row_of_found ∙ ap (map (row base past)) same_addresses
 
--- the row of what is found, if anything is
+-- the row of the track that is found, if there is one
 abbrev pub row_found : ℕ → Option Track → Option Aircraft
 row_found now None = None
 row_found now (Some track) = Some (track_row now track)

@@ -1,4 +1,4 @@
--- The tracks by rising address: what is found after one is put or some are swept.
+-- The tracks by rising address: what is found once one is put in its place or some are swept.
 use Rattle.std.proofs.Common.{◌≡◌, ℕ, ◌+◌, ◌<◌, ◌≤◌, Bool, true, false, if◌then◌else◌, List, [], ◌∷◌, length, Option, Some, None, is_some, refl, subst, arith}
 use Rattle.std.specs.Prelude.{◌==◌, filter, unwrap_or}
 use Rattle.std.proofs.lemmas.Bool.{eqb-true}
@@ -6,21 +6,21 @@ use Rattle.std.proofs.lemmas.Bool.Decides.{nat_tests}
 use Rattle.station_book.specs.declared.tracks.Track.{Track}
 use Rattle.station_book.specs.Tracks.{blank, find_track, put_track, track_or_blank, AllAbove, Rising}
 
--- the track, where it passes
+-- the track, if it passes the test
 abbrev pub keep_if : (Track → Bool) → Option Track → Option Track
 keep_if test None = None
 keep_if test (Some track) = if test track then Some track else None
 
--- what is put is found, and nothing else changes
+-- a track that was put is found, and nothing else changes
 pub find_put : (a : ℕ) (track : Track) (tracks : List Track) → find_track a (put_track track tracks) ≡ (if track.address == a then Some track else find_track a tracks)
 find_put a track [] = refl
 find_put a track (other ∷ rest) = grind (arith, nat_tests, find_put a track rest)
 
--- the same, by another name of the address
+-- the same with the address as a variable
 pub find_put_as : (a b : ℕ) (track : Track) (tracks : List Track) → track.address ≡ a → find_track b (put_track track tracks) ≡ (if a == b then Some track else find_track b tracks)
 find_put_as a b track tracks e = subst (λ x. find_track b (put_track track tracks) ≡ (if x == b then Some track else find_track b tracks)) e (find_put b track tracks)
 
--- an address below all is not found
+-- an address below all others isn't found
 pub find_below : (a b : ℕ) (tracks : List Track) → AllAbove b tracks → a ≤ b → find_track a tracks ≡ None
 find_below a b [] above le = refl
 find_below a b (track ∷ rest) above le = grind (arith, nat_tests, find_below a b rest above.1 le)
@@ -51,17 +51,17 @@ rising_filter test (track ∷ rest) rising = elim (test track) as (λ t. Rising 
   | false ↦ rising_filter test rest rising.1
 ]
 
--- what passes is found, and what doesn't isn't
+-- in a filtered list exactly the tracks that pass are found
 pub find_filter : (a : ℕ) (test : Track → Bool) (tracks : List Track) → Rising tracks → find_track a (filter test tracks) ≡ keep_if test (find_track a tracks)
 find_filter a test [] rising = refl
 find_filter a test (track ∷ rest) rising = grind (arith, nat_tests, find_filter a test rest rising.1, find_below a track.address rest rising.0)
 
--- a track that was there is written over, and another makes the list longer by one
+-- a put over a track of the same address keeps the length, and any other adds one
 pub length_put : (track : Track) (tracks : List Track) → Rising tracks → length (put_track track tracks) ≡ (if is_some (find_track track.address tracks) then length tracks else length tracks + 1)
 length_put track [] rising = refl
 length_put track (other ∷ rest) rising = grind (arith, nat_tests, length_put track rest rising.1, find_below track.address other.address rest rising.0)
 
--- what is found has the address
+-- a track that is found has the address
 found_address_step : (a : ℕ) (track : Track) (rest : List Track) (test : Bool) → (track.address == a) ≡ test → (track_or_blank a rest).address ≡ a → (unwrap_or (if test then Some track else find_track a rest) (blank a)).address ≡ a
 found_address_step a track rest true same before = eqb-true track.address a same
 found_address_step a track rest false other before = before

@@ -1,4 +1,4 @@
--- The refusals of a book that matches are those of the past, and what is accepted fits.
+-- The refusals of a matching book are those of the past, and an accepted entry fits.
 use Rattle.std.proofs.Common.{◌≡◌, ℕ, ◌<◌, Bool, true, false, if◌then◌else◌, List, length, Option, Some, None, Result, Ok, Err, is_some, refl, sym, ◌∙◌, arith}
 use Rattle.std.specs.Prelude.{nat_le, nat_lt, not}
 use Rattle.std.proofs.lemmas.Bool.Decides.{nat_tests}
@@ -36,7 +36,7 @@ not_refused : (test : Bool) (r : Refusal) → refuse_if test r ≡ None → test
 not_refused true r e = cc
 not_refused false r e = refl
 
--- a frame leaves a claim as it is
+-- the claim of a sighting is the claim of its frame
 claim_kept : (frame : Frame) (claim : Result Claim CheckFault) → claim_in (with_frame frame claim) ≡ claim
 claim_kept frame (Ok claim) = refl
 claim_kept frame (Err fault) = refl
@@ -90,7 +90,7 @@ module _ (n base : ℕ) (past : List Entry) (book : BookState) (m : MatchesPast 
 pub fits_from_accepts : (limits : Limits) (base : ℕ) (past : List Entry) (entry : Entry) → Sound limits.aircraft base past → Accepts limits base past entry → Fits limits.aircraft base past entry
 fits_from_accepts limits base past entry sound accepts = accepted_fits (is_full limits past) limits.aircraft base past entry sound accepts
 
--- of four tests, where none refuses the others than the third don't
+-- where none of four tests refuses, none does without the third
 without_third : (w x y z : Option Refusal) → or_older w (or_older x (or_older y z)) ≡ None → or_older w (or_older x z) ≡ None
 without_third None None None z e = e
 without_third None None (Some r) z e = cc
@@ -101,7 +101,7 @@ without_last : (x y : Option Refusal) → or_older x y ≡ None → or_older x N
 without_last None y e = refl
 without_last (Some r) y e = cc
 
--- what a journal accepts, the same journal with room accepts
+-- a journal with room accepts what the same journal accepts when it may be full
 room_claim : (full repeated : Bool) (n base : ℕ) (past : List Entry) (claim : Result Claim CheckFault) → claim_refusal full repeated n base past claim ≡ None → claim_refusal false repeated n base past claim ≡ None
 room_claim full repeated n base past (Err fault) e = cc
 room_claim full repeated n base past (Ok claim) e =
@@ -114,11 +114,11 @@ pub accepted_with_room : (full : Bool) (n base : ℕ) (past : List Entry) (entry
 accepted_with_room full n base past (Tick seat at) e = without_last (refuse_if (nat_le at (clock base past)) (NotLater (clock base past))) (refuse_if full JournalFull) e
 accepted_with_room full n base past (Heard seat frame) e = room_claim full (is_repeated past frame) n base past (claim_of frame) e
 
--- what a book that matches doesn't refuse fits
+-- an entry that a matching book doesn't refuse fits it
 pub fits_unless_refused : (n base : ℕ) (past : List Entry) (book : BookState) (entry : Entry) → MatchesPast n base book past → book_refusal n book entry ≡ None → fits n book (decoded_of entry) ≡ true
 fits_unless_refused n base past book entry m free = fits_from n base past book m entry (accepted_fits false n base past entry m.sound (sym (same_refusal n base past book m entry) ∙ free))
 
--- a claim that fits is of an aircraft that is kept, or finds a place
+-- a claim that fits is of an aircraft that has a track, or finds a place
 pub room_from_fits : (n : ℕ) (book : BookState) (a : ℕ) (tracks : List Track) → book.tracks ≡ tracks → (if is_some (find_track a book.tracks) then true else nat_lt (length book.tracks) n) ≡ true → is_some (find_track a tracks) ≡ false → length tracks < n
 room_from_fits n book a tracks same fit absent =
     let fit' : (if is_some (find_track a tracks) then true else nat_lt (length tracks) n) ≡ true = rw same at fit in

@@ -1,4 +1,4 @@
--- Entries as a book takes them: decoded.
+-- Entries as a book takes them, with the claim of each frame.
 use Rattle.std.specs.Prelude.{Result, Ok, Err, Option, Some, None}
 use Rattle.modes_frame.specs.declared.claims.Claim.{Claim}
 use Rattle.modes_frame.specs.declared.claims.CheckFault.{CheckFault}
@@ -12,12 +12,12 @@ use Rattle.station_book.specs.declared.decoded_entry.DecodedEntry.TheVariants.{T
 use Rattle.station_book.specs.declared.decoded_entry.Change.{Change}
 use Rattle.station_book.specs.declared.decoded_entry.Change.TheVariants.{Clock, Track}
 
--- a good claim with its frame
+-- a claim with its frame, or the fault
 abbrev pub with_frame : Frame → Result Claim CheckFault → Result Sighting CheckFault
 with_frame frame (Ok claim) = Ok (record { claim = claim; frame = frame })
 with_frame frame (Err fault) = Err fault
 
--- whom a frame speaks for, with the frame
+-- the claim of a frame, with the frame
 abbrev pub sighting_of : Frame → Result Sighting CheckFault
 sighting_of frame = with_frame frame (claim_of frame)
 
@@ -26,7 +26,7 @@ abbrev pub claim_in : Result Sighting CheckFault → Result Claim CheckFault
 claim_in (Ok sighting) = Ok sighting.claim
 claim_in (Err fault) = Err fault
 
--- an entry, decoded
+-- an entry without its seat, with the claim of its frame
 abbrev pub decoded_of : Entry → DecodedEntry
 decoded_of (entry.Tick seat at) = Tick at
 decoded_of (entry.Heard seat frame) = Heard (sighting_of frame)

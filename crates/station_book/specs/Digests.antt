@@ -1,13 +1,13 @@
--- Numbers by which frames are told apart at less cost than by all their bytes.
+-- Numbers that tell most frames apart at less cost than all their bytes.
 use Rattle.std.specs.Prelude.{ℕ, ◌+◌, ◌-◌, ◌*◌, ◌%◌, ◌<◌, List, [], ◌∷◌, length, get_or}
 use Rattle.station_journal.specs.Past.{Frame}
 
--- the number in the last three bytes of a frame, where its parity stands
+-- the number in the last three bytes of a frame: its parity
 abbrev pub digest_of : Frame → ℕ
 digest_of frame =
     get_or frame (length frame - 3) 0 * 65536 + get_or frame (length frame - 2) 0 * 256 + get_or frame (length frame - 1) 0
 
--- no frame has a digest whose low bits are those of a hint that is 0
+-- the hint for the low bits of each frame's digest isn't 0
 abbrev pub Hinted : List ℕ → List Frame → Type 0
 Hinted hints [] = Unit {0}
 Hinted hints (frame ∷ rest) = (0 < get_or hints (digest_of frame % 8192) 0) × Hinted hints rest

@@ -1,4 +1,4 @@
--- When a book and a list of entries match: each aircraft apart, and then the whole.
+-- When a book and a list of entries match: first of each aircraft, and then of the whole.
 use Rattle.std.specs.Prelude.{◌≡◌, ℕ, ◌≤◌, true, false, List, [], ◌∷◌, Option, Some, None, length, reverse}
 use Rattle.station_journal.specs.declared.entry.Entry.{Entry}
 use Rattle.station_journal.specs.declared.aircraft.Stamped.{Stamped}
@@ -11,11 +11,11 @@ use Rattle.station_book.specs.declared.tracks.Track.{Track}
 use Rattle.station_book.specs.Tracks.{find_track, Rising}
 use Rattle.station_book.specs.State.{BookState, rows, starting, applied, book_tick_refusal, book_refusal}
 
--- from now on both values show the same, by this limit of age
+-- both values show the same at each time from now on, by this limit of age
 abbrev pub AgreeFrom : {V : Type 0} → ℕ → ℕ → Option (Stamped V) → Option (Stamped V) → Type 0
 AgreeFrom limit now kept found = (later : ℕ) → now ≤ later → fresh limit later kept ≡ fresh limit later found
 
--- what is kept of one aircraft serves as well as a search, now and later
+-- the track shows of an aircraft what a search finds, now and later
 pub record Tracks (base : ℕ) (past : List Entry) (a : ℕ) (track : Track) : Type 0 where
   pub address : track.address ≡ a
   pub live : live base past a ≡ true
@@ -29,7 +29,7 @@ pub record Tracks (base : ℕ) (past : List Entry) (a : ℕ) (track : Track) : T
   pub odd : AgreeFrom pair_ms (clock base past) track.odd (newest odd_place_of base a past)
   pub position : AgreeFrom life_ms (clock base past) track.position (newest_fix base a past)
 
--- a track is kept of the aircraft exactly where it is live
+-- the aircraft has a track exactly where it is live
 abbrev pub TracksAt : ℕ → List Entry → ℕ → Option Track → Type 0
 TracksAt base past a None = live base past a ≡ false
 TracksAt base past a (Some track) = Tracks base past a track
@@ -47,7 +47,7 @@ pub record MatchesPast (n base : ℕ) (book : BookState) (past : List Entry) : T
 abbrev pub Matches : ℕ → ℕ → BookState → List Entry → Type 0
 Matches n base book entries = MatchesPast n base book (reverse entries)
 
--- what a match promises: the table, the clock, the count, and every refusal but JournalFull
+-- what a match promises: the table, the clock, the count, and each refusal but JournalFull
 pub record Shows (n base : ℕ) (book : BookState) (entries : List Entry) : Type 0 where
   pub table : rows book ≡ table base (reverse entries)
   pub moment : book.moment ≡ clock base (reverse entries)
@@ -55,11 +55,11 @@ pub record Shows (n base : ℕ) (book : BookState) (entries : List Entry) : Type
   pub tick : (at : ℕ) → book_tick_refusal book at ≡ tick_refusal false base (reverse entries) at
   pub entry : (entry : Entry) → book_refusal n book entry ≡ refusal false n base (reverse entries) entry
 
--- the book that is given each entry of the past in turn
+-- the book that has applied each entry of the past in turn
 abbrev pub book_of_past : ℕ → List Entry → BookState
 book_of_past base [] = starting base
 book_of_past base (entry ∷ past) = applied (book_of_past base past) entry
 
--- the book that is given the entries
+-- the book that has applied the entries, the oldest first
 abbrev pub book_after : ℕ → List Entry → BookState
 book_after base entries = book_of_past base (reverse entries)

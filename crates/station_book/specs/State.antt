@@ -1,4 +1,4 @@
--- The value of a book, and what an entry makes of it.
+-- The value of a book, what it refuses, and what an entry makes of it.
 use Rattle.std.specs.Prelude.{ℕ, ◌+◌, Bool, false, not, ◌&&◌, nat_lt, nat_le, is_some, if◌then◌else◌, List, [], ◌++◌, Option, Some, Result, Ok, Err, length, map, take, drop}
 use Rattle.modes_frame.specs.declared.claims.Claim.{Claim}
 use Rattle.modes_frame.specs.declared.claims.CheckFault.{CheckFault}
@@ -20,15 +20,14 @@ use Rattle.station_book.specs.declared.decoded_entry.Change.TheVariants as chang
 use Rattle.station_book.specs.Decoded.{decoded_of, claim_in}
 use Rattle.station_book.specs.Tracks.{find_track, swept, with_sighting, has_place, with_track, track_row}
 
--- the clock, how many entries were taken, what is kept of each live aircraft, and the first frames heard since the
--- newest tick
+-- the clock, the number of entries taken, the track of each live aircraft, and the first frames since the newest tick
 pub record BookState : Type 0 where
   pub moment : ℕ
   pub entries : ℕ
   pub tracks : List Track
   pub first_frames : List Frame
 
--- a book without entries, whose clock is at the base
+-- a book without entries, whose clock is the base
 abbrev pub starting : ℕ → BookState
 starting base = record { moment = base; entries = 0; tracks = []; first_frames = [] }
 
@@ -36,7 +35,7 @@ starting base = record { moment = base; entries = 0; tracks = []; first_frames =
 abbrev pub rows : BookState → List Aircraft
 rows book = map (track_row book.moment) book.tracks
 
--- the book's refusal of a claim, whose frame repeats one or doesn't: the first that applies of its fault, Unknown,
+-- the book's refusal of a claim whose frame repeats another or not: the first that applies of its fault, Unknown,
 -- Repeated and BookFull
 abbrev pub book_claim_refusal : ℕ → BookState → Bool → Result Claim CheckFault → Option Refusal
 book_claim_refusal n book repeated (Err fault) = Some (fault_refusal fault)
@@ -45,30 +44,30 @@ book_claim_refusal n book repeated (Ok claim) =
     (or_older (refuse_if repeated Repeated)
     (refuse_if (if is_some (find_track claim.address book.tracks) then false else nat_le n (length book.tracks)) BookFull))
 
--- the frame that was decoded is one of the first
+-- the frame is one of the first frames
 abbrev pub repeats : BookState → Result Sighting CheckFault → Bool
 repeats book (Err fault) = false
 repeats book (Ok sighting) = is_one_of book.first_frames sighting.frame
 
--- its refusal of a tick
+-- the book's refusal of a tick
 abbrev pub book_tick_refusal : BookState → ℕ → Option Refusal
 book_tick_refusal book at = refuse_if (nat_le at book.moment) (NotLater book.moment)
 
--- its refusal of a decoded entry
+-- the book's refusal of an entry with its claim
 abbrev pub decoded_refusal : ℕ → BookState → DecodedEntry → Option Refusal
 decoded_refusal n book (Tick at) = book_tick_refusal book at
 decoded_refusal n book (Heard sighting) = book_claim_refusal n book (repeats book sighting) (claim_in sighting)
 
--- its refusal of an entry
+-- the book's refusal of an entry
 abbrev pub book_refusal : ℕ → BookState → Entry → Option Refusal
 book_refusal n book entry = decoded_refusal n book (decoded_of entry)
 
--- the first frames, with that of a sighting
+-- the first frames with that of a sighting
 abbrev pub with_frame_of : Result Sighting CheckFault → List Frame → List Frame
 with_frame_of (Err fault) frames = frames
 with_frame_of (Ok sighting) frames = with_heard sighting.frame frames
 
--- the book with one decoded entry more
+-- the book with one more entry, which has its claim
 abbrev pub applied_decoded : BookState → DecodedEntry → BookState
 applied_decoded book (Tick at) = record { moment = at; entries = book.entries + 1; tracks = swept at book.tracks; first_frames = [] }
 applied_decoded book (Heard sighting) = record {
@@ -78,35 +77,35 @@ applied_decoded book (Heard sighting) = record {
   first_frames = with_frame_of sighting book.first_frames;
 }
 
--- the book with one entry more
+-- the book with one more entry
 abbrev pub applied : BookState → Entry → BookState
 applied book entry = applied_decoded book (decoded_of entry)
 
--- the claim is of an aircraft that is kept or finds a place
+-- the claim is of an assigned address, which has a track or finds a place
 abbrev pub claim_fits : ℕ → BookState → Result Claim CheckFault → Bool
 claim_fits n book (Ok claim) = not (is_unassigned claim.address) && has_place n claim.address book.tracks
 claim_fits n book (Err fault) = false
 
--- the decoded entry fits the book: what may be applied
+-- the entry fits the book, so that it may be applied
 abbrev pub fits : ℕ → BookState → DecodedEntry → Bool
 fits n book (Tick at) = nat_lt book.moment at
 fits n book (Heard sighting) = claim_fits n book (claim_in sighting)
 
--- what is offered is applied where the book refuses nothing and counts fewer than the most entries, and else changes nothing
+-- an offered entry is applied where it fits and the book counts fewer than the most entries; else nothing changes
 abbrev pub offered_decoded : ℕ → BookState → DecodedEntry → BookState
 offered_decoded n book decoded =
     if fits n book decoded && nat_lt book.entries most_entries then applied_decoded book decoded else book
 
--- the same, of an entry
+-- the book that was offered an entry
 abbrev pub offered : ℕ → BookState → Entry → BookState
 offered n book entry = offered_decoded n book (decoded_of entry)
 
--- the first frames, with the one more that others have who are a frame ahead
+-- the first frames with the next one of others that are ahead, if they have one
 abbrev pub with_frame_ahead : List Frame → List Frame → List Frame
 with_frame_ahead ahead frames = frames ++ take 1 (drop (length frames) ahead)
 
--- the book brought up to one that is an entry ahead: its clock and count, and what the entry changed of its tracks and its
--- first frames
+-- the book with what one entry changed, copied from a book that is ahead by that entry: the clock, the count, and the
+-- change of the tracks and the first frames
 abbrev pub caught_up : ℕ → BookState → Change → BookState → BookState
 caught_up n ahead change.Clock book =
     record { moment = ahead.moment; entries = ahead.entries; tracks = swept ahead.moment book.tracks; first_frames = [] }

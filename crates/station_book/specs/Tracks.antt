@@ -1,4 +1,4 @@
--- What is kept of an aircraft, and of the live aircraft by rising address.
+-- What a book keeps of an aircraft, and of all live aircraft by rising address.
 use Rattle.std.specs.Prelude.{◌≡◌, ℕ, ◌-◌, ◌<◌, Bool, true, false, ◌==◌, nat_le, nat_lt, if◌then◌else◌, List, [], ◌∷◌, Option, Some, None, Result, Ok, Err, unwrap_or, is_some, filter, length, slice_index_or, ◌≤◌, slice_get, insert, slice_set}
 use Rattle.modes_fields.specs.declared.place.Place.{Place}
 use Rattle.modes_cpr.specs.declared.points.Position.{Position}
@@ -10,7 +10,7 @@ use Rattle.station_journal.specs.Past.{stamp, or_older, fresh, with_parity, pair
 use Rattle.station_book.specs.declared.tracks.Track.{Track}
 use Rattle.station_book.specs.declared.decoded_entry.Sighting.{Sighting}
 
--- an aircraft of which nothing is kept
+-- the track of an aircraft of which nothing is known yet
 abbrev pub blank : ℕ → Track
 blank a = record {
   address = a;
@@ -25,7 +25,7 @@ blank a = record {
   position = None;
 }
 
--- the kept place of the other parity, at most 10,000 ms old
+-- the kept place of the other parity, if it is at most 10,000 ms old
 abbrev pub kept_partner : ℕ → Track → Bool → Option Place
 kept_partner now track odd = if odd then fresh pair_ms now track.even else fresh pair_ms now track.odd
 
@@ -34,7 +34,7 @@ abbrev pub kept_fix : ℕ → Track → Option Place → Option Position
 kept_fix now track None = None
 kept_fix now track (Some place) = pair_with place (kept_partner now track place.odd)
 
--- the track with a place heard at the moment now, and the position that it gives
+-- the track with a place heard at the time now, and the position that it gives
 abbrev pub with_place : ℕ → Place → Track → Track
 with_place now place track = record track {
   even = or_older (stamp now (with_parity false (Some place))) track.even;
@@ -42,7 +42,7 @@ with_place now place track = record track {
   position = or_older (stamp now (kept_fix now track (Some place))) track.position;
 }
 
--- the track after a frame with these fields is heard at the moment now
+-- the track after a frame with these fields, heard at the time now
 abbrev pub updated : ℕ → Fields → Track → Track
 updated now fields track = record {
   address = track.address;
@@ -57,7 +57,7 @@ updated now fields track = record {
   position = or_older (stamp now (kept_fix now track fields.place)) track.position;
 }
 
--- the row that a track shows at the moment now
+-- the row that a track shows at the time now
 abbrev pub track_row : ℕ → Track → Aircraft
 track_row now track = record {
   address = track.address;
@@ -70,12 +70,12 @@ track_row now track = record {
   heard = track.heard;
 }
 
--- the track of the address
+-- the track of the address, if there is one
 abbrev pub find_track : ℕ → List Track → Option Track
 find_track a [] = None
 find_track a (track ∷ rest) = if track.address == a then Some track else find_track a rest
 
--- the track put in its place by rising address, over the one of that address if there is one
+-- the tracks with this one in its place by rising address, over the one of that address if there is one
 abbrev pub put_track : Track → List Track → List Track
 put_track track [] = track ∷ []
 put_track track (other ∷ rest) =
@@ -90,21 +90,21 @@ swept now tracks = filter (λ track. nat_le (now - track.heard) life_ms) tracks
 abbrev pub track_or_blank : ℕ → List Track → Track
 track_or_blank a tracks = unwrap_or (find_track a tracks) (blank a)
 
--- the tracks after a frame is heard
+-- the tracks after a frame heard at the time now
 abbrev pub with_sighting : ℕ → Result Sighting CheckFault → List Track → List Track
 with_sighting now (Err fault) tracks = tracks
 with_sighting now (Ok sighting) tracks = put_track (updated now (fields_of sighting.frame) (track_or_blank sighting.claim.address tracks)) tracks
 
--- the address is of a track, or one of at most n is free
+-- the address has a track, or there are fewer than n
 abbrev pub has_place : ℕ → ℕ → List Track → Bool
 has_place n a tracks = if is_some (find_track a tracks) then true else nat_lt (length tracks) n
 
--- at most n tracks with this one put in its place, if it has one
+-- the tracks, at most n, with this one in its place, if there is one for it
 abbrev pub with_track : ℕ → Option Track → List Track → List Track
 with_track n None tracks = tracks
 with_track n (Some track) tracks = if has_place n track.address tracks then put_track track tracks else tracks
 
--- all addresses are above a
+-- all addresses are greater than a
 abbrev pub AllAbove : ℕ → List Track → Type 0
 AllAbove a [] = Unit {0}
 AllAbove a (track ∷ rest) = (a < track.address) × AllAbove a rest
@@ -117,18 +117,18 @@ Rising (track ∷ rest) = AllAbove track.address rest × Rising rest
 abbrev pub address_of : Track → ℕ
 address_of track = track.address
 
--- i of the rising addresses are below a, and those from i on are not
+-- the first i of the rising addresses are below a, and those from i on are not
 pub record IsRank (addresses : List ℕ) (a i : ℕ) : Type 0 where
   pub in_range : i ≤ length addresses
   pub before : (k d : ℕ) → k < i → slice_index_or addresses k d < a
   pub after : (d : ℕ) → i < length addresses → a ≤ slice_index_or addresses i d
 
--- no track was heard before the moment
+-- no track was heard before this time
 abbrev pub HeardFrom : ℕ → List Track → Type 0
 HeardFrom moment [] = Unit {0}
 HeardFrom moment (track ∷ rest) = (moment ≤ track.heard) × HeardFrom moment rest
 
--- the track of the address stands at this place, or would stand there
+-- Ok: the track of the address is at this place; Err: there is none, and it would be there
 abbrev pub StandsAt : List Track → ℕ → Result ℕ ℕ → Type 0
 StandsAt tracks a (Ok i) = (i < length tracks) × (slice_get tracks i ≡ find_track a tracks) × ((track : Track) → track.address ≡ a → slice_set tracks i track ≡ put_track track tracks)
 StandsAt tracks a (Err i) = (i ≤ length tracks) × (find_track a tracks ≡ None) × ((track : Track) → track.address ≡ a → insert tracks i track ≡ put_track track tracks)

@@ -1,4 +1,4 @@
-//! Entries as a book takes them: decoded once.
+//! Entries as a book takes them, with the claim of each frame.
 
 ghost use Rattle.std.specs.Prelude.{◌≡◌};
 ghost use Rattle.station_journal.specs.declared.entry.Entry.{Entry};
@@ -9,33 +9,33 @@ use modes_frame::readers::claim;
 use modes_frame::{CheckFault, Claim, Frame};
 use station_journal::Entry;
 
-/// A frame that speaks for an address, with its claim.
+/// A frame with its claim: whose it is.
 #[derive(Clone, Copy, Debug, PartialEq, Eq)]
 pub struct Sighting {
     pub claim: Claim,
     pub frame: Frame,
 }
 
-/// An entry, decoded.
+/// An entry without its seat, with the claim of its frame.
 #[derive(Clone, Copy, Debug, PartialEq, Eq)]
 pub enum DecodedEntry {
-    /// A tick at this moment, in milliseconds.
+    /// A tick at this time, in milliseconds.
     Tick(u64),
-    /// A frame, or why it speaks for nobody.
+    /// A frame, or why it has no claim.
     Heard(Result<Sighting, CheckFault>),
 }
 
-/// What an accepted entry changed in a book, its count apart.
+/// What an accepted entry changed in a book, beside its count.
 #[derive(Clone, Copy, Debug, PartialEq, Eq)]
 pub enum Change {
-    /// The clock, and who is live.
+    /// The clock, and which aircraft are live.
     Clock,
     /// The track of this address.
     Track(u32),
 }
 
 impl DecodedEntry {
-    /// Decodes the entry.
+    /// The entry, with the claim of its frame.
     pub fn of(entry: &Entry) -> DecodedEntry
         ensures { result ≡ decoded_of entry.now }
     {
@@ -45,7 +45,7 @@ impl DecodedEntry {
         }
     }
 
-    /// Decodes the frame. Its fields are read where a book takes them.
+    /// The frame with its claim. A book reads its fields when it takes it.
     pub fn heard(frame: &Frame) -> DecodedEntry
         ensures { result ≡ decoded.Heard (sighting_of frame.now) }
     {
@@ -58,7 +58,7 @@ impl DecodedEntry {
         }
     }
 
-    /// What the entry changes in a book that takes it: nothing, where it is a frame that speaks for nobody.
+    /// What the entry changes in a book that takes it. A frame without a claim changes nothing.
     pub fn change(&self) -> Option<Change>
         ensures { result ≡ change_of self.now }
     {

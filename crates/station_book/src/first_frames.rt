@@ -9,20 +9,20 @@ use arrayvec::ArrayVec;
 use modes_frame::Frame;
 use std::marker::Model;
 
-/// How many frames are looked at for a repeat.
+// How many frames since a tick are compared.
 const MOST: usize = 256;
 
-/// How many hints are kept, one for each value of a digest's low bits.
+// The number of hints: one for each value of a digest's low bits.
 const HINTS: usize = 8192;
 
 /// The first frames, at most 256. Contracts see them as a list.
 #[derive(Drop)]
 pub struct FirstFrames {
-    // The digests of the frames, apart from them: what is scanned is small.
+    // The digests of the frames, apart from them, so that a scan reads little memory.
     digests: ArrayVec<u32, MOST>,
     frames: ArrayVec<KeptFrame, MOST>,
-    // For each value of a digest's low bits: 0 where no frame has it, and else the place of one that
-    // has it, or 1 for place 0. Most frames are new, and find 0.
+    // For each value of a digest's low bits: 0 where no frame has it. Else the place of one that has it, or 1 for
+    // place 0. Most frames are new, and find 0.
     hints: [u8; HINTS],
 }
 
@@ -61,7 +61,7 @@ impl FirstFrames {
         hint != 0 && (self.stands_at(usize::from(hint), frame) || self.stands_among(digest, frame))
     }
 
-    // Whether the frame stands at the place.
+    // Whether the frame is at the place.
     fn stands_at(&self, place: usize, frame: &Frame) -> bool
         ensures { result ≡ (nat_lt place (length self.now) &&
             same_frame frame.now (get_or self.now place [])) }
@@ -73,7 +73,7 @@ impl FirstFrames {
         false
     }
 
-    // Whether the frame, which has this digest, stands anywhere.
+    // Whether the frame, which has this digest, is at any place.
     #[inline(never)]
     fn stands_among(&self, digest: u32, frame: &Frame) -> bool
         requires { digest ≡ digest_of frame.now }
@@ -87,7 +87,7 @@ impl FirstFrames {
         false
     }
 
-    /// Takes the frame, while there are fewer than 256.
+    /// Appends the frame, if there are fewer than 256.
     pub fn hear(&mut self, frame: &Frame)
         ensures { self.new ≡ with_heard frame.now self.old }
     {
@@ -100,7 +100,7 @@ impl FirstFrames {
         }
     }
 
-    /// Takes over the one more frame of others that are ahead.
+    /// Copies the next frame of others that are ahead, if they have one.
     pub fn catch_up(&mut self, ahead: &FirstFrames)
         ensures { self.new ≡ with_frame_ahead ahead.now self.old }
     {
@@ -111,7 +111,7 @@ impl FirstFrames {
         }
     }
 
-    /// Forgets all frames.
+    /// Drops all frames.
     pub fn clear(&mut self)
         ensures { self.new ≡ [] }
     {
@@ -121,7 +121,7 @@ impl FirstFrames {
     }
 }
 
-/// A frame that is kept. The one by default has seven bytes of zeros.
+// A frame. The default, which an empty place of the array has, is seven bytes of zeros.
 #[derive(Clone, Copy)]
 struct KeptFrame {
     frame: Frame,
@@ -145,7 +145,7 @@ impl Default for KeptFrame {
     }
 }
 
-// The number in the last three bytes of the frame, where its parity stands.
+// The number in the last three bytes of the frame: its parity.
 fn digest(frame: &Frame) -> u32
     ensures { result ≡ digest_of frame.now }
 {
@@ -156,7 +156,7 @@ fn digest(frame: &Frame) -> u32
         + u32::from(bytes[count + 2])
 }
 
-// Makes the hints of these digests 0.
+// Sets the hints of these digests to 0.
 fn forget(hints: &mut [u8; HINTS], digests: &[u32]) {
     for digest in digests {
         hints[*digest as usize % HINTS] = 0;

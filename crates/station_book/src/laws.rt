@@ -1,5 +1,4 @@
-//! The running book equals the search: laws over the definitions that the book's calls are stated
-//! by.
+//! The running book equals the search: laws over the definitions that the contracts of its calls cite.
 
 ghost use Rattle.std.specs.Prelude.{◌≡◌, ℕ, true, List, ◌∷◌, [], ◌++◌, ◌<◌, length, None, Some};
 ghost use Rattle.station_journal.specs.declared.entry.Entry.{Entry};
@@ -15,35 +14,35 @@ pub fn a_new_book_matches()
     ensures { (n : ℕ) (base : ℕ) → Matches n base (starting base) [] }
 {}
 
-/// A book that matches a list shows what the search finds in it, and refuses what a journal would,
-/// JournalFull apart.
+/// A book that matches a list shows what the search finds in it. It refuses what a journal would, but for
+/// `JournalFull`.
 pub fn a_match_shows_the_search()
     ensures { (n : ℕ) (base : ℕ) (book : BookState) (entries : List Entry) →
         Matches n base book entries → Shows n base book entries }
 {}
 
-/// What a journal accepts fits each book that matches it.
+/// An entry that a journal accepts fits each book that matches it.
 pub fn an_accepted_entry_fits()
     ensures { (log : Log) (book : BookState) (entry : Entry) → refusal_of log entry ≡ None →
         Matches log.limits.aircraft log.base book log.entries →
         fits log.limits.aircraft book (decoded_of entry) ≡ true }
 {}
 
-/// What a book that matches accepts fits it.
+/// An entry that a matching book doesn't refuse fits it.
 pub fn an_entry_that_is_not_refused_fits()
     ensures { (n : ℕ) (base : ℕ) (book : BookState) (entries : List Entry) (entry : Entry) →
         Matches n base book entries → book_refusal n book entry ≡ None →
         fits n book (decoded_of entry) ≡ true }
 {}
 
-/// An accepted entry leaves a match.
+/// A matching book that applies an accepted entry still matches.
 pub fn a_match_stays()
     ensures { (log : Log) (book : BookState) (entry : Entry) → refusal_of log entry ≡ None →
         Matches log.limits.aircraft log.base book log.entries →
         Matches log.limits.aircraft log.base (applied book entry) (log.entries ++ entry ∷ []) }
 {}
 
-/// So does one that is offered, while the book counts fewer than the most entries.
+/// A matching book that is offered an accepted entry still matches, if it counts fewer than the most entries.
 pub fn an_offer_keeps_a_match()
     ensures { (log : Log) (book : BookState) (entry : Entry) → refusal_of log entry ≡ None →
         length log.entries < most_entries →
@@ -60,7 +59,7 @@ pub fn the_book_equals_the_search()
         ((book_after log.base log.entries).entries ≡ length log.entries) }
 {}
 
-/// A book that takes over what an entry changed is the one that took the entry.
+/// A book that copies what an entry changed equals the one that applied the entry.
 pub fn a_change_brings_up()
     ensures { (n : ℕ) (book : BookState) (decoded : DecodedEntry) (change : Change) → fits n book decoded ≡ true →
         change_of decoded ≡ Some change →

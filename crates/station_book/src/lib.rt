@@ -1,4 +1,4 @@
-//! The running book: a table of fixed size that takes one entry after another, never looks back at them, and shows
+//! The running book: a table of fixed size that takes one entry after another and never looks back at them. It shows
 //! what a search of all of them finds.
 #![tactic(auto)]
 
@@ -6,8 +6,6 @@ pub mod decoded_entry;
 mod first_frames;
 pub mod laws;
 pub mod running;
-#[cfg(test)]
-mod stream_tests;
 mod table;
 #[cfg(test)]
 mod tests;

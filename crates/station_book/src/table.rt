@@ -12,19 +12,19 @@ use modes_frame::Frame;
 use station_journal::LIFE_MS;
 use std::marker::Model;
 
-/// How many hints are kept, one for each value of an address' low bits.
+// The number of hints: one for each value of an address's low bits.
 const HINTS: usize = 2048;
 
 /// At most `N` tracks by rising address.
 #[derive(Drop)]
 pub struct Table<const N: usize> {
-    // The addresses of the tracks, apart from them: what is searched is small.
+    // The addresses of the tracks, apart from them, so that a search reads little memory.
     addresses: ArrayVec<u32, N>,
     tracks: ArrayVec<Track, N>,
-    // No track was heard before this moment, so most ticks have nothing to sweep.
+    // No track was heard before this time. By it most ticks find nothing to sweep.
     oldest: u64,
-    // Where an address with these low bits stood when it was last heard. A search is made only where
-    // it moved.
+    // The place that an address with these low bits had when it was last heard. A search is made only where it has
+    // moved since.
     hints: [u16; HINTS],
 }
 
@@ -57,7 +57,7 @@ impl<const N: usize> Table<N> {
         }
     }
 
-    /// How many tracks there are.
+    /// The number of tracks.
     pub fn len(&self) -> usize
         ensures { result ≡ length self.now }
     {
@@ -80,7 +80,7 @@ impl<const N: usize> Table<N> {
         &self.tracks[place]
     }
 
-    /// Where the track of the address stands, or where it would stand.
+    /// The place of the address's track, or as `Err` the place where it would be.
     pub fn locate(&self, address: u32) -> Result<usize, usize>
         ensures { StandsAt self.now address result }
     {
@@ -92,7 +92,7 @@ impl<const N: usize> Table<N> {
         }
     }
 
-    // Whether the track of the address stands at the place.
+    // Whether the track of the address is at the place.
     fn stands_at(&self, place: usize, address: u32) -> bool
         ensures { IsTrue result → StandsAt self.now address (Ok place) }
     {
@@ -105,7 +105,7 @@ impl<const N: usize> Table<N> {
         false
     }
 
-    // The place of the address, by halves.
+    // As `locate`, by binary search.
     fn search(&self, address: u32) -> Result<usize, usize>
         ensures { StandsAt self.now address result }
     {
@@ -119,8 +119,8 @@ impl<const N: usize> Table<N> {
         Err(rank)
     }
 
-    /// Takes what a frame of the address carries, heard at the moment now. The place is that of the
-    /// address.
+    /// Updates the track of the address, which has this place, by a frame heard at the time `now`. Where there is none,
+    /// inserts one.
     pub fn hear(&mut self, place: Result<usize, usize>, now: u64, address: u32, frame: &Frame)
         requires place { StandsAt self.old address place }
         requires room { find_track address self.old ≡ None → length self.old < N }
@@ -141,7 +141,7 @@ impl<const N: usize> Table<N> {
         }
     }
 
-    /// Takes over the track of the address, where the others have one and there is a place for it.
+    /// Copies the track of the address from another table, if it has one and there is a place for it here.
     pub fn copy_track(&mut self, others: &Table<N>, address: u32)
         ensures { self.new ≡ with_track N (find_track address others.now) self.old }
     {
@@ -150,7 +150,7 @@ impl<const N: usize> Table<N> {
         }
     }
 
-    // Puts the track in its place, if it has one.
+    // Puts the track in its place, if there is one for it.
     fn put(&mut self, track: &Track)
         ensures { self.new ≡ with_track N (Some track.now) self.old }
     {
@@ -171,7 +171,7 @@ impl<const N: usize> Table<N> {
         }
     }
 
-    /// Drops the tracks that were heard more than 60,000 ms before now.
+    /// Drops the tracks heard more than 60,000 ms before `now`.
     pub fn sweep(&mut self, now: u64)
         ensures { self.new ≡ swept now self.old }
     {
@@ -183,7 +183,7 @@ impl<const N: usize> Table<N> {
     }
 }
 
-// How many of the rising addresses are below this one.
+// The number of the rising addresses below this one.
 fn rank_of(addresses: &[u32], address: u32) -> usize
     requires { IsRising addresses.now }
     ensures { IsRank addresses.now address result }
@@ -191,14 +191,14 @@ fn rank_of(addresses: &[u32], address: u32) -> usize
     addresses.partition_point(|other| *other < address)
 }
 
-// Drops the tracks that were heard more than 60,000 ms before now.
+// Drops the tracks heard more than 60,000 ms before `now`.
 fn retain_recent<const N: usize>(tracks: &mut ArrayVec<Track, N>, now: u64)
     ensures { tracks.new.items ≡ swept now tracks.old.items }
 {
     tracks.retain(|track| now.saturating_sub(track.heard) <= LIFE_MS);
 }
 
-// Makes the addresses those of the tracks.
+// Sets the addresses to those of the tracks.
 fn set_addresses<const N: usize>(addresses: &mut ArrayVec<u32, N>, tracks: &[Track])
     requires { length tracks.now ≤ N }
     ensures { addresses.new.items ≡ map address_of tracks.now }
@@ -209,7 +209,7 @@ fn set_addresses<const N: usize>(addresses: &mut ArrayVec<u32, N>, tracks: &[Tra
     }
 }
 
-// A moment before which none of the tracks was heard.
+// A time before which none of the tracks was heard.
 fn oldest_of(tracks: &[Track]) -> u64
     ensures { HeardFrom result tracks.now }
 {

@@ -1,4 +1,4 @@
-//! Known frames, given to a journal and to a book: both answer and show the same after each.
+//! Known frames, given to a journal and to a book. Both answer and show the same after each.
 
 mod lists;
 mod positions;
@@ -6,7 +6,7 @@ mod repeats;
 
 use crate::{Book, DecodedEntry};
 use modes_frame::Frame;
-use station_journal::{Aircraft, Entry, Journal, Limits, NoMemory, Refusal, Rows};
+use station_journal::{Aircraft, Entry, Journal, Limits, Refusal, Rows};
 use std::alloc::Global;
 use std::process::Abort;
 use std::test::Fail;
@@ -43,26 +43,10 @@ fn entry(call: Call) -> Result<Entry, Fail> {
     }
 }
 
-fn once(journal: &mut Journal, entry: &Entry) -> Result<(), Refusal> {
+fn once(journal: &mut Journal, entry: &Entry) -> Result<u64, Refusal> {
     match entry {
-        Entry::Tick { seat, at } => journal.tick(*seat, *at)?,
-        Entry::Heard { seat, frame } => journal.feed(*seat, *frame)?,
-    };
-    Ok(())
-}
-
-// A call that answers want of memory is made once more.
-fn answer(journal: &mut Journal, entry: &Entry) -> Result<(), Refusal> {
-    match once(journal, entry) {
-        Err(Refusal::NoMemory) => once(journal, entry),
-        told => told,
-    }
-}
-
-fn table(journal: &Journal, alloc: Global) -> Result<Vec<Aircraft>, NoMemory> {
-    match journal.all(alloc) {
-        Ok(rows) => Ok(rows),
-        Err(_) => journal.all(alloc),
+        Entry::Tick { seat, at } => journal.tick(*seat, *at),
+        Entry::Heard { seat, frame } => journal.feed(*seat, *frame),
     }
 }
 
@@ -80,16 +64,38 @@ fn same_verdict<const N: usize>(
     rt: &impl Abort,
     book: &Book<N>,
     entry: &Entry,
-    told: Result<(), Refusal>,
+    answer: Result<(), Refusal>,
 ) {
-    assert_eq!(rt; book.verdict_of(&DecodedEntry::of(entry)), told);
+    assert_eq!(rt; book.verdict_of(&DecodedEntry::of(entry)), answer);
     match entry {
-        Entry::Tick { seat: _, at } => assert_eq!(rt; book.verdict_tick(*at), told),
-        Entry::Heard { seat: _, frame } => assert_eq!(rt; book.verdict(frame), told),
+        Entry::Tick { seat: _, at } => assert_eq!(rt; book.verdict_tick(*at), answer),
+        Entry::Heard { seat: _, frame } => assert_eq!(rt; book.verdict(frame), answer),
     }
 }
 
-// Gives the calls to a journal and to a book. Both answer and show the same after each.
+// Gives the entry to a journal and to a book. Both answer the same, and count the same entries.
+fn give<const N: usize>(
+    rt: &impl Abort,
+    journal: &mut Journal,
+    book: &mut Book<N>,
+    entry: &Entry,
+) -> Result<(), Refusal> {
+    let answer = match once(journal, entry) {
+        Ok(place) => {
+            assert_eq!(rt; place, book.entries());
+            Ok(())
+        }
+        Err(refusal) => Err(refusal),
+    };
+    same_verdict(rt, book, entry, answer);
+    if answer.is_ok() {
+        book.offer(entry);
+    }
+    assert_eq!(rt; book.entries(), journal.len());
+    answer
+}
+
+// The book after the calls. It shows what the journal does after each.
 fn compare<const N: usize>(
     rt: &impl Abort,
     alloc: Global,
@@ -102,16 +108,10 @@ fn compare<const N: usize>(
     let mut journal = Journal::new(alloc, limits);
     let mut book = Book::<N>::new();
     for call in calls {
-        let entry = entry(*call)?;
-        let told = answer(&mut journal, &entry);
-        same_verdict(rt, &book, &entry, told);
-        if told.is_ok() {
-            book.offer(&entry);
-        }
-        let rows = table(&journal, alloc)?;
+        let _answer = give(rt, &mut journal, &mut book, &entry(*call)?);
+        let rows = journal.all(alloc)?;
         same_rows(rt, rows.as_slice(), &book);
         assert_eq!(rt; book.now(), journal.now());
-        assert_eq!(rt; book.entries(), journal.len());
     }
     Ok(book)
 }
@@ -174,7 +174,7 @@ fn a_full_book_frees_a_place_at_a_tick(rt: HostRuntime) -> Result<(), Fail> {
     Ok(())
 }
 
-// Replies of 4840D6, whose address lies on their parity.
+// Replies of 4840D6, whose address is overlaid on their parity.
 const SHORT_AIR: &[u8] = &[0x00, 0x00, 0x14, 0xB4, 0x96, 0xB1, 0x48];
 
 const LONG_AIR: &[u8] = &[
@@ -189,32 +189,36 @@ const LONG_IDENTITY: &[u8] = &[
     0xA8, 0x00, 0x11, 0x6D, 0x00, 0x00, 0x00, 0x00, 0x00, 0x00, 0x00, 0xF7, 0x2A, 0xAA,
 ];
 
+// A reply, and the altitude in feet and the squawk that it carries.
+const OVERLAID: [(&[u8], Option<i32>, Option<u16>); 4] = [
+    (SHORT_AIR, Some(32_300), None),
+    (LONG_AIR, Some(32_300), None),
+    (LONG_ALTITUDE, Some(32_300), None),
+    (LONG_IDENTITY, None, Some(0o356)),
+];
+
+fn squawk_of(row: &Aircraft) -> Option<u16> {
+    match row.squawk {
+        Some(squawk) => Some(squawk.value()),
+        None => None,
+    }
+}
+
 #[test]
 fn overlaid_replies_speak_for_live_aircraft(rt: HostRuntime) -> Result<(), Fail> {
     let alloc = rt.alloc();
-    for reply in [SHORT_AIR, LONG_AIR, LONG_ALTITUDE, LONG_IDENTITY] {
+    for (reply, altitude, squawk) in OVERLAID {
         let book: Book<4> = compare(&rt, alloc, &[Hear(reply)])?;
         assert_eq!(rt; book.entries(), 0);
         assert_eq!(rt;
             book.verdict_of(&DecodedEntry::of(&entry(Hear(reply))?)),
             Err(Refusal::Unknown(0x4840D6))
         );
-    }
-    for reply in [SHORT_AIR, LONG_AIR, LONG_ALTITUDE] {
         let book: Book<4> = compare(&rt, alloc, &[Hear(KLM1023), Hear(reply)])?;
-        assert_eq!(rt;
-            book.get(0x4840D6).ok_or("no aircraft")?.altitude,
-            Some(32_300)
-        );
+        let row = book.get(0x4840D6).ok_or("no aircraft")?;
+        assert_eq!(rt; row.altitude, altitude);
+        assert_eq!(rt; squawk_of(&row), squawk);
     }
-    Ok(())
-}
-
-#[test]
-fn a_squawk_is_told_in_octal(rt: HostRuntime) -> Result<(), Fail> {
-    let book: Book<4> = compare(&rt, rt.alloc(), &[Hear(KLM1023), Hear(LONG_IDENTITY)])?;
-    let row = book.get(0x4840D6).ok_or("no aircraft")?;
-    assert_eq!(rt; row.squawk.ok_or("no squawk")?.value(), 0o356);
     Ok(())
 }
 
@@ -233,7 +237,7 @@ const SAME_LOW_BITS: &[u8] = &[0x5D, 0x48, 0x48, 0xD6, 0x88, 0x18, 0x0F];
 
 const BELOW: &[u8] = &[0x5D, 0x40, 0x00, 0x00, 0xEE, 0x1F, 0x40];
 
-// Heard again after a tick, 4840D6 stands first; 400000 then comes before it, and 4848D6 has its hint.
+// Heard again after a tick, 4840D6 is first. Then 400000 comes before it, and 4848D6 has its hint.
 #[test]
 fn hints_that_are_out_of_date(rt: HostRuntime) -> Result<(), Fail> {
     let calls = [

@@ -1,4 +1,4 @@
-//! What is kept of an aircraft.
+//! What a book keeps of an aircraft. Times are in milliseconds.
 
 ghost use Rattle.std.specs.Prelude.{◌≡◌};
 ghost use Rattle.modes_fields.specs.Carried.{fields_of};
@@ -13,11 +13,12 @@ use modes_frame::Frame;
 use station_journal::aging::{fresh, or_older, pair_with, stamp, with_parity};
 use station_journal::{Aircraft, LIFE_MS, PAIR_MS, Stamped};
 
-/// What is kept of an aircraft: of each field the newest value, the newest even and odd place, and the newest position.
-#[derive(Clone, Copy, Debug, Default)]
+/// What a book keeps of an aircraft: the newest value of each field, the newest even and odd places, and the newest
+/// position.
+#[derive(Clone, Copy, Default)]
 pub struct Track {
     pub address: u32,
-    /// The moment of its newest frame.
+    /// The time of its newest frame.
     pub heard: u64,
     pub callsign: Option<Stamped<Callsign>>,
     pub altitude: Option<Stamped<i32>>,
@@ -47,7 +48,7 @@ pub fn blank(address: u32) -> Track
     }
 }
 
-/// The position of the place and the kept one of the other parity, at most 10,000 ms older.
+// The position that the place gives with the kept one of the other parity, if that is at most 10,000 ms older.
 fn kept_fix(now: u64, track: &Track, place: Option<Place>) -> Option<Position>
     ensures { result ≡ kept_fix now track.now place }
 {
@@ -63,7 +64,7 @@ fn kept_fix(now: u64, track: &Track, place: Option<Place>) -> Option<Position>
     }
 }
 
-/// Keeps the value with its moment, if there is one.
+// Keeps the value with its time, if there is one.
 fn keep<T: Copy>(kept: &mut Option<Stamped<T>>, at: u64, value: Option<T>)
     ensures { kept.new ≡ or_older (stamp at value) kept.old }
 {
@@ -72,7 +73,7 @@ fn keep<T: Copy>(kept: &mut Option<Stamped<T>>, at: u64, value: Option<T>)
     }
 }
 
-/// Keeps the place, and the position that it gives with the kept place of the other parity.
+// Keeps the place, and the position that it gives with the kept place of the other parity.
 #[inline(always)]
 fn keep_place(track: &mut Track, now: u64, place: Place)
     ensures { track.new ≡ with_place now place track.old }
@@ -83,14 +84,14 @@ fn keep_place(track: &mut Track, now: u64, place: Place)
     keep(&mut track.position, now, position);
 }
 
-/// Takes what a frame of the aircraft carries, heard at the moment now.
+/// Updates the track by a frame of the aircraft, heard at the time `now`.
 pub fn update(track: &mut Track, now: u64, frame: &Frame)
     ensures { track.new ≡ updated now (fields_of frame.now) track.old }
 {
     take(track, now, carried(frame));
 }
 
-/// Takes what a frame carries, heard at the moment now. What no frame of the kind carries stays as it was.
+// Updates the track by what a frame carries. Only the fields of its kind are written.
 #[inline(always)]
 fn take(track: &mut Track, now: u64, carried: Carried)
     ensures { track.new ≡ updated now (fields_by carried) track.old }

@@ -18,7 +18,7 @@ use crate::decoded_entry::{Change, DecodedEntry, Sighting};
 use station_journal::{Entry, MOST_ENTRIES};
 
 impl<const N: usize> Book<N> {
-    /// Takes the entry.
+    /// Applies an entry that fits.
     pub fn apply(&mut self, entry: &Entry)
         requires fits { fits N self.old (decoded_of entry.now) ≡ true }
         requires few { self.old.entries < most_entries }
@@ -29,7 +29,7 @@ impl<const N: usize> Book<N> {
         self.apply_decoded(&DecodedEntry::of(entry));
     }
 
-    /// Takes the decoded entry.
+    /// As `apply`, of an entry with its claim.
     pub fn apply_decoded(&mut self, decoded: &DecodedEntry)
         requires fits { fits N self.old decoded.now ≡ true }
         requires few { self.old.entries < most_entries }
@@ -45,14 +45,15 @@ impl<const N: usize> Book<N> {
         }
     }
 
-    /// Whether the entry may be applied: a later tick, or a frame of an assigned address that is live or finds a place.
+    /// Whether the entry may be applied. It is a later tick, or a frame of an assigned address that is live or finds a
+    /// place.
     pub fn fits(&self, entry: &Entry) -> bool
         ensures { result ≡ fits N self.now (decoded_of entry.now) }
     {
         self.fits_decoded(&DecodedEntry::of(entry))
     }
 
-    // The same, of the decoded entry.
+    // As `fits`, of an entry with its claim.
     fn fits_decoded(&self, decoded: &DecodedEntry) -> bool
         ensures { result ≡ fits N self.now decoded.now }
     {
@@ -74,7 +75,7 @@ impl<const N: usize> Book<N> {
         address != 0 && address != 0xFF_FFFF && (place.is_ok() || !self.table.is_full())
     }
 
-    /// Takes the entries in their order, as long as they fit. Refused at the place of the first that doesn't.
+    /// Applies the entries in their order, as long as they fit. `Err` has the place of the first that doesn't.
     pub fn take_all(&mut self, base: u64, entries: &[Entry]) -> Result<(), u64>
         requires starts { self.old ≡ starting base }
         requires few { length entries.now ≤ most_entries }
@@ -91,7 +92,7 @@ impl<const N: usize> Book<N> {
         Ok(())
     }
 
-    /// Takes the entry where it fits and fewer than 16,777,216 entries were taken, and else does nothing.
+    /// Applies the entry, if it fits and the book has taken fewer than 16,777,216. Else nothing changes.
     pub fn offer(&mut self, entry: &Entry)
         ensures value { self.new ≡ offered N self.old entry.now }
         ensures kept { (base : ℕ) (journal : List Entry) → Matches N base self.old journal →
@@ -114,7 +115,7 @@ impl<const N: usize> Book<N> {
         }
     }
 
-    /// Takes over from a book that is one entry ahead what the entry changed.
+    /// Copies what one entry changed from a book that is ahead by that entry.
     pub fn catch_up(&mut self, ahead: &Book<N>, change: Change)
         ensures { self.new ≡ caught_up N ahead.now change self.old }
     {
@@ -129,7 +130,7 @@ impl<const N: usize> Book<N> {
         }
     }
 
-    // Takes the tick where it is later than the clock.
+    // Applies the tick, if it is later than the clock.
     fn offer_tick(&mut self, at: u64)
         requires few { self.old.entries < most_entries }
         ensures { self.new ≡ offered_decoded N self.old (decoded.Tick at) }
@@ -139,7 +140,7 @@ impl<const N: usize> Book<N> {
         }
     }
 
-    // Takes the frame where it fits.
+    // Applies the frame, if it fits.
     fn offer_sighting(&mut self, sighting: &Sighting)
         requires few { self.old.entries < most_entries }
         ensures { self.new ≡ offered_decoded N self.old (decoded.Heard (Ok sighting.now)) }
@@ -151,7 +152,7 @@ impl<const N: usize> Book<N> {
         }
     }
 
-    // Takes a tick.
+    // Applies a tick.
     fn apply_tick(&mut self, at: u64)
         requires few { self.old.entries < most_entries }
         ensures { self.new ≡ applied_decoded self.old (decoded.Tick at) }
@@ -161,7 +162,7 @@ impl<const N: usize> Book<N> {
         self.sweep(at);
     }
 
-    // Drops the aircraft that are not live at a tick, and the frames heard before it.
+    // Drops the aircraft that aren't live at a tick, and the frames heard before it.
     fn sweep(&mut self, at: u64)
         ensures { self.new ≡
             record self.old { tracks = swept at self.old.tracks; first_frames = [] } }
@@ -170,7 +171,7 @@ impl<const N: usize> Book<N> {
         self.first_frames.clear();
     }
 
-    // Takes a frame of the aircraft whose address has this place.
+    // Applies a frame of the aircraft whose address has this place.
     fn apply_at(&mut self, place: Result<usize, usize>, sighting: &Sighting)
         requires place { StandsAt self.old.tracks sighting.now.claim.address place }
         requires fits { fits N self.old (decoded.Heard (Ok sighting.now)) ≡ true }

@@ -1,4 +1,4 @@
-//! Entries that fit, and lists of them that a book takes whole.
+//! Entries that fit, and lists of them that a book takes.
 
 use crate::tests::Call::{Hear, Tick};
 use crate::tests::{ALL_CALL, EVEN, KLM1023, SHORT_AIR, entry};

@@ -1,10 +1,10 @@
 //! Positions of pairs of places.
 
 use crate::Book;
-use crate::tests::Call::{Hear, Tick};
+use crate::tests::Call::{self, Hear, Tick};
 use crate::tests::{EVEN, compare};
 use modes_cpr::{Degrees, Position};
-use station_journal::Rows;
+use station_journal::{Aircraft, Rows};
 use std::test::Fail;
 
 const ODD: &[u8] = &[
@@ -32,97 +32,95 @@ fn shown(position: Position) -> (i128, i128) {
     )
 }
 
-fn position<const N: usize>(book: &Book<N>) -> Option<(i128, i128)> {
-    Some(shown(book.get(0x40621D)?.position?))
+fn position(row: &Aircraft) -> Option<(i128, i128)> {
+    Some(shown(row.position?))
 }
 
-fn altitude<const N: usize>(book: &Book<N>) -> Option<i32> {
-    book.get(0x40621D)?.altitude
-}
+const NEWEST_ODD: Option<(i128, i128)> = Some((5_226_578, 393_891));
 
-const NEWEST_ODD: (i128, i128) = (5_226_578, 393_891);
+const NEWEST_EVEN: Option<(i128, i128)> = Some((5_225_720, 391_937));
 
-const NEWEST_EVEN: (i128, i128) = (5_225_720, 391_937);
+// Calls, and of 40621D then the time of its newest frame in milliseconds and its position. Each place is at 38,000 feet.
+const STORIES: &[(&[Call], u64, Option<(i128, i128)>)] = &[
+    (&[Hear(EVEN), Hear(ODD)], 0, NEWEST_ODD),
+    (&[Hear(ODD), Hear(EVEN)], 0, NEWEST_EVEN),
+    (&[Hear(EVEN)], 0, None),
+    // The places of a pair are at most 10,000 ms apart.
+    (
+        &[Tick(1), Hear(EVEN), Tick(10_001), Hear(ODD)],
+        10_001,
+        NEWEST_ODD,
+    ),
+    (
+        &[Tick(1), Hear(EVEN), Tick(10_002), Hear(ODD)],
+        10_002,
+        None,
+    ),
+    (
+        &[
+            Tick(1),
+            Hear(EVEN),
+            Tick(5000),
+            Hear(ODD),
+            Tick(9000),
+            Hear(EVEN),
+        ],
+        9000,
+        NEWEST_EVEN,
+    ),
+    // An aircraft that was swept begins anew.
+    (
+        &[Tick(1), Hear(EVEN), Tick(60_001), Hear(ODD)],
+        60_001,
+        None,
+    ),
+    (
+        &[Tick(1), Hear(EVEN), Tick(60_002), Hear(ODD)],
+        60_002,
+        None,
+    ),
+    (
+        &[Tick(1), Hear(EVEN), Tick(5000), Hear(ODD), Tick(65_000)],
+        5000,
+        NEWEST_ODD,
+    ),
+    // A pair that gives no position leaves the one before to age.
+    (
+        &[
+            Tick(1000),
+            Hear(EVEN),
+            Hear(ODD),
+            Tick(2000),
+            Hear(FAR),
+            Tick(61_000),
+        ],
+        2000,
+        NEWEST_ODD,
+    ),
+    (
+        &[
+            Tick(1000),
+            Hear(EVEN),
+            Hear(ODD),
+            Tick(2000),
+            Hear(FAR),
+            Tick(61_001),
+        ],
+        2000,
+        None,
+    ),
+];
 
 #[test]
 fn pairs_of_places(rt: HostRuntime) -> Result<(), Fail> {
-    let alloc = rt.alloc();
-    let book: Book<4> = compare(&rt, alloc, &[Hear(EVEN), Hear(ODD)])?;
-    assert_eq!(rt; position(&book), Some(NEWEST_ODD));
-    assert_eq!(rt; altitude(&book), Some(38_000));
-    let book: Book<4> = compare(&rt, alloc, &[Hear(ODD), Hear(EVEN)])?;
-    assert_eq!(rt; position(&book), Some(NEWEST_EVEN));
-    let book: Book<4> = compare(&rt, alloc, &[Hear(EVEN)])?;
-    assert_eq!(rt; position(&book), None);
-    assert_eq!(rt; altitude(&book), Some(38_000));
-    Ok(())
-}
-
-#[test]
-fn places_of_a_pair_are_at_most_ten_seconds_apart(rt: HostRuntime) -> Result<(), Fail> {
-    let alloc = rt.alloc();
-    let near = [Tick(1), Hear(EVEN), Tick(10_001), Hear(ODD)];
-    let book: Book<4> = compare(&rt, alloc, &near)?;
-    assert_eq!(rt; position(&book), Some(NEWEST_ODD));
-    let apart = [Tick(1), Hear(EVEN), Tick(10_002), Hear(ODD)];
-    let book: Book<4> = compare(&rt, alloc, &apart)?;
-    assert_eq!(rt; position(&book), None);
-    let again = [
-        Tick(1),
-        Hear(EVEN),
-        Tick(5000),
-        Hear(ODD),
-        Tick(9000),
-        Hear(EVEN),
-    ];
-    let book: Book<4> = compare(&rt, alloc, &again)?;
-    assert_eq!(rt; position(&book), Some(NEWEST_EVEN));
-    Ok(())
-}
-
-#[test]
-fn a_swept_aircraft_starts_anew(rt: HostRuntime) -> Result<(), Fail> {
-    let alloc = rt.alloc();
-    for later in [60_001, 60_002] {
-        let calls = [Tick(1), Hear(EVEN), Tick(later), Hear(ODD)];
-        let book: Book<4> = compare(&rt, alloc, &calls)?;
-        assert_eq!(rt; altitude(&book), Some(38_000));
-        assert_eq!(rt; position(&book), None);
+    for (calls, heard, wanted) in STORIES {
+        let book: Book<4> = compare(&rt, rt.alloc(), *calls)?;
+        let row = book.get(0x40621D).ok_or("no aircraft")?;
+        assert_eq!(rt; (row.heard, row.altitude), (*heard, Some(38_000)));
+        assert_eq!(rt; position(&row), *wanted);
     }
-    let calls = [Tick(1), Hear(EVEN), Tick(5000), Hear(ODD), Tick(65_000)];
-    let book: Book<4> = compare(&rt, alloc, &calls)?;
-    assert_eq!(rt; position(&book), Some(NEWEST_ODD));
-    assert_eq!(rt; book.get(0x40621D).ok_or("no aircraft")?.heard, 5000);
     let calls = [Tick(1), Hear(EVEN), Tick(5000), Hear(ODD), Tick(65_001)];
-    let book: Book<4> = compare(&rt, alloc, &calls)?;
+    let book: Book<4> = compare(&rt, rt.alloc(), &calls)?;
     assert_eq!(rt; book.len(), 0);
-    Ok(())
-}
-
-#[test]
-fn a_failed_pair_leaves_the_position_to_age(rt: HostRuntime) -> Result<(), Fail> {
-    let alloc = rt.alloc();
-    let calls = [
-        Tick(1000),
-        Hear(EVEN),
-        Hear(ODD),
-        Tick(2000),
-        Hear(FAR),
-        Tick(61_000),
-    ];
-    let book: Book<4> = compare(&rt, alloc, &calls)?;
-    assert_eq!(rt; position(&book), Some(NEWEST_ODD));
-    assert_eq!(rt; book.get(0x40621D).ok_or("no aircraft")?.heard, 2000);
-    let calls = [
-        Tick(1000),
-        Hear(EVEN),
-        Hear(ODD),
-        Tick(2000),
-        Hear(FAR),
-        Tick(61_001),
-    ];
-    let book: Book<4> = compare(&rt, alloc, &calls)?;
-    assert_eq!(rt; position(&book), None);
-    assert_eq!(rt; altitude(&book), Some(38_000));
     Ok(())
 }

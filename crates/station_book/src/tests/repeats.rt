@@ -1,11 +1,10 @@
 //! Frames that are heard again.
 
 use crate::tests::Call::{Hear, Tick};
-use crate::tests::{KLM1023, SHORT_AIR, answer, entry, frame, same_verdict};
+use crate::tests::{KLM1023, SHORT_AIR, entry, frame, give};
 use crate::{Book, DecodedEntry};
 use modes_frame::remainder;
 use station_journal::{Entry, Journal, Limits, Refusal};
-use std::process::Abort;
 use std::test::Fail;
 
 const LIMITS: Limits = Limits {
@@ -13,23 +12,7 @@ const LIMITS: Limits = Limits {
     aircraft: 4,
 };
 
-// Gives the entry to both, which answer the same and count the same entries.
-fn give(
-    rt: &impl Abort,
-    journal: &mut Journal,
-    book: &mut Book<4>,
-    entry: &Entry,
-) -> Result<(), Refusal> {
-    let told = answer(journal, entry);
-    same_verdict(rt, book, entry, told);
-    if told.is_ok() {
-        book.offer(entry);
-    }
-    assert_eq!(rt; book.entries(), journal.len());
-    told
-}
-
-// An identity reply of 4840D6, which ends with this byte and the address overlaid on its parity.
+// An identity reply of 4840D6: this byte, and then the parity with the address overlaid.
 fn reply(last: u8) -> Result<Entry, Fail> {
     let unaddressed = frame(&[0x28, 0, 0, last, 0, 0, 0])?;
     let parity = remainder(&unaddressed) ^ 0x4840D6;
@@ -56,31 +39,13 @@ fn the_first_256_frames_since_a_tick_are_looked_at(rt: HostRuntime) -> Result<()
         assert_eq!(rt; give(&rt, &mut journal, &mut book, &unseen), Ok(()));
     }
     for again in [first, reply(0)?, reply(253)?, reply(254)?] {
-        let told = give(&rt, &mut journal, &mut book, &again);
-        assert_eq!(rt; told, Err(Refusal::Repeated));
+        let answer = give(&rt, &mut journal, &mut book, &again);
+        assert_eq!(rt; answer, Err(Refusal::Repeated));
     }
     for new in [entry(Tick(2))?, first, reply(254)?] {
         assert_eq!(rt; give(&rt, &mut journal, &mut book, &new), Ok(()));
     }
     assert_eq!(rt; book.entries(), 262);
-    Ok(())
-}
-
-#[test]
-fn each_frame_is_repeated_as_soon_as_it_is_kept(rt: HostRuntime) -> Result<(), Fail> {
-    let mut book = Book::<4>::new();
-    book.offer(&entry(Hear(KLM1023))?);
-    for last in 0..=255 {
-        let new = reply(last)?;
-        assert_eq!(rt; book.verdict_of(&DecodedEntry::of(&new)), Ok(()));
-        book.offer(&new);
-        let told = if last == 255 {
-            Ok(())
-        } else {
-            Err(Refusal::Repeated)
-        };
-        assert_eq!(rt; book.verdict_of(&DecodedEntry::of(&new)), told);
-    }
     Ok(())
 }
 
@@ -105,8 +70,8 @@ fn frames_with_the_same_last_bits_are_told_apart(rt: HostRuntime) -> Result<(), 
     ];
     for (bytes, wanted) in script {
         let heard = entry(Hear(bytes))?;
-        let told = give(&rt, &mut journal, &mut book, &heard);
-        assert_eq!(rt; told, wanted);
+        let answer = give(&rt, &mut journal, &mut book, &heard);
+        assert_eq!(rt; answer, wanted);
     }
     Ok(())
 }
@@ -122,6 +87,7 @@ fn give_change(shown: &mut Book<4>, spare: &mut Book<4>, entry: &Entry) {
     }
 }
 
+// The 256 frames that are compared are KLM1023's and the first 255 replies.
 #[test]
 fn a_second_copy_refuses_the_same(rt: HostRuntime) -> Result<(), Fail> {
     let mut shown = Book::<4>::new();
@@ -129,12 +95,20 @@ fn a_second_copy_refuses_the_same(rt: HostRuntime) -> Result<(), Fail> {
     give_change(&mut shown, &mut spare, &entry(Hear(KLM1023))?);
     for last in 0..=255 {
         let heard = reply(last)?;
+        let decoded = DecodedEntry::of(&heard);
+        assert_eq!(rt; shown.verdict_of(&decoded), Ok(()));
         give_change(&mut shown, &mut spare, &heard);
-        let told = shown.verdict_of(&DecodedEntry::of(&heard));
-        assert_eq!(rt; told.is_err(), last < 255);
-        assert_eq!(rt; spare.verdict_of(&DecodedEntry::of(&heard)), told);
+        let answer = if last == 255 {
+            Ok(())
+        } else {
+            Err(Refusal::Repeated)
+        };
+        assert_eq!(rt; shown.verdict_of(&decoded), answer);
+        assert_eq!(rt; spare.verdict_of(&decoded), answer);
     }
     give_change(&mut shown, &mut spare, &entry(Tick(1))?);
+    assert_eq!(rt; (spare.entries(), spare.now()), (258, 1));
+    assert_eq!(rt; spare.get(0x4840D6), shown.get(0x4840D6));
     for heard in [entry(Hear(KLM1023))?, reply(7)?] {
         assert_eq!(rt; spare.verdict_of(&DecodedEntry::of(&heard)), Ok(()));
     }
