@@ -36,7 +36,7 @@ counted_up-add (suc n) m old = ap (λ k. one_more k) (counted_up-add n m old) �
 pub counted_up-more : (n m old mid new : ℕ) → mid ≡ counted_up m old → new ≡ counted_up n mid → new ≡ counted_up (n + m) old
 counted_up-more n m old mid new p q = q ∙ ap (λ k. counted_up n k) p ∙ counted_up-add n m old
 
--- reads made of those that were left
+-- reads made of the turns left
 pub reads_left : (turns left made old mid new : ℕ) → left ≤ turns → made ≤ left → mid ≡ counted_up (turns - left) old → new ≡ counted_up made mid → new ≡ counted_up (turns - (left - made)) old
 reads_left turns left made old mid new within few p q =
     let same : made + (turns - left) ≡ turns - (left - made) = omega arith in
@@ -44,7 +44,7 @@ reads_left turns left made old mid new within few p q =
 
 -- ---- bytes of one piece
 
--- the first of what is left after some bytes come next
+-- the first bytes of the rest follow the bytes before it
 pub next_piece : (bytes : List ℕ) (i n : ℕ) → take (i + n) bytes ≡ take i bytes ++ take n (take (length bytes - i) (drop i bytes))
 next_piece bytes i n =
     let whole : take (length bytes - i) (drop i bytes) ≡ drop i bytes = take_all (length bytes - i) (drop i bytes) (omega (arith, length-drop i bytes)) in
@@ -106,7 +106,7 @@ TakesBytes-none Took before held x none h = record {
 
 -- ---- reads
 
--- what the reads so far gave, and the lines taken of it
+-- the bytes that the reads so far gave, and the lines taken of them
 pub record GivenSoFar {X E : Type 0} (Took : X → List Cut → Result (Unit {0}) E → X → Type 0) (left_old left_now : Option (List ℕ)) (held : Cut) (x y : X) : Type 0 where
   pub given : List ℕ
   pub bytes : Consumes left_old left_now given
@@ -204,7 +204,7 @@ module _ {X E : Type 0} (Took : X → List Cut → Result (Unit {0}) E → X →
   Taken-close (Ok done) made turns z within reads ends lost over last = Taken-over AtEnd (Ok tt) made turns z refl within reads lost last (refl, ends, over)
   Taken-close (Err stop) made turns z within reads ends lost over last = Taken-over LineStopped (Err stop) made turns z refl within reads lost last tt
 
--- all turns are over
+-- all turns were used
 pub Taken-turns : {X E : Type 0} (Took : X → List Cut → Result (Unit {0}) E → X → Type 0) (old now : Drawn) (held : Cut) (x y : X) → GivenSoFar Took old.left now.left held x y
     → (turn turns : ℕ) → turn ≡ turns → now.reads ≡ counted_up turn old.reads → now.ends ≡ old.ends → now.failures ≡ old.failures → Taken Took old now turns TurnsOver x y (Ok tt)
 Taken-turns Took old now held x y so_far turn turns over reads ends lost =

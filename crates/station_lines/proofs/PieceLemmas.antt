@@ -1,4 +1,4 @@
--- Bytes of one read after another.
+-- The bytes of several reads.
 use Rattle.std.proofs.Common.{◌≡◌, ℕ, ◌+◌, ◌<◌, ◌≤◌, Bool, true, false, not, nat_lt, nat_eq, cond, List, [], ◌++◌, length, take, drop, Option, Some, None, Ok, refl, sym, ap, ◌∙◌, subst, take-append-drop, arith}
 use Rattle.std.proofs.lemmas.Bool.Decides.{nat_tests}
 use Rattle.std.proofs.lemmas.List.{take_at, drop_at, take-append-le, length-take-le}
@@ -12,7 +12,7 @@ use Rattle.station_lines.specs.Source.{is_end, counted_up}
 use Rattle.station_lines.specs.Drawing.{Drawn, Gathers, ReadsMore}
 use Rattle.station_lines.proofs.DrawingLemmas.{counted_up-more}
 
--- the front of a list, after a part behind it was written
+-- the front of a list, once the part behind it was written
 pub grown : (xs ys : List ℕ) (end k n : ℕ) → end ≤ length xs → n ≤ length ys → take (end + n) (put_mid end k xs ys) ≡ take end xs ++ take n ys
 grown xs ys end k n within fits =
     let front = length-take-le end xs within in

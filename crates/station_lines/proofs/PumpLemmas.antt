@@ -1,4 +1,4 @@
--- Lines of a pump taken one after another.
+-- The lines of a pump, taken one after another.
 use Rattle.std.proofs.Common.{◌≡◌, ℕ, Bool, true, false, List, [], ◌∷◌, Result, Ok, Err, refl, ◌∙◌, arith, count_by}
 use Rattle.std.specs.Prelude.{alloc_error, if◌then◌else◌}
 use Rattle.std.specs.declared.alloc.AllocError.{AllocError}
@@ -91,7 +91,7 @@ none_by p none (c ∷ cs) = let here = none c in rw here (none_by p none cs)
 -- ---- the ends of a pump
 
 module _ {F : Type 0} (gives : F → List ℕ → Result (Unit {0}) Refusal → F → Type 0) {x z : Pumping F} {old new : Drawn} {turns : ℕ} (empty : x.tally.lines ≡ 0) where
-  -- what all lines taken leave, by the answer
+  -- what a pump has done once all lines were taken, by its answer
   PumpsAll-taken : (result : Result Tally PumpFault) → tally_of_pump result ≡ z.tally → Taken (Pumps gives) old new turns (ending_of result) x z (want_of result) → PumpsAll gives x.feed z.feed old new turns result
   PumpsAll-taken result told all =
       let counts : Counts heard (tally_of_pump result) all.lines = rw told (Counts-from heard x.tally z.tally all.lines empty all.took.counts) in
@@ -107,7 +107,7 @@ module _ {F : Type 0} (gives : F → List ℕ → Result (Unit {0}) Refusal → 
         accepted = rw told (omega (arith, all.took.accepted, x.tally.by_kind, x.tally.by_answer));
       }
 
-  -- how the lines were ended
+  -- why the lines ended
   pub PumpsAll-ended : (ended : Ended AllocError) → Taken (Pumps gives) old new turns (ending_as ended) x z (stopped_as ended) → PumpsAll gives x.feed z.feed old new turns (answer_of ended z.tally)
   PumpsAll-ended Ends.AtEnd = PumpsAll-taken (Ok z.tally) refl
   PumpsAll-ended Ends.ReadFailed = PumpsAll-taken (Err (Faults.Read z.tally)) refl

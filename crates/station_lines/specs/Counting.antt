@@ -1,4 +1,4 @@
--- Lines by kind, and what a tally counts of them.
+-- The kinds of lines, and what a tally counts of each.
 use Rattle.std.specs.Prelude.{◌≡◌, ℕ, ◌+◌, Bool, true, false, List, Result, Ok, Err, length, count_by, if◌then◌else◌}
 use Rattle.modes_frame.specs.declared.cutter.Cut.{Cut}
 use Rattle.modes_frame.specs.declared.line.Line.TheVariants.{Frame, ModeAc, Blank}
@@ -16,7 +16,7 @@ is_frame (Ok (Received ModeAc)) = false
 is_frame (Ok (Received Blank)) = false
 is_frame (Err fault) = false
 
--- the line tells a moment
+-- the line is a tick
 abbrev pub is_tick : Result Command CommandFault → Bool
 is_tick (Ok (Tick at)) = true
 is_tick (Ok Show) = false
@@ -34,7 +34,7 @@ is_show (Ok (Received ModeAc)) = false
 is_show (Ok (Received Blank)) = false
 is_show (Err fault) = false
 
--- the line is a mode A/C reply or the heartbeat
+-- the line is a Mode A/C reply or a heartbeat
 abbrev pub is_mode_ac : Result Command CommandFault → Bool
 is_mode_ac (Ok (Tick at)) = false
 is_mode_ac (Ok Show) = false
@@ -52,7 +52,7 @@ is_blank (Ok (Received ModeAc)) = false
 is_blank (Ok (Received Blank)) = true
 is_blank (Err fault) = false
 
--- the lines, read so, are counted by their kinds beside what was counted before; the others are faults
+-- the lines, read by `read`, are counted by their kinds, on top of the old counts; the others are faults
 pub record CountsLines (read : Cut → Result Command CommandFault) (old new : Tally) (lines : List Cut) : Type 0 where
   pub lines_more : new.lines ≡ old.lines + length lines
   pub frames_more : new.frames ≡ old.frames + count_by (λ l. is_frame (read l)) lines
@@ -61,7 +61,7 @@ pub record CountsLines (read : Cut → Result Command CommandFault) (old new : T
   pub mode_ac_more : new.mode_ac ≡ old.mode_ac + count_by (λ l. is_mode_ac (read l)) lines
   pub blank_more : new.blank ≡ old.blank + count_by (λ l. is_blank (read l)) lines
 
--- the tally counts these lines, read so, by their kinds; the others are faults
+-- the tally counts these lines, read by `read`, by their kinds; the others are faults
 pub record Counts (read : Cut → Result Command CommandFault) (tally : Tally) (lines : List Cut) : Type 0 where
   pub lines_are : tally.lines ≡ length lines
   pub frames_are : tally.frames ≡ count_by (λ l. is_frame (read l)) lines
@@ -70,7 +70,7 @@ pub record Counts (read : Cut → Result Command CommandFault) (tally : Tally) (
   pub mode_ac_are : tally.mode_ac ≡ count_by (λ l. is_mode_ac (read l)) lines
   pub blank_are : tally.blank ≡ count_by (λ l. is_blank (read l)) lines
 
--- one line more, among so many frames and ticks, and the answer to its call
+-- one more line, with this many frames and ticks, and the answer to its call
 pub record CountsCall (old new : Tally) (frames ticks : ℕ) (is_accepted : Bool) : Type 0 where
   pub lines_more : new.lines ≡ old.lines + 1
   pub frames_more : new.frames ≡ old.frames + frames
@@ -80,7 +80,7 @@ pub record CountsCall (old new : Tally) (frames ticks : ℕ) (is_accepted : Bool
   pub blank_same : new.blank ≡ old.blank
   pub accepted : new.accepted ≡ old.accepted + (if is_accepted then 1 else 0)
 
--- one line more that makes no call, among so many questions for the table, blanks and Mode A/C replies, or a fault
+-- one more line that makes no call: this many questions for the table, blanks and Mode A/C replies, or a fault
 pub record CountsNoCall (old new : Tally) (shows blanks mode_acs : ℕ) : Type 0 where
   pub lines_more : new.lines ≡ old.lines + 1
   pub frames_same : new.frames ≡ old.frames

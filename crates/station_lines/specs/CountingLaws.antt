@@ -1,4 +1,4 @@
--- What a tally counts of lines taken after others: the laws of counting.
+-- The laws of counting: lines counted after others are counted with them.
 use Rattle.std.proofs.Common.{◌≡◌, ◌+◌, Bool, cond, List, [], ◌++◌, Result, length-append, arith, count_by}
 use Rattle.std.proofs.lemmas.List.Sums.{sum_by-append}
 use Rattle.modes_frame.specs.declared.cutter.Cut.{Cut}

@@ -15,11 +15,11 @@ pub record Drawn : Type 0 where
   pub ends : ℕ
   pub failures : ℕ
 
--- what a source is seen as, by what its trait tells of it
+-- a source as its trait shows it
 abbrev pub drawn_of : {S : Type 0} → (S → Option (List ℕ)) → (S → ℕ) → (S → ℕ) → (S → ℕ) → S → Drawn
 drawn_of left reads ends failures source = record { left = left source; reads = reads source; ends = ends source; failures = failures source }
 
--- what reads made one after another gave: these bytes, and the end where the last of them found it
+-- reads made one after another gave these bytes, and the last of them may have found the end
 pub record Gathers (old new : Drawn) (turns : ℕ) (bytes : List ℕ) (made : ℕ) (is_over : Bool) : Type 0 where
   pub given : Consumes old.left new.left bytes
   pub some : 0 < made
@@ -29,7 +29,7 @@ pub record Gathers (old new : Drawn) (turns : ℕ) (bytes : List ℕ) (made : �
   pub over : is_over ≡ true → IsAtEnd new.left
   pub failures : new.failures ≡ old.failures
 
--- a read gave so many bytes after those before it
+-- a read gave n bytes, which follow those before it
 pub record ReadsMore (old new : Drawn) (before after : List ℕ) (n : ℕ) : Type 0 where
   pub bytes : List ℕ
   pub held : after ≡ before ++ bytes
@@ -47,14 +47,14 @@ pub record FailsOnce (old new : Drawn) : Type 0 where
   pub ends : new.ends ≡ old.ends
   pub failures : new.failures ≡ one_more old.failures
 
--- why no further line is taken: the source gave the end, a read failed, all turns are over, or a line stopped the call
+-- why no further line is taken: the source reached its end, a read failed, all turns were used, or a line stopped the call
 pub data Ending : Type 0 where
   AtEnd : Ending
   ReadFailed : Ending
   TurnsOver : Ending
   LineStopped : Ending
 
--- which lines were taken of those of the bytes given, and what the source counted
+-- the lines taken of those in the bytes given, and what the source counted, by the reason
 abbrev pub EndsAs : List ℕ → List Cut → List Cut → ℕ → Drawn → Drawn → Ending → Type 0
 EndsAs given lines left_out turns old new AtEnd = (left_out ≡ []) × (new.ends ≡ one_more old.ends) × IsAtEnd new.left
 EndsAs given lines left_out turns old new ReadFailed = (lines ≡ ended_cuts given) × (new.ends ≡ old.ends)
@@ -69,18 +69,18 @@ is_read_failed ReadFailed = true
 is_read_failed TurnsOver = false
 is_read_failed LineStopped = false
 
--- the bytes that the reads of a call gave, and the lines taken of theirs: a front of all lines
+-- the bytes that the reads of a call gave, and the lines taken of them: a prefix of all lines
 pub record Draws (old new : Drawn) (turns : ℕ) (ending : Ending) (lines : List Cut) : Type 0 where
   pub given : List ℕ
   pub left_out : List Cut
   pub bytes : Consumes old.left new.left given
   pub front : cuts given ≡ lines ++ left_out
   pub ends : EndsAs given lines left_out turns old new ending
-  -- a read failed exactly where that ended the call, and at most so many reads were made
+  -- a read failed exactly where that ended the call, and at most `turns` reads were made
   pub failures : new.failures ≡ counted (not (is_read_failed ending)) old.failures
   pub reads : (made : ℕ) × (made ≤ turns) × (new.reads ≡ counted_up made old.reads)
 
--- lines taken, as Took says, of those that some bytes end, after the bytes before them: all, or a front
+-- the lines taken, as Took says, of those that end in `bytes`, after the bytes before them: all, or a prefix
 pub record TakesBytes {X E : Type 0} (Took : X → List Cut → Result (Unit {0}) E → X → Type 0) (before bytes : List ℕ) (held : Cut) (x y : X) (result : Result (Unit {0}) E) : Type 0 where
   pub lines : List Cut
   pub left_out : List Cut
@@ -88,33 +88,33 @@ pub record TakesBytes {X E : Type 0} (Took : X → List Cut → Result (Unit {0}
   pub all_taken : OnOk result ((left_out ≡ []) × (held ≡ pending (before ++ bytes)))
   pub took : Took x lines result y
 
--- the last line, which no line feed ended, where it isn't empty
+-- the last line, without its line feed, where it isn't empty
 pub record TakesLast {X E : Type 0} (Took : X → List Cut → Result (Unit {0}) E → X → Type 0) (before : List ℕ) (x y : X) (result : Result (Unit {0}) E) : Type 0 where
   pub lines : List Cut
   pub all_told : cuts before ≡ ended_cuts before ++ lines
   pub took : Took x lines result y
 
--- the lines that a call took in the end, as Took says, of what its source gave
+-- all lines that a call took, as Took says, of the bytes that its source gave
 pub record Taken {X E : Type 0} (Took : X → List Cut → Result (Unit {0}) E → X → Type 0) (old new : Drawn) (turns : ℕ) (ending : Ending) (x z : X) (result : Result (Unit {0}) E) : Type 0 where
   pub lines : List Cut
   pub draws : Draws old new turns ending lines
   pub took : Took x lines result z
 
--- the answer of a call that takes lines says this ending
+-- the reason in the answer of a call
 abbrev pub ending_as : {E : Type 0} → Ended E → Ending
 ending_as Ends.AtEnd = AtEnd
 ending_as Ends.ReadFailed = ReadFailed
 ending_as Ends.TurnsOver = TurnsOver
 ending_as (Ends.Stopped stop) = LineStopped
 
--- and whether a line stopped it
+-- whether a line stopped the call, by its answer
 abbrev pub stopped_as : {E : Type 0} → Ended E → Result (Unit {0}) E
 stopped_as Ends.AtEnd = Ok tt
 stopped_as Ends.ReadFailed = Ok tt
 stopped_as Ends.TurnsOver = Ok tt
 stopped_as (Ends.Stopped stop) = Err stop
 
--- what ended a call whose source gave its end, where its last line answered so
+-- why a call ended whose source reached its end, by the answer to its last line
 abbrev pub ended_by : {E : Type 0} → Result (Unit {0}) E → Ended E
 ended_by (Ok done) = Ends.AtEnd
 ended_by (Err stop) = Ends.Stopped stop

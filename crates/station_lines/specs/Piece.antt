@@ -1,7 +1,7 @@
--- What a clause reads of a piece.
+-- What clauses read of a piece.
 use Rattle.std.specs.Prelude.{ℕ, List, take}
 use Rattle.station_lines.specs.declared.piece.Piece.{Piece}
 
--- the bytes that it holds
+-- its bytes
 abbrev pub held : Piece → List ℕ
 held piece = take piece.count piece.bytes

@@ -1,4 +1,4 @@
--- What the lines of a pump do, one after another.
+-- What a pump does with its lines, one after another.
 use Rattle.std.specs.Prelude.{◌≡◌, ℕ, ◌+◌, true, List, [], ◌∷◌, ◌++◌, Result, Ok, Err, is_ok, count_by, alloc_error, if◌then◌else◌}
 use Rattle.std.specs.List.{list_all}
 use Rattle.std.specs.declared.alloc.AllocError.{AllocError}
@@ -17,7 +17,7 @@ use Rattle.station_lines.specs.declared.taking.Ended.{Ended}
 use Rattle.station_lines.specs.declared.taking.Ended.TheVariants as Ends
 use Rattle.station_lines.specs.declared.tally.Tally.{Tally}
 
--- the last of these lines has a frame, whose answer, the last of these, is want of memory; the others are not
+-- the last of these lines has a frame, and its answer, the last of these, is out of memory; no other answer is
 pub record EndsWithWant (lines : List Cut) (answers : List (Result (Unit {0}) Refusal)) : Type 0 where
   pub front : List Cut
   pub last : Cut
@@ -28,21 +28,21 @@ pub record EndsWithWant (lines : List Cut) (answers : List (Result (Unit {0}) Re
   pub told : answers ≡ replies ++ Err NoMemory ∷ []
   pub others : list_all is_reply replies ≡ true
 
--- want of memory stops a pump, and no other refusal does
+-- out of memory stops a pump, and no other refusal does
 abbrev pub stop_after : Result (Unit {0}) Refusal → Result (Unit {0}) AllocError
 stop_after answer = if is_reply answer then Ok tt else Err alloc_error
 
--- want of memory met no line, or the last
+-- no line met out of memory, or only the last one did
 abbrev pub Wants : List Cut → List (Result (Unit {0}) Refusal) → Result (Unit {0}) AllocError → Type 0
 Wants lines answers (Ok done) = list_all is_reply answers ≡ true
 Wants lines answers (Err want) = EndsWithWant lines answers
 
--- where a pump stands: the feed and the tally
+-- the state of a pump: the feed and the tally
 pub record Pumping (F : Type 0) : Type 0 where
   pub feed : F
   pub tally : Tally
 
--- what taking lines leaves
+-- what a pump has done once it has taken these lines
 pub record Pumps {F : Type 0} (gives : F → List ℕ → Result (Unit {0}) Refusal → F → Type 0) (old : Pumping F) (lines : List Cut) (result : Result (Unit {0}) AllocError) (new : Pumping F) : Type 0 where
   pub answers : List (Result (Unit {0}) Refusal)
   pub feeds : Feeds gives old.feed (frames_of lines) answers new.feed
@@ -50,7 +50,7 @@ pub record Pumps {F : Type 0} (gives : F → List ℕ → Result (Unit {0}) Refu
   pub counts : CountsLines heard old.tally new.tally lines
   pub accepted : new.tally.accepted ≡ old.tally.accepted + count_by is_ok answers
 
--- a frame was fed and its line counted: want of memory is told, and no other refusal stops a pump
+-- a frame was fed and its line counted: out of memory stops the pump, and no other refusal does
 pub record PumpsFrame {F : Type 0} (gives : F → List ℕ → Result (Unit {0}) Refusal → F → Type 0) (before after : F) (frame : List ℕ) (old new : Tally) (result : Result (Unit {0}) AllocError) : Type 0 where
   pub answer : Result (Unit {0}) Refusal
   pub fed : gives before frame answer after
@@ -59,36 +59,36 @@ pub record PumpsFrame {F : Type 0} (gives : F → List ℕ → Result (Unit {0})
 
 -- ---- the whole pump
 
--- the answer of a pump that ended so, with what was counted
+-- the answer of a pump that ended so, with what it counted
 abbrev pub answer_of : Ended AllocError → Tally → Result Tally PumpFault
 answer_of Ends.AtEnd tally = Ok tally
 answer_of Ends.ReadFailed tally = Err (Faults.Read tally)
 answer_of Ends.TurnsOver tally = Err (Faults.TooManyTurns tally)
 answer_of (Ends.Stopped want) tally = Err (Faults.NoMemory tally)
 
--- what was counted, whatever the answer
+-- what a pump counted, whatever it answers
 abbrev pub tally_of_pump : Result Tally PumpFault → Tally
 tally_of_pump (Ok tally) = tally
 tally_of_pump (Err (Faults.Read tally)) = tally
 tally_of_pump (Err (Faults.TooManyTurns tally)) = tally
 tally_of_pump (Err (Faults.NoMemory tally)) = tally
 
--- whether memory was wanting, by the answer
+-- whether the pump was out of memory, by its answer
 abbrev pub want_of : Result Tally PumpFault → Result (Unit {0}) AllocError
 want_of (Ok tally) = Ok tt
 want_of (Err (Faults.Read tally)) = Ok tt
 want_of (Err (Faults.TooManyTurns tally)) = Ok tt
 want_of (Err (Faults.NoMemory tally)) = Err alloc_error
 
--- why no further line was taken, by the answer
+-- why no further line was taken, by the pump's answer
 abbrev pub ending_of : Result Tally PumpFault → Ending
 ending_of (Ok tally) = AtEnd
 ending_of (Err (Faults.Read tally)) = ReadFailed
 ending_of (Err (Faults.TooManyTurns tally)) = TurnsOver
 ending_of (Err (Faults.NoMemory tally)) = LineStopped
 
--- some lines were taken of what the source gave, up to the end or the fault: the feed went through its steps for
--- their frames, and the tally counts them
+-- lines were taken of what the source gave, up to its end or the fault. The feed took their frames step by step,
+-- and the tally counts the lines
 pub record PumpsAll {F : Type 0} (gives : F → List ℕ → Result (Unit {0}) Refusal → F → Type 0) (before after : F) (source_old source_new : Drawn) (turns : ℕ) (result : Result Tally PumpFault) : Type 0 where
   pub lines : List Cut
   pub answers : List (Result (Unit {0}) Refusal)

@@ -1,4 +1,4 @@
--- Lines of a pump taken after others are taken with them: the laws of what takes them.
+-- The laws of a pump: lines that it takes after others are taken with them.
 use Rattle.std.proofs.Common.{◌≡◌, ℕ, true, List, [], ◌∷◌, ◌++◌, Result, Ok, Err, is_ok, refl, sym, ap, ◌∙◌, subst, append_assoc, arith}
 use Rattle.std.specs.declared.alloc.AllocError.{AllocError}
 use Rattle.std.specs.List.{list_all}

@@ -7,11 +7,11 @@ abbrev pub is_end : {E : Type 0} → Result ℕ E → ℕ → Bool
 is_end (Ok n) room = n == 0 && not (room == 0)
 is_end (Err e) room = false
 
--- a stored count after one more: it stops at 2^64 - 1
+-- a stored count and one more, up to 2^64 - 1
 abbrev pub one_more : ℕ → ℕ
 one_more n = counted false n
 
--- a stored count after n more
+-- a stored count and n more
 abbrev pub counted_up : ℕ → ℕ → ℕ
 counted_up zero old = old
 counted_up (suc n) old = one_more (counted_up n old)

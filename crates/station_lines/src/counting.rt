@@ -1,4 +1,4 @@
-//! Lines counted, each by its kind and its call by the answer.
+//! Counts lines by their kind, and the calls that they make by the answer.
 ghost use Rattle.std.specs.Prelude.{◌≡◌, ◌+◌, ◌^◌, ◌<◌};
 ghost use Rattle.station_lines.specs.Counting.{CountsCall, CountsNoCall};
 
@@ -19,7 +19,7 @@ impl Tally {
         }
     }
 
-    /// Counts a line that tells a moment, and the answer to its tick.
+    /// Counts a line with a tick, and the answer to it.
     pub fn tick(&mut self, is_accepted: bool)
         requires room { self.old.lines + 1 < 2 ^ 64 }
         ensures { CountsCall self.old self.new 0 1 is_accepted }

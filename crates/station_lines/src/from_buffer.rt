@@ -1,4 +1,4 @@
-//! A source over a buffered reader, which knows when bytes are at hand.
+//! A source over a buffered reader. It knows when bytes are at hand.
 ghost use Rattle.std.specs.Prelude.{◌≡◌, ◌<◌, ◌≤◌, length, nat_lt, take};
 ghost use Rattle.std.specs.Io.Buffered.{reader_buffer, reader_remaining};
 ghost use Rattle.std.specs.Io.KnownBytes.{Consumes};
@@ -11,7 +11,7 @@ use crate::source::Source;
 use station_report::Failed;
 use std::io::{BufRead, BufReader, Read};
 
-/// Reads from a buffered reader as [`FromRead`] does, and knows that the bytes in the buffer are at hand.
+/// Reads from a buffered reader as [`FromRead`] does. Bytes in its buffer are at hand.
 #[derive(Drop)]
 pub struct FromBuffer<R> {
     inner: BufReader<R>,
@@ -20,7 +20,7 @@ pub struct FromBuffer<R> {
     failures: u64,
 }
 
-// Takes what the buffer of a reader holds, as far as there is room.
+// Takes the bytes in the buffer of a reader, as many as there is room for.
 fn take_held<R: Read>(reader: &mut BufReader<R>, room: &mut [u8]) -> usize
     requires { 0 < length (reader_buffer reader.old) }
     ensures within { result ≤ length room.new }
@@ -37,7 +37,7 @@ fn take_held<R: Read>(reader: &mut BufReader<R>, room: &mut [u8]) -> usize
 }
 
 impl<R> FromBuffer<R> {
-    /// A source of what the reader gives.
+    /// A source of the bytes that this reader gives.
     pub fn new(inner: BufReader<R>) -> Self
         ensures inner { result.inner ≡ inner }
         ensures reads { result.reads ≡ 0 }

@@ -18,7 +18,7 @@ pub struct FromRead<R> {
 }
 
 impl<R> FromRead<R> {
-    /// A source of what the reader gives.
+    /// A source of the bytes that this reader gives.
     pub fn new(inner: R) -> Self
         ensures inner { result.inner ≡ inner }
         ensures reads { result.reads ≡ 0 }

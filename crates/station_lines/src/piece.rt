@@ -1,4 +1,4 @@
-//! Bytes of one read after another, gathered while they are at hand.
+//! The bytes of several reads, gathered while they are at hand.
 ghost use Rattle.std.specs.Prelude.{◌≡◌, ◌+◌, ◌<◌, ◌≤◌, ◌++◌, ℕ, List, [], length, IfOk, OnErr, is_ok, true};
 ghost use Rattle.station_lines.specs.Drawing.{FailsOnce, Gathers, ReadsMore, drawn_of};
 ghost use Rattle.station_lines.specs.Source.{longest_piece};
@@ -12,10 +12,10 @@ use station_report::Failed;
 // The most bytes asked for by one read.
 const READ: usize = 512;
 
-/// The most bytes of a piece. A buffer of as many before a reader gives such pieces where the reader doesn't wait.
+/// The most bytes of a piece. Pieces get this long where a buffer of this capacity is full.
 pub const PIECE: usize = 131_072;
 
-/// The bytes of one read, and of those after it whose bytes were at hand.
+/// The bytes of one read, and of the reads after it that didn't wait.
 #[derive(Drop)]
 pub(crate) struct Piece {
     bytes: [u8; PIECE],
@@ -23,7 +23,7 @@ pub(crate) struct Piece {
     ghost within: { count ≤ longest_piece },
 }
 
-/// The reads that gave a piece.
+/// The reads that filled a piece.
 #[derive(Clone, Copy, Debug, PartialEq, Eq)]
 pub(crate) struct Gathered {
     /// How many reads were made.
@@ -51,14 +51,14 @@ impl Piece {
         &self.bytes[..self.count]
     }
 
-    // Whether one more read has room.
+    // Whether there is room for one more read.
     fn has_room(&self) -> bool
         ensures { result ≡ true → self.now.count + 512 ≤ longest_piece }
     {
         self.count + READ <= PIECE
     }
 
-    // Reads once, after the bytes that it holds. Answers how many bytes came.
+    // Reads once, behind the bytes that it has. Answers how many bytes came.
     fn read_more<S: Source>(&mut self, from: &mut S) -> Result<usize, Failed>
         requires room { self.old.count + 512 ≤ longest_piece }
         ensures ok { IfOk result (λ n. ReadsMore
@@ -75,8 +75,8 @@ impl Piece {
         Ok(count)
     }
 
-    /// Reads up to 512 bytes, and then further such reads while bytes are at hand and there are turns left and room. Only
-    /// the first of them can wait or fail.
+    /// Reads up to 512 bytes, and again while bytes are at hand, turns are left and there is room.
+    /// Only the first read can wait or fail.
     pub(crate) fn gather<S: Source>(&mut self, from: &mut S, turns: u32) -> Result<Gathered, Failed>
         requires { 0 < turns }
         ensures ok { IfOk result (λ g. Gathers

@@ -1,4 +1,4 @@
-//! What gives bytes.
+//! Sources of bytes.
 ghost use Rattle.std.specs.Prelude.{◌≡◌, ◌≤◌, ℕ, Bool, true, false, List, Option, IfOk, is_ok, not, length};
 ghost use Rattle.std.specs.Io.KnownBytes.{ReadConsumes};
 ghost use Rattle.station_report.specs.Sink.{counted};
@@ -6,9 +6,7 @@ ghost use Rattle.station_lines.specs.Source.{is_end, one_more};
 
 use station_report::Failed;
 
-/// What gives bytes, as a file or a pipe does.
-///
-/// A count that stands at 2^64 - 1 stays there.
+/// Gives bytes, as a file or a pipe does. Its counts stop at 2^64 - 1.
 pub trait Source {
     /// The bytes still to come, where they are known.
     ghost left: { Self → Option (List ℕ) };
@@ -25,14 +23,15 @@ pub trait Source {
     /// The next read can't fail.
     ghost at_hand: { Self → Bool } = { λ _. false };
 
-    /// Whether bytes are at hand: the next read doesn't wait, and can't fail. A source that doesn't know says no.
+    /// Whether bytes are at hand: the next read doesn't wait and can't fail. A source that can't know answers no.
     fn is_at_hand(&self) -> bool
         ensures { result ≡ true → at_hand self.now ≡ true }
     {
         false
     }
 
-    /// Gives some of the bytes to come, and none only at the end or without room.
+    /// Reads some of the bytes to come and answers how many: 0 only at the end, or where `buffer` is empty.
+    /// [`Failed`] where the read failed.
     fn read(&mut self, buffer: &mut [u8]) -> Result<usize, Failed>
         ensures within { IfOk result (λ n. n ≤ length buffer.new) }
         ensures bytes { ReadConsumes (left self.old) (left self.new) result buffer.new }

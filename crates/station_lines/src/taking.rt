@@ -1,4 +1,4 @@
-//! Lines taken one after another: what takes them, and the loops that bring them to it.
+//! What takes lines one after another, and the loops that give it the lines of a source.
 ghost use Rattle.std.specs.Prelude.{◌≡◌, ℕ, ◌+◌, ◌^◌, ◌<◌, ◌≤◌, List, length};
 ghost use Rattle.modes_frame.specs.Lines.{pending};
 ghost use Rattle.station_lines.specs.Drawing.{TakesBytes, TakesLast, Taken, drawn_of, ended_by, ending_as, stopped_as};
@@ -16,7 +16,7 @@ pub trait LineTaker {
     /// Why no further line is taken.
     type Stop;
 
-    /// What took lines before and after them, and whether the last of them stopped it.
+    /// The state before some lines, these lines, whether the last of them stopped it, and the state after them.
     ghost took: { Self → List Cut → Result (Unit {0}) Self.Stop → Self → Type 0 };
 
     /// How many lines it has counted.
@@ -36,19 +36,19 @@ pub trait LineTaker {
     /// Where there are no lines, nothing changes.
     ghost none: { (x : Self) → took x [] (Ok tt) x };
 
-    /// Lines taken after others are taken with them.
+    /// Lines, and then others, are all these lines in order.
     ghost then: { (x y z : Self) (cs ds : List Cut) (r : Result (Unit {0}) Self.Stop)
         → took x cs (Ok tt) y → took y ds r z → took x (cs ++ ds) r z };
 }
 
-/// Takes the frames of lines that were read where they lay.
+/// Takes the frames of lines that were read in place.
 pub trait FrameTaker: LineTaker {
     ghost use Rattle.std.specs.Prelude.{◌≡◌, ℕ, ◌+◌, ◌^◌, ◌<◌, ◌≤◌, List, [], ◌∷◌, Ok};
     ghost use Rattle.modes_frame.specs.declared.cutter.Cut.TheVariants.{Whole};
     ghost use Rattle.modes_frame.specs.declared.line.Line.TheVariants as Lines;
     ghost use Rattle.modes_frame.specs.Reading.{reading_of};
 
-    /// Takes the line that says this frame.
+    /// Takes a line of this frame.
     fn take_frame<R: Wait>(&mut self, rt: &R, frame: Frame) -> Result<(), Self::Stop>
         requires room { Self.counted self.old + 1 < 2 ^ 64 }
         ensures counted { Self.counted self.new ≤ Self.counted self.old + 1 }
@@ -62,7 +62,7 @@ pub trait PieceTaker: LineTaker {
     ghost use Rattle.modes_frame.specs.Lines.{pending};
     ghost use Rattle.station_lines.specs.Drawing.{TakesBytes};
 
-    /// Takes the lines that these bytes end, where the cutter holds what came before them.
+    /// Takes the lines that end in `bytes`. The cutter has the bytes of the first that came before these.
     fn take_piece<R: Wait>(
         &mut self,
         rt: &R,
@@ -80,17 +80,17 @@ pub trait PieceTaker: LineTaker {
 /// Why no further line was taken.
 #[derive(Clone, Copy, Debug, PartialEq, Eq)]
 pub enum Ended<E> {
-    /// The source gave its end.
+    /// The source reached its end.
     AtEnd,
     /// A read failed.
     ReadFailed,
-    /// All turns were over.
+    /// All turns were used.
     TurnsOver,
     /// A line stopped it.
     Stopped(E),
 }
 
-/// Takes the lines that these bytes end one by one, the plain ones where they lie.
+/// Takes the lines that end in `bytes` one by one, plain ones in place.
 pub fn take_each<T: FrameTaker, R: Wait>(
     rt: &R,
     taker: &mut T,
@@ -120,7 +120,7 @@ pub fn take_each<T: FrameTaker, R: Wait>(
     Ok(())
 }
 
-// Takes the last line, which no line feed ended, if it isn't empty.
+// Takes a last line without its line feed, unless it is empty.
 fn take_last<T: LineTaker, R: Wait>(
     rt: &R,
     taker: &mut T,
@@ -137,7 +137,7 @@ fn take_last<T: LineTaker, R: Wait>(
     }
 }
 
-// What ended a call whose source gave its end: that, or its last line.
+// Why a call ended whose source reached its end: there, or at its last line.
 fn after_the_last<E>(stopped: Result<(), E>) -> Ended<E>
     ensures { result ≡ ended_by stopped }
 {
@@ -147,9 +147,10 @@ fn after_the_last<E>(stopped: Result<(), E>) -> Ended<E>
     }
 }
 
-/// Takes the lines of a source in their order: at most `turns` reads of up to 512 bytes, up to the end of the source,
-/// whose last line may lack its line feed. After a fault, a line that hasn't ended is dropped. Lines of several reads are
-/// taken as one piece where bytes are at hand.
+/// Takes the lines of a source, in order, by at most `turns` reads of up to 512 bytes each. It ends at the end of the
+/// source, whose last line may lack its line feed. Where it ends before that, a line that hasn't ended is dropped.
+///
+/// The bytes of several reads are one piece where they are at hand.
 pub fn take_lines<T: PieceTaker, S: Source, R: Wait>(
     rt: &R,
     taker: &mut T,

@@ -1,4 +1,4 @@
-//! What was counted of lines taken.
+//! Counts of lines.
 ghost use Rattle.std.specs.Prelude.{◌≡◌, ◌+◌};
 
 /// Counts of lines by kind, and of calls by answer.
@@ -8,7 +8,7 @@ pub struct Tally {
     pub lines: u64,
     /// Lines with a frame of 56 or 112 bits.
     pub frames: u64,
-    /// Lines that tell a moment.
+    /// Lines with a tick.
     pub ticks: u64,
     /// Lines that ask for the table.
     pub shows: u64,
@@ -20,14 +20,14 @@ pub struct Tally {
     pub faults: u64,
     /// Frames and ticks that were accepted.
     pub accepted: u64,
-    /// Frames and ticks that were refused, frames that repeat one heard since the newest tick among them.
+    /// Frames and ticks that were refused. A frame that repeats one heard since the newest tick is refused too.
     pub refused: u64,
     pub ghost by_kind: { lines ≡ frames + ticks + shows + blank + mode_ac + faults },
     pub ghost by_answer: { accepted + refused ≡ frames + ticks },
 }
 
 impl Tally {
-    /// Nothing counted yet.
+    /// A tally of no lines.
     pub fn new() -> Self
         ensures { result.lines ≡ 0 }
     {

@@ -1,4 +1,4 @@
--- Whole degrees and the part after the point, divided apart.
+-- Whole degrees and the part after the point, by two divisions in the place of one.
 use Rattle.std.proofs.Common.{◌≡◌, ℕ, ◌+◌, ◌*◌, ◌/◌, ◌%◌, ◌<◌, ap, ◌∙◌, arith}
 use Rattle.std.proofs.Math.Nat.{mod-add-div', add-mul-div_right, mod-lt}
 use Rattle.std.proofs.Math.Arith.{digits_div, digits_mod}

@@ -2,19 +2,19 @@
 use Rattle.std.specs.Prelude.{◌≡◌, ℕ, ◌+◌, ◌-◌, ◌^◌, Bool, true, false, List, ◌++◌, Option, Result, MatchResult, is_ok, min}
 use Rattle.std.specs.Io.KnownBytes.{Appends}
 
--- a stored count of failures after a call that went well or not: it stops at 2^64 - 1
+-- a stored count after a call: as before where it went well, else one more, up to 2^64 - 1
 abbrev pub counted : Bool → ℕ → ℕ
 counted true n = n
 counted false n = min (n + 1) (2 ^ 64 - 1)
 
--- known bytes grow by a front of these
+-- the known bytes grow by a prefix of this text
 pub record AppendsFront (old new : Option (List ℕ)) (text : List ℕ) : Type 0 where
   pub front : List ℕ
   pub rest : List ℕ
   pub parts : text ≡ front ++ rest
   pub grown : Appends old new front
 
--- all of the text was taken and nothing failed, or the sink failed once and a front of the text was taken
+-- the whole text was taken and nothing failed, or the sink failed once and took a prefix of the text
 pub record TakesAll {E : Type 0} (old new : Option (List ℕ)) (failed_old failed_new : ℕ) (text : List ℕ) (result : Result (Unit {0}) E) : Type 0 where
   pub bytes : MatchResult result (λ _. Appends old new text) (λ _. AppendsFront old new text)
   pub failures : failed_new ≡ counted (is_ok result) failed_old

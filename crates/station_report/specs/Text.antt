@@ -12,11 +12,11 @@ use Rattle.station_journal.specs.declared.aircraft.Aircraft.{Aircraft}
 
 -- ---- columns
 
--- spaces up to the width stand before the text; a wider text stands whole
+-- the text with spaces before it, up to the width; a wider text stays whole
 abbrev pub right : ℕ → List ℕ → List ℕ
 right width text = replicate (width - length text) 32 ++ text
 
--- spaces up to the width stand after the text; a wider text stands whole
+-- the text with spaces after it, up to the width; a wider text stays whole
 abbrev pub left : ℕ → List ℕ → List ℕ
 left width text = text ++ replicate (width - length text) 32
 
@@ -34,7 +34,7 @@ unfoldable pub address_text : ℕ → List ℕ
 address_text a = hex_digit (a / 1048576 % 16) ∷ hex_digit (a / 65536 % 16) ∷ hex_digit (a / 4096 % 16)
     ∷ hex_digit (a / 256 % 16) ∷ hex_digit (a / 16 % 16) ∷ hex_digit (a % 16) ∷ []
 
--- a callsign stands as it is
+-- a callsign is printed as it is
 abbrev pub callsign_text : List ℕ → List ℕ
 callsign_text characters = characters
 
@@ -59,11 +59,11 @@ five_digits n = (48 + n / 10000 % 10) ∷ (48 + n / 1000 % 10) ∷ (48 + n / 100
 abbrev pub hundred_thousandths : Degrees → ℕ
 hundred_thousandths d = unsigned_abs d.num * 100000 / d.den
 
--- the sign stands where the number is negative and some digit isn't 0
+-- a minus sign where the number is negative and some digit isn't 0
 abbrev pub degrees_sign : Bool → Bool → List ℕ
 degrees_sign negative is_zero = if negative then (if is_zero then [] else codes "-") else []
 
--- whole degrees and what stands after the point
+-- the sign, the whole degrees and the digits after the point
 abbrev pub parts_text : Bool → ℕ → ℕ → List ℕ
 parts_text negative whole part =
     degrees_sign negative (whole == 0 && part == 0) ++ decimal whole ++ codes "." ++ five_digits part
@@ -80,7 +80,7 @@ longitude_text p = degrees_text p.lon
 
 -- ---- lines
 
--- the line of an aircraft at a moment; its age is in whole seconds
+-- the line of an aircraft at a time in milliseconds; its age is in whole seconds
 unfoldable pub row_text : ℕ → Aircraft → List ℕ
 row_text now a = right 6 (address_text a.address)
     ++ 32 ∷ [] ++ left 8 (or_dash callsign_text a.callsign)
@@ -93,17 +93,18 @@ row_text now a = right 6 (address_text a.address)
     ++ 32 ∷ [] ++ right 3 (decimal ((now - a.heard) / 1000))
     ++ 10 ∷ []
 
+-- the time in milliseconds, and how many rows there are
 unfoldable pub first_line : ℕ → ℕ → List ℕ
 first_line now count = codes "now " ++ decimal now ++ codes " aircraft " ++ decimal count ++ codes "\n"
 
 unfoldable pub header : List ℕ
 header = codes "  ADDR CALLSIGN    ALT SQWK     VELOCITY   VERT        LAT        LON AGE\n"
 
--- the whole table at a moment
+-- the whole table at a time in milliseconds
 abbrev pub text : List Aircraft → ℕ → List ℕ
 text rows now = first_line now (length rows) ++ header ++ flat_map (row_text now) rows
 
--- what a row has to be for its line to be written: heard by the moment, with denominators of at least 1
+-- a row that a table at this time can print: heard by then, with denominators of at least 1
 pub record IsPrintableRow (now : ℕ) (a : Aircraft) : Type 0 where
   pub heard : a.heard ≤ now
   pub whole : IfSome a.position IsWhole

@@ -1,8 +1,8 @@
--- What a sink over a writer shows.
+-- What clauses read of a sink over a writer.
 use Rattle.std.specs.Prelude.{ℕ}
 use Rattle.station_report.specs.declared.to_write.ToWrite.{ToWrite}
 
--- the writer that bytes are passed on to
+-- the writer that takes the bytes
 abbrev pub writer_of : {W : Type 0} → ToWrite W → W
 writer_of sink = sink.inner
 

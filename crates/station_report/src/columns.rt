@@ -21,7 +21,7 @@ fn hex_digit(d: u32) -> u8
     }
 }
 
-/// Six upper-case hexadecimal digits.
+/// Six hexadecimal digits in upper case.
 #[tactic(auto, unfolding(crate::specs::Text::address_text))]
 pub(crate) fn address_field(address: u32) -> Field
     ensures { result.items ≡ address_text address }
@@ -36,6 +36,7 @@ pub(crate) fn address_field(address: u32) -> Field
     field
 }
 
+/// A callsign, or a dash.
 pub(crate) fn callsign_field(callsign: Option<Callsign>) -> Field
     ensures { result.items ≡ or_dash callsign_text callsign }
 {
@@ -49,7 +50,7 @@ pub(crate) fn callsign_field(callsign: Option<Callsign>) -> Field
     field
 }
 
-/// A whole number, as an altitude in feet or a vertical rate in feet a minute.
+/// A whole number, or a dash: an altitude in feet, or a vertical rate in feet per minute.
 pub(crate) fn signed_field(n: Option<i32>) -> Field
     ensures { result.items ≡ or_dash signed_decimal n }
 {
@@ -70,7 +71,7 @@ pub(crate) fn decimal_field(n: u64) -> Field
     field
 }
 
-/// Four octal digits.
+/// Four octal digits, or a dash.
 pub(crate) fn squawk_field(squawk: Option<Squawk>) -> Field
     ensures { result.items ≡ or_dash squawk_text squawk }
 {
@@ -94,6 +95,7 @@ fn push_squawk(field: &mut Field, squawk: Squawk)
     field.push(b'0' + (value % 8) as u8);
 }
 
+/// A velocity in knots, or a dash.
 pub(crate) fn velocity_field(velocity: Option<Velocity>) -> Field
     ensures { result.items ≡ or_dash velocity_text velocity }
 {
@@ -105,7 +107,7 @@ pub(crate) fn velocity_field(velocity: Option<Velocity>) -> Field
     field
 }
 
-/// `east/north`, `Hheading/Tspeed` or `Hheading/Ispeed`.
+// `east/north`, `Hheading/Tspeed` or `Hheading/Ispeed`.
 #[tactic(auto, unfolding(crate::specs::Text::velocity_text))]
 fn push_velocity(field: &mut Field, velocity: Velocity)
     requires { array_vec_len field.old ≡ 0 }
@@ -131,6 +133,7 @@ fn push_velocity(field: &mut Field, velocity: Velocity)
     }
 }
 
+/// A latitude in degrees, or a dash.
 pub(crate) fn latitude_field(position: Option<Position>) -> Field
     requires { IfSome position IsWhole }
     ensures { result.items ≡ or_dash latitude_text position }
@@ -143,6 +146,7 @@ pub(crate) fn latitude_field(position: Option<Position>) -> Field
     field
 }
 
+/// A longitude in degrees, or a dash.
 pub(crate) fn longitude_field(position: Option<Position>) -> Field
     requires { IfSome position IsWhole }
     ensures { result.items ≡ or_dash longitude_text position }
@@ -155,7 +159,7 @@ pub(crate) fn longitude_field(position: Option<Position>) -> Field
     field
 }
 
-/// Degrees, cut off after five decimals.
+// Degrees, cut off after five decimals.
 #[tactic(auto, unfolding(crate::specs::Text::degrees_text))]
 fn push_degrees(field: &mut Field, degrees: Degrees)
     requires empty { array_vec_len field.old ≡ 0 }
@@ -168,7 +172,7 @@ fn push_degrees(field: &mut Field, degrees: Degrees)
     push_parts(field, degrees.num.is_negative(), magnitude / den, part);
 }
 
-/// Whole degrees, and what stands after the point.
+// The sign, the whole degrees and the digits after the point.
 fn push_parts(field: &mut Field, is_negative: bool, whole: u64, part: u64)
     requires { array_vec_len field.old ≡ 0 }
     ensures { field.new.items ≡ field.old.items ++ parts_text is_negative whole part }

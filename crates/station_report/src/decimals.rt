@@ -8,7 +8,7 @@ ghost use Rattle.station_report.specs.Text.{five_digits};
 use arrayvec::ArrayVec;
 use itoa::Buffer;
 
-/// The text of one field, of which the widest has 27 bytes.
+/// The text of one field. The widest has 27 bytes.
 pub(crate) type Field = ArrayVec<u8, 32>;
 
 // Appends a text that the field has room for.
@@ -20,7 +20,7 @@ fn push_text(field: &mut Field, text: &str)
     let _room = field.try_extend_from_slice(text.as_bytes());
 }
 
-/// Appends a number in decimal, to a field with room for any.
+/// Appends a number in decimal: at most 20 digits.
 pub(crate) fn push_number(field: &mut Field, n: u64)
     requires { array_vec_len field.old + 20 ≤ 32 }
     ensures items { field.new.items ≡ field.old.items ++ decimal n }
@@ -40,7 +40,7 @@ pub(crate) fn push_signed(field: &mut Field, n: i32)
     push_text(field, buffer.format(n));
 }
 
-/// Appends a short number in decimal.
+/// Appends a number in decimal: at most 5 digits.
 pub(crate) fn push_short(field: &mut Field, n: u16)
     requires { array_vec_len field.old + 5 ≤ 32 }
     ensures items { field.new.items ≡ field.old.items ++ decimal n }
@@ -50,7 +50,7 @@ pub(crate) fn push_short(field: &mut Field, n: u16)
     push_text(field, buffer.format(n));
 }
 
-/// Appends the last five digits of a number, zeros too.
+/// Appends the last five decimal digits of a number, zeros too.
 #[tactic(auto, unfolding(crate::specs::Text::five_digits))]
 pub(crate) fn push_five_digits(field: &mut Field, n: u64)
     requires { array_vec_len field.old + 5 ≤ 32 }

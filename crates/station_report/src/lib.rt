@@ -1,4 +1,4 @@
-//! The table of aircraft as text, and the sinks of bytes that it is written to.
+//! The text of the table of aircraft, and the sinks that take its bytes.
 #![tactic(auto)]
 
 mod columns;

@@ -14,15 +14,16 @@ use crate::sinks::{Sink, WriteFault, write_all};
 use arrayvec::ArrayVec;
 use station_journal::{Aircraft, Rows};
 
-/// The text of one line: nine fields at the most, each with a byte after it.
+// The text of one line: at most nine fields, each with a byte after it.
 type Line = ArrayVec<u8, 320>;
 
 const HEADER: &[u8] =
     b"  ADDR CALLSIGN    ALT SQWK     VELOCITY   VERT        LAT        LON AGE\n";
 
-/// Writes the table of the rows at a moment, in milliseconds.
-/// Each row is heard at or before that moment, and its position has denominators of at least 1.
-/// Where the sink fails, a front of the table was taken and nothing more is written.
+/// Writes the table of `rows` at the time `now`, in milliseconds.
+/// Each row must be heard by then, and its position must have denominators of at least 1.
+///
+/// [`WriteFault`] where the sink failed: it has taken a prefix of the table, and is given no more.
 pub fn table<R: Rows, S: Sink>(rows: &R, now: u64, out: &mut S) -> Result<(), WriteFault>
     requires rows { All (IsPrintableRow now) (R.rows rows.now) }
     ensures { TakesAll (S.taken out.old) (S.taken out.new) (S.failures out.old) (S.failures out.new)
@@ -84,7 +85,7 @@ fn push_text(line: &mut Line, text: &[u8])
     let _fits = line.try_extend_from_slice(text);
 }
 
-/// Appends a field, with spaces before it up to the width.
+// Appends a field, with spaces before it up to the width.
 fn push_right(line: &mut Line, width: usize, field: &Field)
     requires width { width ≤ 32 }
     requires room { array_vec_len line.old + 32 ≤ 320 }
@@ -97,7 +98,7 @@ fn push_right(line: &mut Line, width: usize, field: &Field)
     let _fits = line.try_extend_from_slice(field.as_slice());
 }
 
-/// Appends a field, with spaces after it up to the width.
+// Appends a field, with spaces after it up to the width.
 fn push_left(line: &mut Line, width: usize, field: &Field)
     requires width { width ≤ 32 }
     requires room { array_vec_len line.old + 32 ≤ 320 }

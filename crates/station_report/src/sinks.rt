@@ -1,4 +1,4 @@
-//! What takes bytes.
+//! Sinks of bytes.
 
 ghost use Rattle.std.specs.Prelude.{◌≡◌, ℕ, ◌+◌, ◌-◌, ◌^◌, ◌<◌, ◌≤◌, List, Option, IfOk, OnOk, OnErr, is_ok, min, length, take};
 ghost use Rattle.std.specs.Io.KnownBytes.{Appends, Keeps, WriteAppends};
@@ -12,7 +12,7 @@ pub struct Failed;
 #[derive(Clone, Copy, Debug, PartialEq, Eq)]
 pub struct WriteFault;
 
-/// A taker of bytes, which tells what it took and how often it failed.
+/// Takes bytes. Its contract says which bytes it took, and how often it failed.
 pub trait Sink {
     /// The bytes taken so far, where they are known.
     ghost taken: { Self → Option (List ℕ) };
@@ -20,20 +20,21 @@ pub trait Sink {
     /// The writes and flushes that failed so far, up to 2^64 - 1.
     ghost failures: { Self → ℕ };
 
-    /// Takes bytes from the front of a piece, at least one where it has one, and tells how many.
+    /// Takes bytes from the front of `piece` and answers how many: at least one, unless `piece` is empty.
+    /// [`Failed`] where it took none.
     fn write(&mut self, piece: &[u8]) -> Result<usize, Failed>
         ensures within { IfOk result (λ n. n ≤ length piece.now) }
         ensures some { 0 < length piece.now → IfOk result (λ n. 0 < n) }
         ensures bytes { WriteAppends (taken self.old) (taken self.new) result piece.now }
         ensures failures { failures self.new ≡ counted (is_ok result) (failures self.old) };
 
-    /// Hands on what was taken, to where the sink passes it.
+    /// Passes on the bytes taken so far. [`Failed`] where that failed.
     fn flush(&mut self) -> Result<(), Failed>
         ensures bytes { Keeps (taken self.old) (taken self.new) }
         ensures failures { failures self.new ≡ counted (is_ok result) (failures self.old) };
 }
 
-/// Writes a whole piece, and stops at the first failure.
+/// Writes a whole piece. Stops at the first failure.
 pub(crate) fn write_all<S: Sink>(out: &mut S, piece: &[u8]) -> Result<(), WriteFault>
     ensures { TakesAll (S.taken out.old) (S.taken out.new) (S.failures out.old) (S.failures out.new) piece.now result }
 {
@@ -47,7 +48,8 @@ pub(crate) fn write_all<S: Sink>(out: &mut S, piece: &[u8]) -> Result<(), WriteF
     Ok(())
 }
 
-/// Flushes after a text was written. Where that failed, it does nothing and answers the same fault.
+/// Flushes after a text was written. [`WriteFault`] where the flush fails.
+/// Where the text wasn't written, it answers that fault and doesn't flush.
 pub fn flush_after<S: Sink>(written: Result<(), WriteFault>, out: &mut S) -> Result<(), WriteFault>
     ensures { (before : Option (List ℕ)) (failed : ℕ) (text : List ℕ) →
         TakesAll before (S.taken out.old) failed (S.failures out.old) text written →

@@ -6,7 +6,7 @@ use crate::sinks::{Failed, Sink};
 use std::io::Write;
 
 /// Passes bytes on to a writer, and counts the writes and flushes that failed.
-/// A write that takes nothing of a piece counts as a failure, and so does one that a signal interrupted.
+/// A write that takes nothing of a non-empty piece is a failure, and so is one that a signal interrupts.
 #[derive(Drop)]
 pub struct ToWrite<W> {
     inner: W,
@@ -34,7 +34,7 @@ impl<W> ToWrite<W> {
         inner
     }
 
-    /// Counts a failure, up to 2^64 - 1.
+    // Counts a failure, up to 2^64 - 1.
     fn failure(&mut self) -> Failed
         ensures inner { writer_of self.new ≡ writer_of self.old }
         ensures failures { failure_count self.new ≡ counted false (failure_count self.old) }
