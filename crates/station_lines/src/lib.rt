@@ -1,8 +1,10 @@
-//! The lines of a source: what each says, what is counted of them, and the pump that feeds their frames.
+//! The lines of a source: what each says, how they are counted, and the pump that feeds their frames.
 #![tactic(auto)]
 
 pub mod command;
 mod counting;
+#[cfg(test)]
+mod fakes;
 pub mod feed;
 pub mod from_buffer;
 pub mod from_read;

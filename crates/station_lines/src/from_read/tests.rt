@@ -1,29 +1,8 @@
 //! Sources over readers.
+use crate::fakes::{MANY_BYTES, Torn, read_bytes};
 use crate::from_read::FromRead;
 use crate::source::Source;
 use station_report::Failed;
-use std::io;
-use std::io::{ErrorKind, Read};
-
-// Gives one byte, fails, and then finds the end.
-#[derive(Drop)]
-struct Torn {
-    reads: u64,
-}
-
-impl Read for Torn {
-    fn read(&mut self, buffer: &mut [u8]) -> io::Result<usize> {
-        self.reads = self.reads.saturating_add(1);
-        match self.reads {
-            1 => {
-                let mut byte: &[u8] = b"x";
-                byte.read(buffer)
-            }
-            2 => Err(io::Error::from(ErrorKind::BrokenPipe)),
-            _ => Ok(0),
-        }
-    }
-}
 
 #[test]
 fn bytes_of_a_reader_are_given_in_order(rt: HostRuntime) {
@@ -37,10 +16,22 @@ fn bytes_of_a_reader_are_given_in_order(rt: HostRuntime) {
 }
 
 #[test]
-fn a_failed_read_is_told_and_is_no_end(rt: HostRuntime) {
-    let mut from = FromRead::new(Torn { reads: 0 });
+fn a_failed_read_is_reported_and_is_no_end(rt: HostRuntime) {
+    let mut from = FromRead::new(Torn::new(b"x", b"y"));
     let mut buffer = [0u8; 2];
-    assert_eq!(rt; from.read(&mut buffer), Ok(1));
-    assert_eq!(rt; from.read(&mut buffer), Err(Failed));
-    assert_eq!(rt; from.read(&mut buffer), Ok(0));
+    for (answer, first) in [
+        (Ok(1), b'x'),
+        (Err(Failed), b'x'),
+        (Ok(1), b'y'),
+        (Ok(0), b'y'),
+    ] {
+        assert_eq!(rt; from.read(&mut buffer), answer);
+        assert_eq!(rt; buffer[0], first);
+    }
+}
+
+#[test]
+fn a_reader_is_read_to_its_end(rt: HostRuntime) {
+    let mut from = FromRead::new(MANY_BYTES.as_slice());
+    assert_eq!(rt; read_bytes(&mut from, 9999), (9000, Ok(0)));
 }
