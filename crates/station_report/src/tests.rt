@@ -10,25 +10,11 @@ use modes_cpr::{Degrees, Position};
 use modes_fields::Velocity;
 use modes_fields::readers::{callsign, squawk};
 use station_journal::{Aircraft, Rows};
+use std::alloc::Global;
+use std::process::Abort;
 use std::test::Fail;
 
 const HEADER: &str = "  ADDR CALLSIGN    ALT SQWK     VELOCITY   VERT        LAT        LON AGE\n";
-
-// The lines of the aircraft in `each_field_has_its_column`, in order.
-const LINES: [&str; 12] = [
-    "4840D6 KLM1023       -    -            -      -          -          -   0",
-    "4840D6 KLM1023       -    -            -      -          -          -  60",
-    "510AF9 -             - 0356            -      -          -          -   0",
-    "485020 -             -    -      -8/-159   -832          -          -   0",
-    "A05F21 -             -    -    H694/T375  -2304          -          -   0",
-    "A05F21 -             -    -    H694/I375  -2304          -          -   0",
-    "4840D6 -        -1000000    -            -      -          -          -   0",
-    "40621D -         38000    -            -      -   52.26578    3.93891   0",
-    "4840D6 -             -    -            -      -    0.00000    0.00000   0",
-    "4840D6 -             -    -            -      -   -0.00001    0.00000   0",
-    "4840D6 -             -    -            -      -   -6.00000    0.00000   0",
-    "4840D6 -             -    -            -      -    0.00000 -180.00000   0",
-];
 
 // An aircraft that shows no more than its address.
 const BARE: Aircraft = Aircraft {
@@ -122,9 +108,60 @@ fn is_printable(now: u64, aircraft: Aircraft) -> bool
     aircraft.heard <= now && is_whole
 }
 
-// Degrees are cut off, and zero has no sign. A text that is wider than its column is printed whole.
+// An aircraft, the time in milliseconds at which its table is written, and its line there.
+type Row<'a> = (Aircraft, u64, &'a str);
+
+fn have_their_lines(rt: &impl Abort, alloc: Global, rows: &[Row<'_>]) -> Result<(), Fail> {
+    for (aircraft, now, line) in rows {
+        assert!(rt; is_printable(*now, *aircraft), "{line}");
+        let mut sink = ToWrite::new(Vec::new(alloc));
+        assert_eq!(rt; table(&One(*aircraft), *now, &mut sink), Ok(()), "{line}");
+        let text = format!(in alloc; "now {now} aircraft 1\n{HEADER}{line}\n")?;
+        assert_eq!(rt; sink.into_inner().as_slice(), text.as_bytes(), "{line}");
+    }
+    Ok(())
+}
+
 #[test]
 fn each_field_has_its_column(rt: HostRuntime) -> Result<(), Fail> {
+    let rows = [
+        (
+            identified(0),
+            0,
+            "4840D6 KLM1023       -    -            -      -          -          -   0",
+        ),
+        (
+            identified(1000),
+            61_000,
+            "4840D6 KLM1023       -    -            -      -          -          -  60",
+        ),
+        (
+            squawking(),
+            0,
+            "510AF9 -             - 0356            -      -          -          -   0",
+        ),
+        (
+            over_ground(-8, -159),
+            0,
+            "485020 -             -    -      -8/-159   -832          -          -   0",
+        ),
+        (
+            through_air(true),
+            0,
+            "A05F21 -             -    -    H694/T375  -2304          -          -   0",
+        ),
+        (
+            through_air(false),
+            0,
+            "A05F21 -             -    -    H694/I375  -2304          -          -   0",
+        ),
+    ];
+    have_their_lines(&rt, rt.alloc(), &rows)
+}
+
+// Degrees are cut off, and zero has no sign. A text that is wider than its column is printed whole.
+#[test]
+fn altitudes_and_positions_have_their_columns(rt: HostRuntime) -> Result<(), Fail> {
     let climbing = Aircraft {
         address: 0x40621D,
         altitude: Some(38000),
@@ -135,27 +172,38 @@ fn each_field_has_its_column(rt: HostRuntime) -> Result<(), Fail> {
         ..BARE
     };
     let rows = [
-        (identified(0), 0),
-        (identified(1000), 61_000),
-        (squawking(), 0),
-        (over_ground(-8, -159), 0),
-        (through_air(true), 0),
-        (through_air(false), 0),
-        (too_wide, 0),
-        (climbing, 0),
-        (placed((-78, 7864320), (0, 1)), 0),
-        (placed((-79, 7864320), (0, 1)), 0),
-        (placed((-47185920, 7864320), (0, 1)), 0),
-        (placed((0, 7864320), (-1391984640, 7733248)), 0),
+        (
+            climbing,
+            0,
+            "40621D -         38000    -            -      -   52.26578    3.93891   0",
+        ),
+        (
+            placed((-78, 7864320), (0, 1)),
+            0,
+            "4840D6 -             -    -            -      -    0.00000    0.00000   0",
+        ),
+        (
+            placed((-79, 7864320), (0, 1)),
+            0,
+            "4840D6 -             -    -            -      -   -0.00001    0.00000   0",
+        ),
+        (
+            placed((-47185920, 7864320), (0, 1)),
+            0,
+            "4840D6 -             -    -            -      -   -6.00000    0.00000   0",
+        ),
+        (
+            placed((0, 7864320), (-1391984640, 7733248)),
+            0,
+            "4840D6 -             -    -            -      -    0.00000 -180.00000   0",
+        ),
+        (
+            too_wide,
+            0,
+            "4840D6 -        -1000000    -            -      -          -          -   0",
+        ),
     ];
-    for ((aircraft, now), line) in rows.into_iter().zip(LINES) {
-        assert!(rt; is_printable(now, aircraft), "{line}");
-        let mut sink = ToWrite::new(Vec::new(rt.alloc()));
-        assert_eq!(rt; table(&One(aircraft), now, &mut sink), Ok(()), "{line}");
-        let text = format!(in rt.alloc(); "now {now} aircraft 1\n{HEADER}{line}\n")?;
-        assert_eq!(rt; sink.into_inner().as_slice(), text.as_bytes(), "{line}");
-    }
-    Ok(())
+    have_their_lines(&rt, rt.alloc(), &rows)
 }
 
 #[test]
