@@ -204,6 +204,17 @@ module _ {X E : Type 0} (Took : X → List Cut → Result (Unit {0}) E → X →
   Taken-close (Ok done) made turns z within reads ends lost over last = Taken-over AtEnd (Ok tt) made turns z refl within reads lost last (refl, ends, over)
   Taken-close (Err stop) made turns z within reads ends lost over last = Taken-over LineStopped (Err stop) made turns z refl within reads lost last tt
 
+-- the end was found after a piece, and a last line may stop the call
+module _ {X E : Type 0} (Took : X → List Cut → Result (Unit {0}) E → X → Type 0)
+    (joined : (x y z : X) (cs ds : List Cut) (r : Result (Unit {0}) E) → Took x cs (Ok tt) y → Took y ds r z → Took x (cs ++ ds) r z)
+    (old mid new : Drawn) (held : Cut) (x y : X) (so_far : GivenSoFar Took old.left mid.left held x y)
+    (piece : List ℕ) (held_now : Cut) (z : X) (read : Consumes mid.left new.left piece) (more : TakesBytes Took so_far.given piece held_now y z (Ok tt)) where
+  pub Taken-end : (stopped : Result (Unit {0}) E) (made turns : ℕ) (w : X) → made ≤ turns → new.reads ≡ counted_up made old.reads → new.ends ≡ one_more old.ends → new.failures ≡ old.failures
+      → IsAtEnd new.left → ((before : List ℕ) → held_now ≡ pending before → TakesLast Took before z w stopped) → Taken Took old new turns (ending_as (ended_by stopped)) x w (stopped_as (ended_by stopped))
+  Taken-end stopped made turns w within reads ends lost over last =
+      let all : GivenSoFar Took old.left new.left held_now x z = GivenSoFar-piece Took joined old mid new held x y so_far piece held_now z read more in
+      Taken-close Took joined old new held_now x z all stopped made turns w within reads ends lost over (last all.given all.taken.all_taken.1)
+
 -- all turns were used
 pub Taken-turns : {X E : Type 0} (Took : X → List Cut → Result (Unit {0}) E → X → Type 0) (old now : Drawn) (held : Cut) (x y : X) → GivenSoFar Took old.left now.left held x y
     → (turn turns : ℕ) → turn ≡ turns → now.reads ≡ counted_up turn old.reads → now.ends ≡ old.ends → now.failures ≡ old.failures → Taken Took old now turns TurnsOver x y (Ok tt)

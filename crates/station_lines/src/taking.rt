@@ -36,7 +36,7 @@ pub trait LineTaker {
     /// Where there are no lines, nothing changes.
     ghost none: { (x : Self) → took x [] (Ok tt) x };
 
-    /// Lines, and then others, are all these lines in order.
+    /// Taking some lines and then others takes them all, in order.
     ghost then: { (x y z : Self) (cs ds : List Cut) (r : Result (Unit {0}) Self.Stop)
         → took x cs (Ok tt) y → took y ds r z → took x (cs ++ ds) r z };
 }

@@ -3,7 +3,7 @@ use Rattle.std.specs.Io.KnownBytes.{Consumes}
 use Rattle.station_report.specs.Sink.{counted}
 use Rattle.station_lines.specs.Source.{counted_up}
 use Rattle.station_lines.specs.Drawing.{drawn_of}
-use Rattle.station_lines.proofs.DrawingLemmas.{GivenSoFar-none, GivenSoFar-piece, reads_left, Taken-read, Taken-turns, Taken-stop, Taken-close}
+use Rattle.station_lines.proofs.DrawingLemmas.{GivenSoFar-none, GivenSoFar-piece, reads_left, Taken-read, Taken-turns, Taken-stop, Taken-end}
 use Rattle.station_lines.proofs.taking.take_lines.Goals as goal
 
 pub loop-left-init : goal.loop-left-init
@@ -41,7 +41,7 @@ returns-in-Err-take_piece g c =
     let left = c.loop-left.left in
     Taken-stop g.T.LineTaker.took g.met.T.LineTaker.then old mid new _ _ _ inv.so_far _ _ _ (subst (Consumes mid.left new.left) (sym c.as_slice.ensures.value) read.given) _ c.args.turns _ (omega arith)
     (reads_left c.args.turns left c.in-Ok.read.reads old.reads mid.reads new.reads inv.within read.few inv.reads read.reads) read.failures inv.failures
-    (c.in-Err-take_piece.ensures.taken _ inv.so_far.taken.all_taken.1)
+    (c.in-Err-take_piece.ensures.taken inv.so_far.given inv.so_far.taken.all_taken.1)
 
 pub returns-then-read : goal.returns-then-read
 returns-then-read g c =
@@ -52,11 +52,11 @@ returns-then-read g c =
     let inv = c.loop-left.invariant in
     let read = c.in-Ok.ensures.ok in
     let left = c.loop-left.left in
-    let so_far = GivenSoFar-piece g.T.LineTaker.took g.met.T.LineTaker.then old mid new _ _ _ inv.so_far _ _ _ (subst (Consumes mid.left new.left) (sym c.as_slice.ensures.value) read.given) (c.in-Ok-take_piece.ensures.taken _ inv.so_far.taken.all_taken.1) in
-    rw c.after_the_last.ensures (Taken-close g.T.LineTaker.took g.met.T.LineTaker.then old new _ _ _ so_far c.take_last.result _ c.args.turns _ (omega arith)
+    rw c.after_the_last.ensures (Taken-end g.T.LineTaker.took g.met.T.LineTaker.then old mid new _ _ _ inv.so_far _ _ _ (subst (Consumes mid.left new.left) (sym c.as_slice.ensures.value) read.given)
+    (c.in-Ok-take_piece.ensures.taken inv.so_far.given inv.so_far.taken.all_taken.1) c.take_last.result _ c.args.turns _ (omega arith)
     (reads_left c.args.turns left c.in-Ok.read.reads old.reads mid.reads new.reads inv.within read.few inv.reads read.reads)
     (read.ends ∙ ap (λ b. counted (not b) mid.ends) c.if-read.true ∙ ap (λ i. counted false i) inv.ends) (read.failures ∙ inv.failures) (read.over c.if-read.true)
-    (c.take_last.ensures.taken _ so_far.taken.all_taken.1))
+    c.take_last.ensures.taken)
 
 pub loop-left-preserved : goal.loop-left-preserved
 loop-left-preserved g c =
@@ -70,7 +70,7 @@ loop-left-preserved g c =
     record {
       within = omega (arith, inv.within);
       room = omega (arith, inv.within, inv.room, read.some, read.few, c.in-Ok-take_piece.ensures.counted, c.as_slice.ensures.few);
-      so_far = GivenSoFar-piece g.T.LineTaker.took g.met.T.LineTaker.then old mid new _ _ _ inv.so_far _ _ _ (subst (Consumes mid.left new.left) (sym c.as_slice.ensures.value) read.given) (c.in-Ok-take_piece.ensures.taken _ inv.so_far.taken.all_taken.1);
+      so_far = GivenSoFar-piece g.T.LineTaker.took g.met.T.LineTaker.then old mid new _ _ _ inv.so_far _ _ _ (subst (Consumes mid.left new.left) (sym c.as_slice.ensures.value) read.given) (c.in-Ok-take_piece.ensures.taken inv.so_far.given inv.so_far.taken.all_taken.1);
       reads = reads_left c.args.turns left c.in-Ok.read.reads old.reads mid.reads new.reads inv.within read.few inv.reads read.reads;
       ends = read.ends ∙ ap (λ b. counted (not b) mid.ends) c.if-read.false ∙ inv.ends;
       failures = read.failures ∙ inv.failures;
