@@ -1,37 +1,70 @@
-//! Sources and sinks for tests.
+//! Sources, sinks and desks for tests, and what is counted of their lines.
 ghost use Rattle.std.specs.Prelude.{◌≡◌, ◌≤◌, None};
-ghost use Rattle.station_journal.specs.Log.{most_entries};
+ghost use Rattle.station_desk.specs.Desk.{most_aircraft};
 
 use crate::desk::Desk;
 use arrayvec::ArrayVec;
+use modes_frame::Frame;
 use station_journal::Limits;
-use station_lines::Source;
+use station_lines::{Source, Tally};
 use station_report::{Failed, Sink};
 use std::alloc::Global;
 use std::process::Abort;
 
-/// Gives bytes, at most so many in a read, and fails at one read.
+/// Gives bytes, at most `most` in a read. It can give some of them many times over, and fail at one read.
 #[derive(Clone, Copy)]
 pub struct Pieces<'a> {
-    pub rest: &'a [u8],
     pub most: usize,
+    /// The number of the read that fails, counted from 1. At 0 none fails.
     pub fails_at: u64,
-    pub reads: u64,
-    pub ends: u64,
-    pub failures: u64,
+    rest: &'a [u8],
+    // Follow the rest, this many times.
+    repeated: &'a [u8],
+    times: u64,
+    // Follow those.
+    last: &'a [u8],
+    reads: u64,
+    ends: u64,
+    failures: u64,
 }
 
 impl<'a> Pieces<'a> {
-    /// Gives the bytes, as many as a read asks for, and fails at no read.
+    /// Gives the bytes, up to 512 in a read.
     pub fn new(bytes: &'a [u8]) -> Self {
+        Pieces::repeated(&[], 0, bytes)
+    }
+
+    /// Gives some bytes this many times, and then the last ones. A read gives bytes of one of these alone, up to 512.
+    pub fn repeated(bytes: &'a [u8], times: u64, last: &'a [u8]) -> Self {
         Pieces {
-            rest: bytes,
             most: 512,
             fails_at: 0,
+            rest: &[],
+            repeated: bytes,
+            times,
+            last,
             reads: 0,
             ends: 0,
             failures: 0,
         }
+    }
+
+    // What the next read draws from. It is empty at the end.
+    fn next(&mut self) -> &'a [u8]
+        ensures reads { self.new.reads ≡ self.old.reads }
+        ensures ends { self.new.ends ≡ self.old.ends }
+        ensures failures { self.new.failures ≡ self.old.failures }
+    {
+        if !self.rest.is_empty() {
+            return self.rest;
+        }
+        if self.times > 0 {
+            self.times -= 1;
+            return self.repeated;
+        }
+        let last = self.last;
+        self.last = &[];
+        last
     }
 }
 
@@ -50,8 +83,9 @@ impl<'a> Source for Pieces<'a> {
             self.failures = self.failures.saturating_add(1);
             return Err(Failed);
         }
-        let count = self.most.min(self.rest.len()).min(buffer.len());
-        let (piece, rest) = self.rest.split_at(count);
+        let bytes = self.next();
+        let count = self.most.min(bytes.len()).min(buffer.len());
+        let (piece, rest) = bytes.split_at(count);
         buffer[..count].copy_from_slice(piece);
         self.rest = rest;
         if count == 0 && !buffer.is_empty() {
@@ -61,23 +95,41 @@ impl<'a> Source for Pieces<'a> {
     }
 }
 
-/// Takes so many bytes, and then fails. It may fail at each flush.
+/// Takes up to 1,024 bytes. It can fail before: at the first write or flush after `room` bytes, and at each one after
+/// that unless it goes on.
 #[derive(Drop)]
 pub struct Taker {
     pub bytes: ArrayVec<u8, 1024>,
-    pub room: usize,
-    pub flushes: bool,
     pub failures: u64,
+    room: usize,
+    most: usize,
+    goes_on: bool,
 }
 
 impl Taker {
-    /// Takes this many bytes, up to 1,024, and flushes or not.
-    pub fn new(room: usize, flushes: bool) -> Self {
+    /// Takes what a write gives.
+    pub fn new() -> Self {
+        Taker::failing(1024, 1024, false)
+    }
+
+    /// Fails after `room` bytes, once where it goes on, and takes at most `most` bytes a write.
+    pub fn failing(room: usize, most: usize, goes_on: bool) -> Self {
         Taker {
             bytes: ArrayVec::new(),
-            room,
-            flushes,
             failures: 0,
+            room,
+            most,
+            goes_on,
+        }
+    }
+
+    // The most bytes that the next write takes. At 0 it fails, and so does a flush.
+    fn space(&self) -> usize {
+        let space = self.most.min(self.bytes.remaining_capacity());
+        if self.goes_on && self.failures > 0 {
+            space
+        } else {
+            space.min(self.room.saturating_sub(self.bytes.len()))
         }
     }
 }
@@ -88,68 +140,17 @@ impl Sink for Taker {
     ghost failures = { λ s. s.failures };
 
     fn write(&mut self, piece: &[u8]) -> Result<usize, Failed> {
-        let room = self.room.min(self.bytes.remaining_capacity());
-        let count = room.min(piece.len());
+        let count = self.space().min(piece.len());
         if count == 0 && !piece.is_empty() {
             self.failures = self.failures.saturating_add(1);
             return Err(Failed);
         }
         let _fits = self.bytes.try_extend_from_slice(&piece[..count]);
-        self.room -= count;
         Ok(count)
     }
 
     fn flush(&mut self) -> Result<(), Failed> {
-        if self.flushes {
-            return Ok(());
-        }
-        self.failures = self.failures.saturating_add(1);
-        Err(Failed)
-    }
-}
-
-/// Takes one byte a write. It fails once after so many bytes, at a write or at a flush, and takes bytes again.
-#[derive(Drop)]
-pub struct Stumbler {
-    pub bytes: ArrayVec<u8, 1024>,
-    pub fails_after: usize,
-    pub failures: u64,
-}
-
-impl Stumbler {
-    /// Fails once after this many bytes, fewer than 1,024.
-    pub fn new(fails_after: usize) -> Self {
-        Stumbler {
-            bytes: ArrayVec::new(),
-            fails_after,
-            failures: 0,
-        }
-    }
-
-    fn stumbles(&self) -> bool {
-        self.failures == 0 && self.bytes.len() == self.fails_after
-    }
-}
-
-impl Sink for Stumbler {
-    ghost taken = { λ _. None };
-
-    ghost failures = { λ s. s.failures };
-
-    fn write(&mut self, piece: &[u8]) -> Result<usize, Failed> {
-        let Some(byte) = piece.first() else {
-            return Ok(0);
-        };
-        if self.stumbles() || self.bytes.is_full() {
-            self.failures = self.failures.saturating_add(1);
-            return Err(Failed);
-        }
-        self.bytes.push(*byte);
-        Ok(1)
-    }
-
-    fn flush(&mut self) -> Result<(), Failed> {
-        if self.stumbles() {
+        if self.space() == 0 {
             self.failures = self.failures.saturating_add(1);
             return Err(Failed);
         }
@@ -157,56 +158,62 @@ impl Sink for Stumbler {
     }
 }
 
-/// A desk without entries. Where it wants memory, it is made once more.
-pub fn new_desk<const N: usize>(rt: &impl Abort, alloc: Global, limits: Limits) -> Desk<N>
-    requires aircraft { limits.aircraft ≡ N }
-    requires entries { limits.entries ≤ most_entries }
+/// A desk without entries, for at most `entries` of them.
+pub fn new_desk<const N: usize>(rt: &impl Abort, alloc: Global, entries: u32) -> Desk<N>
+    requires aircraft { N ≤ most_aircraft }
+    requires entries { entries ≤ 16777216 }
 {
+    let limits = Limits {
+        entries,
+        aircraft: N as u32,
+    };
+    Desk::new(alloc, limits).expect(rt, "memory")
+}
+
+/// Makes such a desk where one allocation may be refused, by a second call.
+pub fn new_desk_or_again<const N: usize>(rt: &impl Abort, alloc: Global, entries: u32) -> Desk<N>
+    requires aircraft { N ≤ most_aircraft }
+    requires entries { entries ≤ 16777216 }
+{
+    let limits = Limits {
+        entries,
+        aircraft: N as u32,
+    };
     match Desk::new(alloc, limits) {
         Ok(desk) => desk,
         Err(_) => Desk::new(alloc, limits).expect(rt, "the second call has memory"),
     }
 }
 
-/// Gives spaces in so many reads, as many as each asks for, and then the end.
-#[derive(Clone, Copy)]
-pub struct Spaces {
-    left: u64,
-    reads: u64,
-    ends: u64,
+/// The identification of 4840D6.
+pub const IDENTIFICATION_BYTES: [u8; 14] = [
+    0x8D, 0x48, 0x40, 0xD6, 0x20, 0x2C, 0xC3, 0x71, 0xC3, 0x2C, 0xE0, 0x57, 0x60, 0x98,
+];
+
+/// The frame of these bytes.
+pub fn frame_of(rt: &impl Abort, bytes: &[u8]) -> Frame {
+    Frame::from_bytes(bytes).expect(rt, "a frame")
 }
 
-impl Spaces {
-    pub fn new(left: u64) -> Self {
-        Spaces {
-            left,
-            reads: 0,
-            ends: 0,
-        }
-    }
-}
-
-impl Source for Spaces {
-    ghost left = { λ _. None };
-
-    ghost reads = { λ s. s.reads };
-
-    ghost ends = { λ s. s.ends };
-
-    ghost failures = { λ _. 0 };
-
-    fn read(&mut self, buffer: &mut [u8]) -> Result<usize, Failed> {
-        self.reads = self.reads.saturating_add(1);
-        if self.left == 0 {
-            if !buffer.is_empty() {
-                self.ends = self.ends.saturating_add(1);
-            }
-            return Ok(0);
-        }
-        self.left -= 1;
-        for byte in buffer.iter_mut() {
-            *byte = b' ';
-        }
-        Ok(buffer.len())
+/// The tally of frames and of ticks, each accepted and refused, and of questions, blank lines, Mode A/C replies and
+/// faults.
+pub fn counted(frames: [u32; 2], ticks: [u32; 2], others: [u32; 4]) -> Tally {
+    let [frames_accepted, frames_refused] = frames;
+    let [ticks_accepted, ticks_refused] = ticks;
+    let [shows, blank, mode_ac, faults] = others;
+    let accepted = u64::from(frames_accepted) + u64::from(ticks_accepted);
+    let refused = u64::from(frames_refused) + u64::from(ticks_refused);
+    let (shows, blank) = (u64::from(shows), u64::from(blank));
+    let (mode_ac, faults) = (u64::from(mode_ac), u64::from(faults));
+    Tally {
+        lines: accepted + refused + shows + blank + mode_ac + faults,
+        frames: u64::from(frames_accepted) + u64::from(frames_refused),
+        ticks: u64::from(ticks_accepted) + u64::from(ticks_refused),
+        shows,
+        blank,
+        mode_ac,
+        faults,
+        accepted,
+        refused,
     }
 }
