@@ -13,7 +13,7 @@ use Rattle.station_desk.specs.History.{Known, base_of}
 use Rattle.station_desk.specs.Published.{Sheet, sheet, Follows, BeginsWith}
 use Rattle.station_desk.specs.declared.published.Origin.{Origin}
 
--- what lies behind in a sound past is sound
+-- the older part of a sound past is sound
 sound_behind : (n base : ℕ) (newer past : List Entry) → Sound n base (newer ++ past) → Sound n base past
 sound_behind n base [] past sound = sound
 sound_behind n base (entry ∷ newer) past sound = sound_behind n base newer past sound.1
@@ -26,7 +26,7 @@ sound_front n base k entries sound =
 pub sound_at : (limits : Limits) (n base : ℕ) (entries : List Entry) → limits.aircraft ≡ n → length entries ≤ limits.entries → Sound n base (reverse entries) → IsSound limits base (reverse entries)
 sound_at limits n base entries same few sound = sound_by_counts limits base (reverse entries) (subst (λ k. Sound k base (reverse entries)) (sym same) sound) (omega (arith, few, length-reverse entries))
 
--- an entry that is out of place is where the list is unsound
+-- the list is unsound at its first entry that doesn't fit
 pub unsound_at : (limits : Limits) (n base place : ℕ) (entries : List Entry) → limits.aircraft ≡ n → length entries ≤ limits.entries → IsFirstUnsound n base entries place → IsUnsoundAt limits base entries place
 unsound_at limits n base place entries same few out = record {
   within = out.within;

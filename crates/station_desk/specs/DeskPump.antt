@@ -1,4 +1,4 @@
--- What a pump leaves of a desk that is lent to it.
+-- What a pump leaves of a lent desk.
 use Rattle.std.specs.Prelude.{◌≡◌, ℕ, ◌+◌, List, Result, Ok, Err, length}
 use Rattle.std.specs.declared.alloc.AllocError.{AllocError}
 use Rattle.modes_frame.specs.declared.cutter.Cut.{Cut}
@@ -11,14 +11,13 @@ use Rattle.station_desk.specs.Replay.{EndsWithCall}
 use Rattle.station_lines.specs.declared.pumping.PumpFault.{PumpFault}
 use Rattle.station_lines.specs.declared.tally.Tally.{Tally}
 
--- the journal is the run of the calls of the lines, or, where memory was wanting, of all but the last, which the
--- verdict accepts
+-- the journal is the run of the calls of the lines; out of memory, of all but the last call, which the verdict accepts
 abbrev pub Runs : ℕ → Log → Log → List Cut → Result (Unit {0}) AllocError → Type 0
 Runs seat before after lines (Ok done) = after ≡ journal_after heard seat before lines
 Runs seat before after lines (Err want) = EndsWithCall heard seat before after lines
 
--- some lines were taken of what the source gave, up to the end or the fault: the journal is the run of their calls,
--- made by the seat, and the tally counts them
+-- the source gave the lines, up to its end or the fault: the journal is the run of their calls by the seat, and the
+-- tally counts them
 pub record PumpsDesk (seat : ℕ) (before after : Log) (source_old source_new : Drawn) (turns : ℕ) (result : Result Tally PumpFault) : Type 0 where
   pub lines : List Cut
   pub draws : Draws source_old source_new turns (ending_of result) lines

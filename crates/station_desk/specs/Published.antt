@@ -16,7 +16,7 @@ use Rattle.station_desk.specs.declared.published.Mark.{Mark}
 use Rattle.station_desk.specs.declared.published.Origin.{Origin}
 use Rattle.station_desk.specs.declared.published.PublishedTable.{PublishedTable}
 
--- what is published: a book, the beginning of the history that it stands for, and the origin of the station, once there is one
+-- what is published: a book, the beginning of the history that it matches, and the origin of the station, once there is one
 pub record Sheet : Type 0 where
   pub book : BookState
   pub front : Known
@@ -25,7 +25,7 @@ pub record Sheet : Type 0 where
 abbrev pub sheet : BookState → Known → Option Origin → Sheet
 sheet book front origin = record { book = book; front = front; origin = origin }
 
--- a copy brought up to the one that is shown, of which it lacks this change, or nothing
+-- a copy brought up to date with the one that is shown, of which it lacks this change, or nothing
 abbrev pub brought_up : ℕ → BookState → Option Change → BookState → BookState
 brought_up n shown None book = book
 brought_up n shown (Some change) book = caught_up n shown change book
@@ -34,7 +34,7 @@ brought_up n shown (Some change) book = caught_up n shown change book
 abbrev pub sheet_of : {n : ℕ} → PublishedTable n → Sheet
 sheet_of copy = sheet copy.book copy.front copy.origin
 
--- what is published next: the spare copy, brought up to the one that is shown, with one entry more
+-- what is published next: the spare copy, brought up to date, with one entry more
 abbrev pub next_sheet : {n : ℕ} → PublishedTable n → PublishedTable n → DecodedEntry → NextCopy → Sheet
 next_sheet {n} shown spare decoded next = sheet (offered_decoded n (brought_up n shown.book next.missing_change spare.book) decoded) next.front shown.origin
 
@@ -42,39 +42,39 @@ next_sheet {n} shown spare decoded next = sheet (offered_decoded n (brought_up n
 abbrev pub LegalUnder : Name → Option Origin → List Entry → Type 0
 LegalUnder history origin entries = IfSome origin (λ o. IsLegal (log_of (start_at history o) entries))
 
--- the book, of at most n aircraft, matches the beginning that it stands for, which is legal
+-- the book, of at most n aircraft, matches its beginning of the history, which is legal
 pub record IsRight (n : ℕ) (s : Sheet) : Type 0 where
   pub matched : Matches n (base_of s.front.name) s.book s.front.entries
   pub legal : LegalUnder s.front.name s.origin s.front.entries
 
--- what is known is of the history that is published, which begins with it, and of its origin
+-- what is known is a beginning of the published history, and its origin
 pub record IsOfSheet (s : Sheet) (k : Mark) : Type 0 where
   pub name : k.front.name ≡ s.front.name
   pub origin : s.origin ≡ Some k.origin
   pub begins : IsPrefix k.front.entries s.front.entries
 
--- what is published is right, and who knows a station at all knows this one
+-- what is published is right, and each view that knows a station knows this one
 pub record IsPublished (n : ℕ) (s : Sheet) (all : List (Option Mark)) : Type 0 where
   pub right : IsRight n s
   pub views : (seat : ℕ) (k : Mark) → get_elem? all seat ≡ some (Some k) → IsOfSheet s k
 
--- what is known after what is published was seen: nothing before there is a station
+-- what is known once what is published was seen: nothing before there is a station
 abbrev pub marked : Known → Option Origin → Option Mark
 marked front origin = option_map (λ o. record { front = front; origin = o }) origin
 
--- what a step tells that sees what is published afterwards
+-- what a step shows of what is published after it
 pub record SawPublished (n : ℕ) (old : Option Mark) (s : Sheet) (new : Option Mark) : Type 0 where
   pub knows : new ≡ marked s.front s.origin
   pub right : IsRight n s
   pub known : IfSome old (IsOfSheet s)
 
--- the same station, of whose history nothing is taken back
+-- the same station, whose history only grows
 pub record GoesOn (old new : Sheet) : Type 0 where
   pub origin : new.origin ≡ old.origin
   pub name : new.front.name ≡ old.front.name
   pub begins : IsPrefix old.front.entries new.front.entries
 
--- one may be published after the other: it is right, and the same station goes on, where there was one
+-- the new may be published after the old: it is right if the old is, and a station that was there goes on
 pub record Follows (n : ℕ) (old new : Sheet) : Type 0 where
   pub right : IsRight n old → IsRight n new
   pub same : (old.origin ≡ None) ⊎ GoesOn old new
@@ -92,7 +92,7 @@ pub record IsOf (start : Start) (view : Option Mark) : Type 0 where
   pub name : mark.front.name ≡ start.history
   pub origin : mark.origin ≡ origin_of start
 
--- a publishing end with its reader places: which history it is, how many places, and the book that is published
+-- a publishing end with its reader places: the name of its history, the number of places, and the book that is published
 pub record Prepared : Type 0 where
   pub history : Name
   pub places : ℕ

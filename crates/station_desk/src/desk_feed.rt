@@ -1,4 +1,4 @@
-//! A lent desk that takes frames as one seat.
+//! A feed to a lent desk, as one seat.
 ghost use Rattle.std.specs.Prelude.{◌≡◌, ◌≤◌};
 ghost use Rattle.station_desk.specs.Desk.{most_aircraft};
 
@@ -8,7 +8,7 @@ use station_journal::Refusal;
 use station_lines::Feed;
 use std::sync::Wait;
 
-/// A desk that is lent, of at most 4,096 aircraft, and the seat that feeds it.
+/// A lent desk of at most 4,096 aircraft, and the seat that feeds it.
 #[derive(Drop)]
 pub struct DeskFeed<'a, const N: usize> {
     pub desk: &'a mut Desk<N>,

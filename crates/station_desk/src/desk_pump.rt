@@ -12,7 +12,7 @@ use crate::desk_feed::DeskFeed;
 use station_lines::{PumpFault, Source, Tally, pump};
 use std::sync::Wait;
 
-// The pump over the desk that this feed lends.
+// Pumps a source's lines through the desk that the feed lends.
 fn pump_lent<const N: usize, S: Source, R: Wait>(
     rt: &R,
     feed: &mut DeskFeed<'_, N>,
@@ -27,7 +27,9 @@ fn pump_lent<const N: usize, S: Source, R: Wait>(
     pump(rt, feed, from, turns)
 }
 
-/// Feeds the frames of a source's lines to a desk of at most 4,096 aircraft, as one seat: [`pump`] over a [`DeskFeed`].
+/// Feeds the frames of a source's lines to a desk of at most 4,096 aircraft, as one seat.
+///
+/// It is [`pump`] over a [`DeskFeed`], with at most `turns` reads.
 pub fn pump_desk<const N: usize, S: Source, R: Wait>(
     rt: &R,
     desk: &mut Desk<N>,

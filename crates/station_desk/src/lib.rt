@@ -1,4 +1,7 @@
-//! One thread's station: the desk, which keeps the journal and shows its table, and what feeds it.
+//! Two desks, each a journal with the running table of its aircraft, and what feeds them.
+//!
+//! [`Desk`] is the desk of one thread, with [`replay`] and [`pump_desk`] over it. [`PublishedDesk`] is the desk of a
+//! station: readers look at its table while entries are added.
 #![tactic(auto)]
 
 pub mod desk;

@@ -1,4 +1,4 @@
-//! A publishing end and its reader places, before the station is made that they are for.
+//! A publishing end and its reader places, for a station that isn't made yet.
 ghost use Rattle.std.specs.Prelude.{◌≡◌, ◌<◌, ◌≤◌, [], length, Some, IfOk, IfErr, vec_len, vec_capacity};
 ghost use Rattle.std.specs.List.{AllByRecursion};
 ghost use Rattle.left_right.specs.Sides.{view};
@@ -22,7 +22,7 @@ use std::sync::Wait;
 
 /// A publishing end over a book without entries, and its reader places.
 ///
-/// Places can't be dropped: a station takes them.
+/// Places can't be dropped: [`Places::ready`] makes those of a station of them, and [`Places::end`] takes them apart.
 pub struct Places<const N: usize>
 where
     PublishedTable<N>: Absorb<Unlogged, State = ()>,
@@ -60,7 +60,7 @@ where
         × (base_of p.history.name ≡ p.base) };
 }
 
-// So many reader places, each of which knows what the publishing end knows. Refused at want of memory, and then the
+// Makes `count` reader places, each with the view of the publishing end. Refused when out of memory, and then the
 // publishing end is gone.
 fn with_places<const N: usize, R: Wait>(
     rt: &R,
@@ -87,8 +87,8 @@ fn with_places<const N: usize, R: Wait>(
 }
 
 impl<const N: usize> Places<N> {
-    /// A publishing end over a book without entries, with so many reader places. Its clock is at the base, in
-    /// milliseconds. Refused at want of memory.
+    /// Makes a publishing end over a book without entries, with `seats` reader places, at least 1. The clock is at the
+    /// base, in milliseconds. Refused when out of memory.
     pub fn new<R: Wait>(rt: &R, alloc: Global, base: u64, seats: u8) -> Result<Places<N>, NoMemory>
         requires seats { 0 < seats }
         requires small { N ≤ most_aircraft }
@@ -110,8 +110,12 @@ impl<const N: usize> Places<N> {
         })
     }
 
-    /// Shows a book that was given the entries, under the limits of the station, and makes each place anew, so that it
-    /// knows them and the history. Refused where the entries aren't sound, and then at want of memory.
+    /// Shows a book that was given the entries, and makes each place anew for the station that begins with them.
+    ///
+    /// A refusal takes all of it apart:
+    ///
+    /// 1. `Unsound`: the entry at this place is the first that isn't sound under the limits.
+    /// 2. `NoMemory`: it is out of memory.
     pub fn ready<R: Wait>(
         self,
         rt: &R,
@@ -154,7 +158,7 @@ impl<const N: usize> Places<N> {
         }
     }
 
-    /// Gives them up.
+    /// Takes them apart.
     pub fn end<R: Wait>(self, rt: &R) {
         let Places {
             base: _,

@@ -16,7 +16,7 @@ impl<const N: usize> Protocol<PublishedTable<N>, Option<Mark>> for PublishRule {
     ghost first = { None };
 }
 
-/// Entering and publishing tell what is published afterwards.
+/// A step of entering or publishing shows what is published afterwards.
 pub struct Sees;
 
 impl<const N: usize> Outcome<PublishedTable<N>, Option<Mark>> for Sees {
@@ -42,8 +42,8 @@ impl Join<Option<Mark>> for Notes {
     ghost spent = { None };
 }
 
-/// A reader's place, outside.
+/// A reader's place while it doesn't look.
 pub type ReaderPlace<const N: usize> = Reader<PublishedTable<N>, Option<Mark>, PublishRule>;
 
-/// A reader's place, from which it looks at what is published.
+/// A reader's place while it looks at what is published.
 pub type LookingPlace<const N: usize> = Reading<PublishedTable<N>, Option<Mark>, PublishRule>;

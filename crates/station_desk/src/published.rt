@@ -1,18 +1,18 @@
-//! What is published to readers: two copies of it, of which the desk changes the one that nobody reads.
+//! What is published to readers. There are two copies of it, and the desk changes the one that nobody reads.
 use crate::history::Front;
 use left_right::Absorb;
 use station_book::Book;
 use station_journal::Limits;
 use std::alloc::AllocError;
 
-/// How a station began, beside its history: its limits, and how many entries it was resumed from.
+/// How a station began, beside its history: its limits, and the number of entries that it was resumed from.
 #[derive(Clone, Copy)]
 pub struct Origin {
     pub limits: Limits,
     pub resumed: u64,
 }
 
-/// A book, the beginning of the history that it stands for, and the origin of the station, once there is one.
+/// A book, the beginning of the history that it matches, and the origin of the station, once there is one.
 #[derive(Drop)]
 pub struct PublishedTable<const N: usize> {
     pub book: Book<N>,
@@ -27,7 +27,7 @@ pub struct Mark {
     pub origin: Origin,
 }
 
-/// An operation of which none is logged: the desk brings the copies up itself.
+/// An operation that is never logged, since the desk brings the copies up to date itself.
 #[derive(Drop)]
 pub struct Unlogged;
 

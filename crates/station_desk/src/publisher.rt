@@ -1,4 +1,4 @@
-//! The publishing end: of two copies readers have one, and the other is brought up and shown in its place.
+//! The publishing end. Readers have one of two copies. The other is brought up to date and shown in its place.
 ghost use Rattle.std.specs.Prelude.{◌≡◌, ◌≤◌, length, None, Some, OnOk, IfOk, IfErr};
 ghost use Rattle.left_right.specs.Sides.{view};
 ghost use Rattle.station_book.specs.State.{starting};
@@ -21,15 +21,15 @@ use std::sync::Wait;
 /// The publishing end.
 pub type Publisher<const N: usize> = Writer<PublishedTable<N>, Unlogged, Option<Mark>, PublishRule>;
 
-/// What the next copy is made of, beside an entry: what the spare one lacks of the shown one, and the beginning that it then
-/// stands for.
+/// What makes the next copy, beside an entry: the change that the spare copy lacks, and the beginning of the history
+/// that it then shows.
 #[derive(Drop)]
 pub(crate) struct NextCopy {
     pub missing_change: Option<Change>,
     pub front: Front,
 }
 
-/// Gives up the publishing end, once nobody reads.
+/// Takes the publishing end apart, once nobody reads.
 pub fn give_up<const N: usize, R: Wait>(rt: &R, publisher: Publisher<N>) {
     publisher.take(rt);
 }
@@ -42,7 +42,7 @@ pub(crate) fn shown_book<const N: usize>(publisher: &Publisher<N>) -> &Book<N>
     &publisher.published().book
 }
 
-// Takes over what the book lacks of the shown one.
+// Copies what the book lacks of the shown one.
 fn bring_up<const N: usize>(book: &mut Book<N>, shown: &Book<N>, missing_change: Option<Change>)
     ensures { book.new ≡ brought_up N shown.now missing_change book.old }
 {
@@ -66,8 +66,8 @@ fn renew<const N: usize>(
     copy.origin = shown.origin;
 }
 
-/// Brings the copy up that nobody is to read, takes the entry in it, and shows it. It waits for those that still read it,
-/// and wants no memory.
+// Brings the spare copy up to date, applies the entry to it, and shows it. It waits for those that still read the copy,
+// and allocates nothing.
 fn turn<const N: usize, R: Wait>(
     rt: &R,
     publisher: Publisher<N>,
@@ -89,7 +89,7 @@ fn turn<const N: usize, R: Wait>(
     publisher
 }
 
-/// The same, where it lies.
+/// Turns the copies in place, as `turn` does.
 pub(crate) fn turn_in_place<const N: usize, R: Wait>(
     rt: &R,
     publisher: &mut Publisher<N>,
@@ -120,8 +120,7 @@ pub(crate) fn turn_in_place<const N: usize, R: Wait>(
     );
 }
 
-// Makes the copy one of a book that was given the entries in their order. Refused at the place of the first that doesn't
-// fit.
+// Makes the copy that of a book given the entries in their order. Refused at the place of the first that doesn't fit.
 fn fill<const N: usize>(
     copy: &mut PublishedTable<N>,
     base: u64,
@@ -141,8 +140,8 @@ fn fill<const N: usize>(
     Ok(())
 }
 
-// Fills the spare copy, once nobody reads it, as `fill` does. What is shown stays. Where it is refused, the publishing end
-// is gone.
+// Fills the spare copy as `fill` does, once nobody reads it. What is shown stays. A refusal takes the publishing end
+// apart.
 fn fill_spare<const N: usize, R: Wait>(
     rt: &R,
     publisher: Publisher<N>,
@@ -186,8 +185,8 @@ fn show_spare<const N: usize, R: Wait>(rt: &R, publisher: Publisher<N>) -> Publi
     publisher
 }
 
-/// Makes both copies of a station that isn't there yet those of a book that was given the entries, and shows them.
-/// Refused at the place of the first entry that doesn't fit: then the publishing end is gone.
+/// Begins a station: makes both copies those of a book that was given the entries, and shows them. Refused at the place
+/// of the first entry that doesn't fit, and then the publishing end is gone.
 pub(crate) fn begin<const N: usize, R: Wait>(
     rt: &R,
     publisher: Publisher<N>,
@@ -213,7 +212,7 @@ pub(crate) fn begin<const N: usize, R: Wait>(
     fill_spare(rt, publisher, base, front, origin, entries)
 }
 
-/// A copy of an empty book, of no station yet.
+/// A copy with a book without entries, of no station yet.
 pub(crate) fn blank<const N: usize>(history: &History, base: u64) -> PublishedTable<N>
     ensures book { result.book ≡ starting base }
     ensures front { result.front ≡ history.now }
@@ -233,7 +232,7 @@ fn blank_place<const N: usize>(publisher: &Publisher<N>) -> Result<ReaderPlace<N
     publisher.factory().reader()
 }
 
-// Tells a reader place what the publishing end knows.
+// Gives a reader place what the publishing end knows.
 fn tell_place<const N: usize>(publisher: &mut Publisher<N>, place: &mut ReaderPlace<N>)
     requires table { place.old.place.table_id ≡ publisher.old.desk.place.table_id }
     ensures same { (publisher.new.desk.shown ≡ publisher.old.desk.shown)
@@ -244,7 +243,7 @@ fn tell_place<const N: usize>(publisher: &mut Publisher<N>, place: &mut ReaderPl
     place.learn::<Notes>(publisher.desk.tell::<Notes>());
 }
 
-/// One more reader place, which knows what the publishing end knows.
+/// One more reader place, which knows what the publishing end knows. Refused when out of memory.
 pub(crate) fn new_place<const N: usize>(
     publisher: &mut Publisher<N>,
 ) -> Result<ReaderPlace<N>, AllocError>

@@ -7,7 +7,8 @@ ghost use Rattle.station_desk.specs.Desk.{HasMatchingBook, full_first};
 use station_book::{Book, DecodedEntry};
 use station_journal::{Entry, Journal, Refusal};
 
-/// Why an entry is refused, if it is, want of memory apart. What it decodes to is given beside it.
+/// Answers why a desk refuses an entry, if it does. The entry is given with what it decodes to. `NoMemory` is never the
+/// answer.
 pub(crate) fn verdict<const N: usize>(
     journal: &Journal,
     book: &Book<N>,
@@ -28,7 +29,7 @@ pub(crate) fn verdict<const N: usize>(
     }
 }
 
-// The verdict of a full journal, where the book's is this.
+// The verdict on an entry where the journal is full, from the book's verdict.
 fn full_first(verdict: Result<(), Refusal>) -> Result<(), Refusal>
     ensures { result ≡ full_first verdict }
 {

@@ -3,7 +3,7 @@ use Rattle.std.specs.List.{AllByRecursion}
 use Rattle.left_right.specs.Sides.{view}
 use Rattle.station_desk.proofs.places.with_places.Given as goal
 
--- so many places were made, and what is shown stayed
+-- each round made a place, and what is shown stayed
 abbrev pub invariant-loop-made : goal.invariant-loop-made
 invariant-loop-made g l = record {
   shown : l.publisher.desk.shown ≡ l.fn.publisher.desk.shown;
