@@ -1,4 +1,4 @@
--- Lines that are told before the lock of their station is taken.
+-- Lines that are parsed before the lock of their station is taken.
 use Rattle.std.proofs.Common.{◌≡◌, ℕ, ◌+◌, ◌<◌, false, List, [], ◌∷◌, ◌++◌, length, take, get_or, Result, Ok, Err, refl, sym, ap, ◌∙◌, append_assoc, append-nil, arith}
 use Rattle.std.specs.declared.alloc.AllocError.{AllocError}
 use Rattle.std.proofs.lemmas.List.{map-append, get_or-map, length-map, take_more}
@@ -24,7 +24,7 @@ use Rattle.station_lines.specs.declared.tally.Tally.{Tally}
 use Rattle.station_lines.proofs.DrawingLemmas.{ended-more}
 use Rattle.station_lines.proofs.PumpLemmas.{no_tick, no_show}
 
--- ---- what was told
+-- ---- what lines say
 
 pub Tells-then : (x y z : List LineAhead) (cs ds : List Cut) (r : Result (Unit {0}) AllocError) → Tells x cs (Ok tt) y → Tells y ds r z → Tells x (cs ++ ds) r z
 Tells-then x y z cs ds r p q = q ∙ ap (λ l. l ++ told_all ds) p ∙ append_assoc x (told_all cs) (told_all ds) ∙ ap (λ l. x ++ l) (sym (map-append (λ (line : Cut). told_of (heard line)) cs ds))
@@ -56,7 +56,7 @@ told_blank (Ok (Received ModeAc)) e = cc
 told_blank (Ok (Received Blank)) e = refl
 told_blank (Err fault) e = cc
 
--- what says nothing to a pump
+-- a line that says nothing to a pump
 pub record IsQuiet (r : Result Command CommandFault) : Type 0 where
   pub no_frame : frame_in r ≡ []
   pub frames : is_frame r ≡ false
@@ -138,7 +138,7 @@ module _ {X E : Type 0} (Took : X → List Cut → Result (Unit {0}) E → X →
           took = joined x y z so_far.lines more.lines (Err stop) so_far.took more.took;
         }
 
--- ---- one line of those that were told
+-- ---- one of the parsed lines
 
 pub told_line : (ahead : List LineAhead) (lines : List Cut) (i : ℕ) (item : LineAhead) → ahead ≡ told_all lines → i < length ahead → item ≡ get_or ahead i item → item ≡ told_of (heard (get_or lines i TooLong))
 told_line ahead lines i item same within is =

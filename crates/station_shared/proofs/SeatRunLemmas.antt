@@ -62,7 +62,7 @@ Fed-steps start x y [] (u ∷ us) s = absurd s
 Fed-steps start x y (f ∷ fs) [] s = absurd s
 Fed-steps start x y (f ∷ fs) (u ∷ us) s = Fed-step start x s.0 y f fs u us s.1 (Fed-steps start s.0 y fs us s.2)
 
--- a feed that is seen as a seat
+-- a feed that contracts see as a seat
 module _ {F : Type 0} (gives : F → List ℕ → Result (Unit {0}) Refusal → F → Type 0) (seat : F → Seated) (start : Start)
     (tells : (x y : F) (frame : List ℕ) (answer : Result (Unit {0}) Refusal) → gives x frame answer y → SeatSteps start (seat x) frame answer (seat y)) where
   seat_steps : (x y : F) (fs : List (List ℕ)) (us : List (Result (Unit {0}) Refusal)) → Feeds gives x fs us y → Feeds (SeatSteps start) (seat x) fs us (seat y)
@@ -95,7 +95,7 @@ pub Works-all : {F : Type 0} {gives : F → List ℕ → Result (Unit {0}) Refus
     → (seat : F → Seated) (start : Start) → ((x y : F) (frame : List ℕ) (answer : Result (Unit {0}) Refusal) → gives x frame answer y → SeatSteps start (seat x) frame answer (seat y)) → Works start (seat x) (seat y) old new turns result
 Works-all {gives} {x} {y} {old} {new} {turns} {result} all seat start tells = works gives seat start tells x y old new turns result all
 
--- ---- a piece of one worker
+-- ---- a chunk of one worker
 
 pub only_item : {A : Type 0} (xs : List A) (x d : A) → length xs ≡ 1 → slice_index_or xs 0 d ≡ get_or xs 0 x
 only_item [] x d one = cc

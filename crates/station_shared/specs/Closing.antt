@@ -13,7 +13,7 @@ pub record EachOnce (n : ℕ) (seats : List Seated) : Type 0 where
   pub below : AllByRecursion (λ (s : Seated). s.number < n) seats
   pub once : (k : ℕ) → k < n → count_by (λ s. eqb k s.number) seats ≡ 1
 
--- what is kept of each seat
+-- what the seat has seen is a prefix of the entries, which contain at least its accepted calls
 abbrev pub Backed : Start → List Entry → Seated → Type 0
 Backed start es s = IsPrefix s.seen es × (s.accepted ≤ count_of s.number (own start es))
 
@@ -26,13 +26,15 @@ abbrev pub accepted_by : ℕ → List Seated → List ℕ
 accepted_by zero seats = []
 accepted_by (suc n) seats = accepted_by n seats ++ accepted_at n seats ∷ []
 
--- how often each number below n stands in the list
+-- how many entries each seat number below n has
 abbrev pub counts_below : ℕ → List Entry → List ℕ
 counts_below zero es = []
 counts_below (suc n) es = counts_below n es ++ count_of n es ∷ []
 
--- the journal is legal and begins with all that each seat has seen, and has no entry but those that it was resumed from and
--- then the accepted calls of the seats: as many of each number as that seat was accepted
+-- the journal of a closed station:
+-- it is legal, and what each seat has seen is a prefix of it;
+-- it contains the entries that it was resumed from, then one for each accepted call, and no other;
+-- it has as many own entries of each number as that seat has accepted calls
 pub record Closes (start : Start) (n : ℕ) (es : List Entry) (seats : List Seated) : Type 0 where
   pub legal : IsLegal (log_of start es)
   pub seen : AllByRecursion (λ (s : Seated). IsPrefix s.seen es) seats

@@ -1,4 +1,4 @@
--- Lines that are told before the lock of their station is taken.
+-- Lines that are parsed before the lock of their station is taken.
 use Rattle.std.specs.Prelude.{◌≡◌, List, ◌++◌, Result, Ok, Err, OnOk, [], map}
 use Rattle.std.specs.declared.alloc.AllocError.{AllocError}
 use Rattle.modes_frame.specs.declared.cutter.Cut.{Cut}
@@ -12,7 +12,7 @@ use Rattle.station_lines.specs.declared.command.Command.{Command}
 use Rattle.station_lines.specs.declared.command.Command.TheVariants.{Tick, Show, Line as Received}
 use Rattle.station_lines.specs.declared.command.CommandFault.{CommandFault}
 
--- what a line says to a pump, its frame decoded; a fault has no name
+-- what a line says to a pump, with its frame decoded; all faults are one
 abbrev pub told_of : Result Command CommandFault → LineAhead
 told_of (Ok (Tick at)) = Kinds.Fault
 told_of (Ok Show) = Kinds.Fault
@@ -21,15 +21,15 @@ told_of (Ok (Received ModeAc)) = Kinds.ModeAc
 told_of (Ok (Received Blank)) = Kinds.Blank
 told_of (Err fault) = Kinds.Fault
 
--- the same of each of these lines
+-- what each of these lines says
 abbrev pub told_all : List Cut → List LineAhead
 told_all lines = map (λ (line : Cut). told_of (heard line)) lines
 
--- these lines are told after those before them
+-- what these lines say comes after what was there
 abbrev pub Tells : List LineAhead → List Cut → Result (Unit {0}) AllocError → List LineAhead → Type 0
 Tells old lines result new = new ≡ old ++ told_all lines
 
--- of these lines a front was taken, as Took says, or all
+-- the first of these lines were taken, as Took says; all of them, where the result is Ok
 pub record TakesFront {X E : Type 0} (Took : X → List Cut → Result (Unit {0}) E → X → Type 0) (all : List Cut) (x y : X) (result : Result (Unit {0}) E) : Type 0 where
   pub lines : List Cut
   pub left_out : List Cut

@@ -1,4 +1,4 @@
--- What seats, receipts and looks are seen as, and what a call tells of them.
+-- What contracts see of seats, receipts and looks, and what a call does to them.
 use Rattle.std.specs.Prelude.{◌≡◌, ℕ, zero, suc, ◌+◌, ◌⊎◌, eqb, List, [], ◌∷◌, ◌++◌, None, count_by, drop}
 use mathlib.Core.List.{IsPrefix}
 use Rattle.station_journal.specs.declared.entry.Entry.{Entry}
@@ -8,7 +8,7 @@ use Rattle.station_journal.specs.Log.{IsLegal, refusal_of, verdict_behind}
 use Rattle.station_desk.specs.History.{Known}
 use Rattle.station_desk.specs.Start.{Start, log_of}
 
--- the entries of its own calls: those after the ones that it was resumed from
+-- the entries of a station's own calls: those after the entries that it was resumed from
 abbrev pub own : Start → List Entry → List Entry
 own start entries = drop start.resumed entries
 
@@ -27,8 +27,8 @@ pub record Seated : Type 0 where
   pub accepted : ℕ
   pub seen : List Entry
 
--- after all that had been seen, the entry was accepted, as one more of the seat's; the receipt and the seat know just
--- that list
+-- the entry was accepted after all that the seat had seen, as one more of its calls; the seat and the receipt know the
+-- list up to it
 pub record Accepted (start : Start) (old new : Seated) (e : Entry) (receipt : Known) : Type 0 where
   pub mid : List Entry
   pub seen : new.seen ≡ mid ++ e ∷ []
@@ -39,8 +39,8 @@ pub record Accepted (start : Start) (old new : Seated) (e : Entry) (receipt : Kn
   pub accepted : new.accepted ≡ old.accepted + 1
   pub number : new.number ≡ old.number
 
--- the refusal is that of a journal which begins with all that had been seen; want of memory is told only where the
--- verdict accepts there
+-- the refusal is that of a journal which begins with all that the seat had seen; out of memory is the answer only where
+-- the verdict accepts there
 pub record Refused (start : Start) (old new : Seated) (e : Entry) (refusal : Refusal) : Type 0 where
   pub later : IsPrefix old.seen new.seen
   pub legal : IsLegal (log_of start new.seen)
@@ -48,7 +48,7 @@ pub record Refused (start : Start) (old new : Seated) (e : Entry) (refusal : Ref
   pub accepted : new.accepted ≡ old.accepted
   pub number : new.number ≡ old.number
 
--- the same seat, which has seen all that it had seen, and all of this list, and is one of the two
+-- the same seat, which has now seen the longer of two lists: what it had seen, and this one
 pub record Told (old new : Seated) (list : List Entry) : Type 0 where
   pub later : IsPrefix old.seen new.seen
   pub told : IsPrefix list new.seen
@@ -56,7 +56,7 @@ pub record Told (old new : Seated) (list : List Entry) : Type 0 where
   pub accepted : new.accepted ≡ old.accepted
   pub number : new.number ≡ old.number
 
--- the same seat, which has seen as much or more, and all of it legal
+-- the same seat, which has seen as much or more; what it has seen is legal
 pub record Looks (start : Start) (old new : Seated) : Type 0 where
   pub later : IsPrefix old.seen new.seen
   pub legal : IsLegal (log_of start new.seen)

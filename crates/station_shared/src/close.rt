@@ -17,23 +17,26 @@ use std::sync::Wait;
 /// What a closed station leaves.
 #[derive(Drop)]
 pub struct Closed {
+    /// The entries that the station was resumed from, and then one for each accepted call.
     pub journal: Journal,
     /// How many calls of each seat were accepted, by the number of the seat.
     pub accepted: ArrayVec<u64, 9>,
 }
 
-/// The station and the seats that were given, where they aren't all the seats of the station, each once.
+/// A refused close: the seats that were given aren't all the seats of the station, each once.
 pub struct Missing<const N: usize, L: StationName>
 where
     PublishedTable<N>: Absorb<Unlogged, State = ()>,
     PublishRule: Protocol<PublishedTable<N>, Option<Mark>>,
 {
+    /// The station, as it was.
     pub station: Station<N, L>,
+    /// The seats that were given, as they were.
     pub seats: Vec<Seat<N, L>>,
 }
 
 impl<const N: usize, L: StationName> Station<N, L> {
-    /// Gives up a station that isn't closed.
+    /// Drops a station that isn't closed, with its journal.
     pub fn end<R: Wait>(self, rt: &R) {
         let Station {
             locked,
@@ -47,11 +50,11 @@ impl<const N: usize, L: StationName> Station<N, L> {
         desk.end(rt);
     }
 
-    /// Closes the station, once all its seats are given back, in any order: hands out the journal, and how many calls
+    /// Closes the station, to which all its seats are given back, in any order. Returns the journal, and how many calls
     /// of each seat were accepted.
     ///
-    /// Where a seat is missing, or one of another number is among them, the station and the seats come back as they
-    /// were.
+    /// Refused where a seat is missing, or one of another number is among them. The station and the seats come back as
+    /// they were then.
     pub fn close<R: Wait>(self, rt: &R, seats: Vec<Seat<N, L>>) -> Result<Closed, Missing<N, L>>
         ensures seats { IfOk result (λ c. EachOnce L.seats seats.items) }
         ensures journal { IfOk result (λ c. (c.journal.log ≡ log_of L.start c.journal.log.entries)
@@ -80,7 +83,7 @@ impl<const N: usize, L: StationName> Station<N, L> {
 }
 
 impl<const N: usize, L: StationName> Locked<N, L> {
-    // Takes the seats in, and hands out the journal.
+    // Takes the seats back, and returns the journal.
     fn close<R: Wait>(self, rt: &R, mut seats: Vec<Seat<N, L>>) -> Journal
         requires { EachOnce L.seats seats.items }
         ensures log { result.log ≡ log_of L.start result.log.entries }

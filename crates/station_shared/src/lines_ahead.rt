@@ -1,4 +1,4 @@
-//! The lines of a piece, before the lock of their station is taken: cut, read, and their frames decoded.
+//! Lines that are parsed before the lock of their station is taken, with their frames decoded.
 ghost use Rattle.std.specs.Prelude.{◌≡◌, ℕ, ◌+◌, ◌<◌, ◌≤◌, List, Ok, length, slice_set, take};
 ghost use Rattle.modes_frame.specs.Lines.{pending};
 ghost use Rattle.station_book.specs.Decoded.{sighting_of};
@@ -12,7 +12,7 @@ use modes_frame::{Cut, Cutter, Frame, Line, LineReader};
 use station_book::DecodedEntry;
 use station_lines::pumping::read_cut;
 
-/// What a line says to a pump, read before the lock is taken. Its frame is decoded.
+/// What a line says to a pump, parsed before the lock is taken.
 #[derive(Clone, Copy, Debug, Default)]
 pub(crate) enum LineAhead {
     /// A frame, and what it decodes to.
@@ -26,7 +26,7 @@ pub(crate) enum LineAhead {
     Fault,
 }
 
-// A frame, with what it decodes to.
+// A frame, and what it decodes to.
 fn decoded(frame: Frame) -> LineAhead
     ensures { result ≡ Kinds.Frame frame (Decoded.Heard (sighting_of frame)) }
 {
@@ -34,7 +34,7 @@ fn decoded(frame: Frame) -> LineAhead
     LineAhead::Frame(frame, decoded)
 }
 
-/// What a line says, as it was cut.
+/// What a cut line says.
 pub(crate) fn tell(lines: &LineReader, cut: &Cut) -> LineAhead
     ensures { result ≡ told_of (heard cut.now) }
 {
@@ -49,8 +49,8 @@ pub(crate) fn tell(lines: &LineReader, cut: &Cut) -> LineAhead
     }
 }
 
-/// Tells the lines that these bytes end in the places from `from` on, until there is none left before `to`. Answers how many
-/// bytes it took, and the place after the last line that it told.
+/// Parses the lines that these bytes end, into the places from `from` up to `to`. Returns how many bytes it took, and
+/// the place after the last line.
 pub(crate) fn read_ahead(
     cutter: &mut Cutter,
     lines: &LineReader,

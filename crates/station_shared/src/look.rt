@@ -17,8 +17,9 @@ use station_desk::{Front, LookingPlace, Mark, PublishRule, PublishedTable, Reade
 use station_journal::{Aircraft, Rows};
 use std::marker::Model;
 
-/// A seat that looks. The table stays as it is until the look ends by [`Look::done`]. A look that is dropped gives up
-/// its seat.
+/// A seat that looks. The table stays as it is until [`Look::done`] ends the look.
+///
+/// A look that is dropped drops its seat, without which the station can't be closed.
 pub struct Look<const N: usize, L: StationName>
 where
     PublishRule: Protocol<PublishedTable<N>, Option<Mark>>,
@@ -49,7 +50,7 @@ where
         × IsLegal (log_of L.start l.standing.seen) };
 }
 
-// Lets a reader's place in, to look at what is published.
+// Lets a reader in at its place, to look at what is published.
 fn enter<const N: usize>(place: ReaderPlace<N>) -> Result<LookingPlace<N>, ReaderPlace<N>>
     ensures { MatchResult result
         (λ looking. SawPublished N (view_of place.entry.place) (sheet_of looking.part.value) (view_of looking.place))
@@ -58,7 +59,7 @@ fn enter<const N: usize>(place: ReaderPlace<N>) -> Result<LookingPlace<N>, Reade
     place.enter_as::<Sees>()
 }
 
-// Whether the published table lacks entries of this beginning. It lacks none that a place had seen before it was let in.
+// Whether the published table has fewer entries than `known`. It has no fewer where it was published with all of them.
 fn lacks<const N: usize>(looking: &LookingPlace<N>, known: &Front) -> bool
     ensures fewer { IsTrue result
         ↔ (length looking.now.part.value.front.entries < length known.now.entries) }
@@ -69,9 +70,14 @@ fn lacks<const N: usize>(looking: &LookingPlace<N>, known: &Front) -> bool
 }
 
 impl<const N: usize, L: StationName> Seat<N, L> {
-    /// Looks at the table as it is published, which holds all that the seat has seen. It neither waits nor takes memory.
+    /// Looks at the published table, which contains all that the seat has seen. It neither waits nor allocates.
     ///
-    /// The seat comes back as it was where no reader is let in, and where it has no place among the readers.
+    /// Refused where:
+    /// - the seat has no place among the readers;
+    /// - no reader is let in;
+    /// - the published table lacks an entry that the seat has seen.
+    ///
+    /// The seat comes back as it was then.
     pub fn look(self) -> Result<Look<N, L>, Seat<N, L>>
         ensures { MatchResult result (λ look. Looks L.start self look) (λ seat. seat ≡ self) }
     {
@@ -101,14 +107,15 @@ impl<const N: usize, L: StationName> Seat<N, L> {
 }
 
 impl<const N: usize, L: StationName> Look<N, L> {
-    /// The row of the aircraft with this address, if it is live.
+    /// The row of the aircraft with this 24-bit address, if it is live.
     pub fn get(&self, address: u32) -> Option<Aircraft>
         ensures { result ≡ find_row address (table_of (log_of L.start self.now.seen)) }
     {
         self.looking.get().book.get(address)
     }
 
-    /// The moment of the newest tick that is seen, in milliseconds, or 0 where there is none.
+    /// The time of the newest tick that is seen, in milliseconds. Without a tick it is the base of the journal: 0, or
+    /// after a resume that of its entries.
     pub fn now(&self) -> u64
         ensures value { result ≡ clock_of (log_of L.start self.now.seen) }
         ensures legal { IsLegal (log_of L.start self.now.seen) }
@@ -116,14 +123,14 @@ impl<const N: usize, L: StationName> Look<N, L> {
         self.looking.get().book.now()
     }
 
-    /// How many entries are seen.
+    /// How many entries are seen. Those that the station was resumed from count.
     pub fn entries(&self) -> u64
         ensures { result ≡ length self.now.seen }
     {
         self.looking.get().book.entries()
     }
 
-    /// Ends the look. The seat has seen what the look saw.
+    /// Ends the look. The seat has seen what the look showed.
     pub fn done(self) -> Seat<N, L>
         ensures { result ≡ self }
     {

@@ -7,8 +7,8 @@ use crate::station_name::StationName;
 use station_desk::Front;
 use std::marker::{Model, PhantomData};
 
-/// A promise that an accepted entry stands in the journal of its station. Contracts see the journal up to it, which is
-/// legal.
+/// A promise that an accepted entry is in the journal of its station. Contracts see the journal up to that entry, which
+/// is legal.
 pub struct Receipt<L: StationName> {
     pub(crate) front: Front,
     // The station that gave it.
@@ -43,7 +43,7 @@ impl<L: StationName> Receipt<L> {
         }
     }
 
-    /// The place of the entry in the journal, counted from 0.
+    /// The index of the entry in the journal, from 0. Entries that the station was resumed from come first.
     pub fn index(&self) -> u64
         ensures { result + 1 ≡ length self.now.entries }
     {

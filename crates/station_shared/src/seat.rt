@@ -14,8 +14,9 @@ use crossbeam_utils::rule::Protocol;
 use station_desk::{Mark, PublishRule, PublishedTable, ReaderPlace};
 use std::marker::Model;
 
-/// The right to call, as one of the seats of a station. Contracts see its number, how many of its calls were accepted,
-/// and what it has seen of the journal. Where it has a place among the readers, it can look.
+/// The right to call a station, as one of its seats. A seat that has a place among the readers can also look.
+///
+/// Contracts see its number, how many of its calls were accepted, and what it has seen of the journal.
 pub struct Seat<const N: usize, L: StationName>
 where
     PublishRule: Protocol<PublishedTable<N>, Option<Mark>>,
@@ -42,14 +43,15 @@ where
 }
 
 impl<const N: usize, L: StationName> Seat<N, L> {
-    /// The number of the seat: below the number of seats, and no other seat of the station has it.
+    /// The number of the seat, from 0. It is below the number of seats, and no other seat of the station has it.
     pub fn number(&self) -> u8
         ensures { result ≡ self.now.number }
     {
         self.standing.number
     }
 
-    /// How many of its calls were accepted. What it has seen is legal, and holds at least as many entries of its number.
+    /// How many of its calls were accepted since the station began. What it has seen is legal, and contains at least as
+    /// many entries of its number.
     pub fn accepted(&self) -> u64
         ensures value { result ≡ self.now.accepted }
         ensures seen { result ≤ count_of self.now.number (own L.start self.now.seen) }
@@ -58,7 +60,7 @@ impl<const N: usize, L: StationName> Seat<N, L> {
         self.standing.accepted
     }
 
-    /// Takes in what a receipt of the same station tells: from now on the seat has seen the receipt's entry.
+    /// Learns from a receipt of the same station: from now on the seat has seen the receipt's entry, and all before it.
     pub fn learn(&mut self, receipt: &Receipt<L>)
         ensures told { Told self.old self.new receipt.now.entries }
         ensures legal { IsLegal (log_of L.start self.new.seen) }
@@ -67,7 +69,7 @@ impl<const N: usize, L: StationName> Seat<N, L> {
         self.standing.know(longer);
     }
 
-    /// What it keeps whether it looks or not, and its place among the readers, where it has one.
+    /// Takes the seat apart: what it keeps whether it looks or not, and its place among the readers, if it has one.
     pub(crate) fn apart(self) -> (Standing<L>, Option<ReaderPlace<N>>)
         ensures standing { result.0 ≡ self }
         ensures place { IfSome result.1 (λ p. IsOf L.start (view_of p.place)) }
@@ -76,7 +78,7 @@ impl<const N: usize, L: StationName> Seat<N, L> {
         (standing, place)
     }
 
-    /// What it keeps whether it looks or not. Its place among the readers is given up.
+    /// What the seat keeps whether it looks or not. Its place among the readers is dropped.
     pub(crate) fn into_standing(self) -> Standing<L>
         ensures { result ≡ self }
     {

@@ -14,7 +14,7 @@ use station_journal::Refusal;
 use station_lines::{Feed, PumpFault, Source, Tally, pump};
 use std::sync::Wait;
 
-/// A station, and the lent seat that feeds it.
+/// A station, and the borrowed seat that feeds it.
 #[derive(Drop)]
 pub struct SeatFeed<'a, const N: usize, L: StationName>
 where
@@ -40,7 +40,7 @@ impl<'a, const N: usize, L: StationName> Feed for SeatFeed<'a, N, L> {
     }
 }
 
-// The pump over the seat that this feed lends.
+// The pump over the seat that this feed borrows.
 fn pump_lent<const N: usize, L: StationName, S: Source, R: Wait>(
     rt: &R,
     feed: &mut SeatFeed<'_, N, L>,

@@ -10,8 +10,9 @@ use station_desk::Front;
 use std::marker::Model;
 use std::sync::ledger::{Book as LedgerBook, Share as LedgerShare};
 
-/// A seat's number, how many of its calls were accepted, with its share of all that were, and what it has seen of the
-/// journal, which is legal.
+/// A seat's number, its accepted calls, its share of all accepted calls, and what it has seen of the journal.
+///
+/// The share is as large as its accepted calls are many. What it has seen is legal.
 pub(crate) struct Standing<L: StationName> {
     pub(crate) number: u8,
     pub(crate) accepted: u64,
@@ -41,7 +42,7 @@ impl<L: StationName> Model for Standing<L> {
 }
 
 impl<L: StationName> Standing<L> {
-    /// Has seen so much of the journal from now on.
+    /// Sets what was seen of the journal.
     pub(crate) fn know(&mut self, front: Front)
         requires history { front.name ≡ L.start.history }
         requires later { IsPrefix self.old.seen front.entries }
@@ -55,8 +56,7 @@ impl<L: StationName> Standing<L> {
         self.front = front;
     }
 
-    /// Counts a call that was accepted, in the seat's share and in the total, and has seen so much of the journal from
-    /// now on.
+    /// Counts an accepted call, in the seat's share and in the total, and sets what was seen of the journal.
     pub(crate) fn count(&mut self, total: &mut LedgerBook<L>, front: Front)
         requires room { self.old.accepted + 1 < 2 ^ 64 }
         requires history { front.name ≡ L.start.history }
@@ -80,7 +80,7 @@ impl<L: StationName> Standing<L> {
         *known = front;
     }
 
-    /// Gives up the number, and leaves the share and what was seen.
+    /// Takes it apart: the share, and what was seen.
     pub(crate) fn into_parts(self) -> (LedgerShare<L>, Front)
         ensures share { (result.0.parts ≡ 1) × (result.0.amount ≡ self.accepted) }
         ensures front { (result.1.name ≡ L.start.history) × (result.1.entries ≡ self.seen) }

@@ -2,14 +2,15 @@
 use std::marker::Brand;
 use std::sync::ledger::Ledger;
 
-/// Stands for one station in clauses. No value of it is made.
+/// Names one station in clauses. No value of it is made.
 pub trait StationName: Ledger {
     ghost use Rattle.std.specs.Prelude.{ℕ};
     ghost use Rattle.station_desk.specs.Start.{Start};
 
-    /// How many seats, each with one part.
+    /// The number of seats, each with one part of the ledger.
     ghost seats: { ℕ };
 
+    /// What the station began with: its history, its limits, and the number of entries that it was resumed from.
     ghost start: { Start };
 }
 

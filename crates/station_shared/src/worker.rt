@@ -1,4 +1,4 @@
-//! Receivers that hand in their lines at the same time.
+//! Receivers that feed their lines at the same time.
 ghost use Rattle.std.specs.Prelude.{◌≡◌, ◌<◌, ℕ, length, slice_index_or};
 ghost use Rattle.station_lines.specs.Drawing.{drawn_of};
 ghost use Rattle.station_shared.specs.Workers.{Worked};
@@ -17,7 +17,7 @@ use std::sync::Wait;
 use std::thread;
 use std::thread::Threads;
 
-/// A seat, the source of the lines that it hands in, and what its pump answered, once there was one.
+/// A seat, the source of its lines, and what its pump answered, once it ran.
 #[derive(Drop)]
 pub struct Worker<const N: usize, S: Source, L: StationName>
 where
@@ -28,7 +28,7 @@ where
     pub answer: Option<Result<Tally, PumpFault>>,
 }
 
-// Pumps the one worker of a piece.
+// Pumps the one worker of a chunk.
 fn run_part<const N: usize, S: Source, L: StationName, R: Wait>(
     rt: &R,
     station: &Station<N, L>,
@@ -48,10 +48,10 @@ fn run_part<const N: usize, S: Source, L: StationName, R: Wait>(
     worker.answer = Some(answer);
 }
 
-/// Pumps each worker's source through its seat, in a thread of its own, and leaves its answer with it.
+/// Pumps each worker's source through its seat, in a thread of its own, and puts the answer into the worker.
 ///
-/// Each pump makes at most `turns` reads. Where the system gives no thread, that work runs on the caller's. With no
-/// worker it does nothing.
+/// Each pump makes at most `turns` reads. Where the system starts no thread, the caller's thread does that work.
+/// Without workers it does nothing.
 pub fn run_receivers<
     const N: usize,
     S: Source + Send,

@@ -6,7 +6,7 @@ use Rattle.station_lines.specs.Pump.{Pumps}
 use Rattle.station_shared.specs.Workers.{SeatSteps}
 use Rattle.station_shared.proofs.held_pump.take_ahead.Given as goal
 
--- the lines so far were taken, and what the seat has seen begins the journal
+-- the lines so far were taken, and what the seat has seen is a prefix of the journal
 abbrev pub invariant-loop-told : goal.invariant-loop-told
 invariant-loop-told g l =
     record {

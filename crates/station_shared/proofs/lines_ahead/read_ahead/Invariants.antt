@@ -4,7 +4,7 @@ use Rattle.station_shared.specs.LinesAhead.{Tells}
 use Rattle.station_lines.specs.Drawing.{TakesBytes}
 use Rattle.station_shared.proofs.lines_ahead.read_ahead.Given as goal
 
--- the lines that the bytes so far ended are told
+-- the lines that the bytes so far ended are parsed
 abbrev pub invariant-loop-at : goal.invariant-loop-at
 invariant-loop-at l =
     record {
