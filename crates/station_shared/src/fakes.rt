@@ -1,4 +1,4 @@
-//! Places and vectors for tests.
+//! Places, pushes and waits for tests.
 ghost use Rattle.std.specs.Prelude.{◌≡◌, ◌<◌, ◌≤◌};
 ghost use Rattle.station_desk.specs.History.{base_of};
 ghost use Rattle.station_desk.specs.Desk.{most_aircraft};
@@ -7,8 +7,11 @@ use station_desk::Places;
 use std::alloc::Global;
 use std::process::Abort;
 use std::sync::Wait;
+use std::sync::atomic::AtomicU64;
+use std::sync::atomic::Ordering::SeqCst;
+use std::thread::yield_now;
 
-/// Places for so many seats, whose clock is at 0. Where they want memory, they are made once more.
+/// Places for this many seats, with the clock at 0. Out of memory they are made once more.
 pub fn new_places<const N: usize, R: Wait + Abort>(rt: &R, alloc: Global, seats: u8) -> Places<N>
     requires seats { 0 < seats }
     requires small { N ≤ most_aircraft }
@@ -18,7 +21,7 @@ pub fn new_places<const N: usize, R: Wait + Abort>(rt: &R, alloc: Global, seats:
     places_at(rt, alloc, 0, seats)
 }
 
-/// The same, whose clock is at this moment.
+/// Places as [`new_places`] makes them, with the clock at `base` milliseconds.
 pub fn places_at<const N: usize, R: Wait + Abort>(
     rt: &R,
     alloc: Global,
@@ -36,10 +39,19 @@ pub fn places_at<const N: usize, R: Wait + Abort>(
     }
 }
 
-/// A vector with room for so many, whose pushes up to there take no memory. Where it wants memory, it is made once more.
-pub fn room_for<T: Drop>(rt: &impl Abort, alloc: Global, count: usize) -> Vec<T> {
-    match Vec::with_capacity(alloc, count) {
-        Ok(room) => room,
-        Err(_) => Vec::with_capacity(alloc, count).expect(rt, "the second call has memory"),
+/// Pushes an item, for which there is memory.
+pub fn push<T: Drop>(rt: &impl Abort, items: &mut Vec<T>, item: T) {
+    let pushed = items.push(item).is_ok();
+    assert!(rt; pushed);
+}
+
+/// Waits until another thread sets the word, and says whether it did. It looks at most 10,000,000 times.
+pub fn becomes_set(word: &AtomicU64) -> bool {
+    for _ in 0..10_000_000 {
+        if word.load(SeqCst) != 0 {
+            return true;
+        }
+        yield_now();
     }
+    false
 }

@@ -1,11 +1,11 @@
-//! Receivers that hand in their lines at the same time.
+//! Receivers that feed their lines at the same time.
 ghost use Rattle.std.specs.Prelude.{◌≡◌};
 ghost use Rattle.station_desk.specs.History.{base_of};
 
 mod refused;
 mod torn;
 
-use crate::fakes::{new_places, room_for};
+use crate::fakes::{becomes_set, new_places, push};
 use crate::seat::Seat;
 use crate::station::Station;
 use crate::station_name::StationName;
@@ -58,12 +58,12 @@ const REFUSED_LINE: Tally = Tally {
     refused: 1,
 };
 
-/// Waits until another receiver's aircraft is live, and answers whether it is.
+// Waits until another receiver's aircraft is live, and says whether it is.
 trait Watch: Sized {
     fn watch(self) -> (Self, bool);
 }
 
-// Looks by a seat that is told of nothing, until 485020 is live, at most 10,000,000 times.
+// Looks by a seat that learns nothing, until 485020 is live, at most 10,000,000 times.
 impl<L: StationName> Watch for Seat<8, L> {
     fn watch(self) -> (Self, bool) {
         let mut seat = self;
@@ -89,7 +89,7 @@ fn look_for<L: StationName>(seat: Seat<8, L>, address: u32) -> (Seat<8, L>, bool
     }
 }
 
-/// Gives its bytes, and then the end once its watcher has seen the other's aircraft or, without one, the word is set.
+// Gives its bytes. It ends once its watcher has seen the other's aircraft or, without a watcher, once the word is set.
 #[derive(Drop)]
 struct Meeting<'a, W> {
     rest: &'static [u8],
@@ -120,16 +120,6 @@ fn have_met<W: Watch + Drop>(watcher: &mut Option<W>, word: &AtomicU64) -> bool 
     }
 }
 
-fn becomes_set(word: &AtomicU64) -> bool {
-    for _ in 0..10_000_000 {
-        if word.load(SeqCst) != 0 {
-            return true;
-        }
-        yield_now();
-    }
-    false
-}
-
 fn worker<const N: usize, S: Source, L: StationName>(
     seat: Seat<N, L>,
     source: S,
@@ -149,8 +139,8 @@ fn run_both<W: Watch + Send + Drop, L: StationName + Send + Sync, R: Threads + W
     run_receivers(rt, station, workers, 9);
 }
 
-// Whether the worker ended its source. Else it wanted memory at its frame, or it met nobody, since the other wanted
-// memory or had to wait for a thread. Its seat was accepted as often as the tally counts.
+// Whether the worker ended its source. Otherwise it was out of memory at its frame, or it met nobody: the other was out
+// of memory, or had to wait for a thread. Its seat was accepted as often as the tally counts.
 fn has_ended<S: Source, L: StationName>(rt: &impl Abort, worker: &Worker<8, S, L>) -> bool {
     let (counted, has_ended) = match worker.answer {
         Some(Ok(counted)) => (counted, true),
@@ -165,7 +155,8 @@ fn has_ended<S: Source, L: StationName>(rt: &impl Abort, worker: &Worker<8, S, L
     has_ended
 }
 
-// Closes the station with all its seats. What is published and the journal hold what was accepted, so many entries.
+// Closes the station with all its seats, and counts the entries. The published table and the journal have all that were
+// accepted.
 fn close_all<const N: usize, L: StationName, R: Wait + Abort>(
     rt: &R,
     station: Station<N, L>,
@@ -176,8 +167,7 @@ fn close_all<const N: usize, L: StationName, R: Wait + Abort>(
         Err(_) => panic!(rt; "a reader is let in"),
     };
     let entries = look.entries();
-    let pushed = seats.push(look.done()).is_ok();
-    assert!(rt; pushed);
+    push(rt, &mut seats, look.done());
     let closed = match station.close(rt, seats) {
         Ok(closed) => closed,
         Err(_) => panic!(rt; "not closed with all seats"),
@@ -190,7 +180,7 @@ fn close_all<const N: usize, L: StationName, R: Wait + Abort>(
     entries
 }
 
-// Takes the seats back from the workers. Tells whether both ended their sources.
+// Takes the seats back from the workers, and says whether both ended their sources.
 fn have_ended<W: Watch + Drop, L: StationName>(
     rt: &impl Abort,
     seats: &mut Vec<Seat<8, L>>,
@@ -201,13 +191,20 @@ fn have_ended<W: Watch + Drop, L: StationName>(
         let has_ended = has_ended(rt, &worker);
         have_ended = have_ended && has_ended;
         let Worker { seat, .. } = worker;
-        let pushed = seats.push(seat).is_ok();
-        assert!(rt; pushed);
+        push(rt, seats, seat);
     }
     have_ended
 }
 
-// Two receivers, of which each ends its source once the other's aircraft is live. The first's source looks, by the
+// The workers' vector. Out of memory it is made once more.
+fn room_for_two<T: Drop>(rt: &impl Abort, alloc: Global) -> Vec<T> {
+    match Vec::with_capacity(alloc, 2) {
+        Ok(room) => room,
+        Err(_) => Vec::with_capacity(alloc, 2).expect(rt, "the second call has memory"),
+    }
+}
+
+// Two receivers, each with a source that ends once the other's aircraft is live. The first one's source looks, by the
 // third seat. False where something was refused.
 fn is_meeting<L: StationName + Send + Sync, R: Threads + Wait + Abort + Sync>(
     rt: &R,
@@ -226,29 +223,24 @@ fn is_meeting<L: StationName + Send + Sync, R: Threads + Wait + Abort + Sync>(
     };
     let word = AtomicU64::new(0);
     let (mut looking, mut waiting) = (seats.pop(), None);
-    let mut workers = room_for(rt, alloc, 2);
+    let mut workers = room_for_two(rt, alloc);
     let first = seats.pop().expect(rt, "the first receiver's seat");
     let source = Meeting {
         rest: IDENTIFICATION,
         watcher: &mut looking,
         word: &word,
     };
-    let pushed = workers.push(worker(first, FromRead::new(source))).is_ok();
-    assert!(rt; pushed);
+    push(rt, &mut workers, worker(first, FromRead::new(source)));
     let second = seats.pop().expect(rt, "the second receiver's seat");
     let source = Meeting {
         rest: VELOCITY,
         watcher: &mut waiting,
         word: &word,
     };
-    let pushed = workers.push(worker(second, FromRead::new(source))).is_ok();
-    assert!(rt; pushed);
+    push(rt, &mut workers, worker(second, FromRead::new(source)));
     run_both(rt, &station, workers.as_mut_slice());
     let have_ended = have_ended(rt, &mut seats, workers);
-    let pushed = seats
-        .push(looking.expect(rt, "the seat that looks"))
-        .is_ok();
-    assert!(rt; pushed);
+    push(rt, &mut seats, looking.expect(rt, "the seat that looks"));
     assert_eq!(rt; seats.len(), 3);
     let entries = close_all(rt, station, seats);
     assert!(rt; entries == 2 || !have_ended);

@@ -3,6 +3,7 @@ ghost use Rattle.std.specs.Prelude.{◌≡◌};
 ghost use Rattle.station_desk.specs.History.{base_of};
 
 use super::{IDENTIFICATION, LIMITS, ONE_LINE, VELOCITY, worker};
+use crate::fakes::push;
 use crate::station::Station;
 use crate::station_name::StationName;
 use crate::worker::run_receivers;
@@ -18,7 +19,7 @@ use std::sync::ledger::Blank;
 use std::test::*;
 use std::thread::Threads;
 
-/// Gives its bytes, and then fails or tells the end.
+// Gives its bytes, and then fails or ends.
 #[derive(Drop)]
 struct Torn {
     rest: &'static [u8],
@@ -53,8 +54,7 @@ fn one_that_fails<L: StationName + Send + Sync, R: Threads + Wait + Abort + Sync
     assert_eq!(rt; workers.len(), 0);
     for reader in readers {
         let seat = seats.pop().expect(rt, "a seat of a receiver");
-        let pushed = workers.push(worker(seat, FromBuffer::new(reader))).is_ok();
-        assert!(rt; pushed);
+        push(rt, &mut workers, worker(seat, FromBuffer::new(reader)));
     }
     run_receivers(rt, &station, workers.as_mut_slice(), 9);
     assert_eq!(rt; workers.len(), 2);
