@@ -24,37 +24,42 @@ use program::program;
 use standard_error::StandardError;
 use std::alloc::{AllocError, Global};
 use std::env;
-use std::io::{ErrorKind, Write};
+use std::fs::File;
+use std::io::{ErrorKind, Read, Write};
 use std::process::ExitCode;
-use std::rt::Env;
+use std::rt::{Env, Files};
+use std::sync::Wait;
+use std::thread::Threads;
+use std::time::Clock;
 
 fn main(rt: HostRuntime) -> ExitCode {
-    let owned = match own_words(&rt) {
+    let owned = own_words(&rt);
+    let status = answer(&rt, rt.alloc(), owned, rt.stdin(), rt.stdout(), rt.stderr());
+    ExitCode::from(status)
+}
+
+// Runs the program on its words, or says why they couldn't be read. Answers the exit status.
+fn answer<
+    R: Threads + Wait + Clock + Files<File = File> + Sync,
+    I: Read + Drop,
+    O: Write + Send + Drop,
+    E: Write + Drop,
+>(rt: &R, alloc: Global, owned: Result<Vec<String>, ErrorKind>, input: I, out: O, err: E) -> u8 {
+    let mut err = StandardError::new(err);
+    let owned = match owned {
         Ok(owned) => owned,
-        Err(ErrorKind::OutOfMemory) => return no_memory(rt.stderr()),
-        Err(_) => return not_text(rt.stderr()),
+        Err(ErrorKind::OutOfMemory) => return tell(&mut err, Fault::NoMemory),
+        Err(_) => return not_text(&mut err),
     };
-    let Ok(words) = borrowed(rt.alloc(), &owned) else {
-        return no_memory(rt.stderr());
+    let Ok(words) = borrowed(alloc, &owned) else {
+        return tell(&mut err, Fault::NoMemory);
     };
-    let ran = program(
-        &rt,
-        rt.alloc(),
-        words.as_slice(),
-        rt.stdin(),
-        rt.stdout(),
-        &mut StandardError::new(rt.stderr()),
-    );
-    ExitCode::from(ran.status)
+    program(rt, alloc, words.as_slice(), input, out, &mut err).status
 }
 
-fn no_memory<E: Write + Drop>(err: E) -> ExitCode {
-    ExitCode::from(tell(&mut StandardError::new(err), Fault::NoMemory))
-}
-
-fn not_text<E: Write + Drop>(mut err: E) -> ExitCode {
-    let _ = writeln!(err, "error: a word of the command line is not UTF-8");
-    ExitCode::from(2)
+fn not_text<E: Write>(err: &mut StandardError<E>) -> u8 {
+    err.text(format_args!("error: a word of the command line is not UTF-8\n"));
+    2
 }
 
 fn own_words(rt: &(impl Env + AllocGlobal)) -> Result<Vec<String>, ErrorKind> {

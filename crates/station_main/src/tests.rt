@@ -1,5 +1,6 @@
 //! The program over words and streams of these tests.
 mod outputs;
+mod replies;
 mod rounds;
 mod run;
 mod sleeps;
@@ -9,7 +10,9 @@ mod words;
 
 use crate::program::program;
 use crate::standard_error::StandardError;
-use std::alloc::Global;
+use crate::{answer, own_words};
+use std::alloc::{AllocError, Global};
+use std::env::{Env, FillError};
 use std::fs::File;
 use std::io::{self, Read, Write};
 use std::process::Abort;
@@ -29,6 +32,7 @@ const TABLE_OF_NOBODY: &str = concat!(
 
 const NO_MEMORY: &str = "groundstation: no memory\n";
 
+// What the program leaves: its status, its output and standard error.
 #[derive(Debug, Drop)]
 struct Ran {
     status: u8,
@@ -36,7 +40,14 @@ struct Ran {
     err: Vec<u8>,
 }
 
-// A stream whose first 2,048 bytes take no memory. Where it wants memory, it is made once more.
+// What the program leaves beside its output.
+#[derive(Debug, Drop)]
+struct Told {
+    status: u8,
+    err: Vec<u8>,
+}
+
+// A stream whose first 2,048 bytes take no memory. Where an allocation is refused, it is made once more.
 fn stream(rt: &impl Abort, alloc: Global) -> Vec<u8> {
     match Vec::with_capacity(alloc, 2_048) {
         Ok(stream) => stream,
@@ -44,7 +55,7 @@ fn stream(rt: &impl Abort, alloc: Global) -> Vec<u8> {
     }
 }
 
-// The program, with what it tells on standard error written by `err`. Answers its status.
+// Runs the program, and answers its status.
 fn status_of<
     R: Threads + Wait + Clock + Files<File = File> + Sync,
     I: Read + Drop,
@@ -62,6 +73,41 @@ fn run_words<
     let mut err = stream(rt, rt.alloc());
     let status = status_of(rt, rt.alloc(), words, input, &mut out, &mut err);
     Ran { status, out, err }
+}
+
+fn replay<
+    R: Threads + Wait + Clock + Files<File = File> + Sync + AllocGlobal + Abort,
+    I: Read + Drop,
+>(rt: &R, input: I) -> Ran {
+    run_words(rt, ["groundstation", "replay"].as_slice(), input)
+}
+
+// The words of a line, which are parted by single blanks, and then these paths.
+fn words_of<'a>(
+    alloc: Global,
+    line: &'a str,
+    paths: &[&'a str],
+) -> Result<Vec<&'a str>, AllocError> {
+    let mut words = Vec::new(alloc);
+    for word in line.split(' ') {
+        words.push(word)?;
+    }
+    words.extend_from_slice(paths)?;
+    Ok(words)
+}
+
+// Runs the program on the words of a line and these paths.
+fn run_line<R: Threads + Wait + Clock + Files<File = File> + Sync, O: Write + Send + Drop>(
+    rt: &R,
+    alloc: Global,
+    line: &str,
+    paths: &[&str],
+    out: O,
+) -> Result<Told, AllocError> {
+    let words = words_of(alloc, line, paths)?;
+    let mut err = Vec::new(alloc);
+    let status = status_of(rt, alloc, words.as_slice(), NO_LINES, out, &mut err);
+    Ok(Told { status, err })
 }
 
 fn text(bytes: &Vec<u8>) -> &str {
@@ -86,11 +132,7 @@ const LINES_OF_ALL_KINDS: &[u8] = b"\
 
 #[test]
 fn each_count_stands_by_its_word(rt: HostRuntime) {
-    let counted = run_words(
-        &rt,
-        ["groundstation", "replay"].as_slice(),
-        LINES_OF_ALL_KINDS,
-    );
+    let counted = replay(&rt, LINES_OF_ALL_KINDS);
     assert_eq!(rt;
         text(&counted.err),
         "lines 23 frames 5 ticks 8 shows 1 blank 2 modeac 3 faults 4 accepted 7 refused 6\n"
@@ -98,7 +140,7 @@ fn each_count_stands_by_its_word(rt: HostRuntime) {
     assert_eq!(rt; counted.status, 0);
 }
 
-// Whether the program was refused memory: before it read anything, or at its first line, which is a frame.
+// Whether an allocation was refused: before the program read anything, or at its first line, which is a frame.
 fn wants_memory(told: &str) -> bool {
     let at_the_frame = concat!(
         "lines 1 frames 1 ticks 0 shows 0 blank 0 modeac 0 faults 0 accepted 0 refused 1\n",
@@ -109,11 +151,10 @@ fn wants_memory(told: &str) -> bool {
 
 #[test]
 fn an_identification_is_shown(rt: HostRuntime) {
-    let words = ["groundstation", "replay"];
-    let mut shown = run_words(&rt, words.as_slice(), IDENTIFICATION);
+    let mut shown = replay(&rt, IDENTIFICATION);
     if wants_memory(text(&shown.err)) {
         assert!(rt; shown.status == 1 && shown.out.is_empty());
-        shown = run_words(&rt, words.as_slice(), IDENTIFICATION);
+        shown = replay(&rt, IDENTIFICATION);
     }
     assert_eq!(rt;
         text(&shown.out),
@@ -132,17 +173,23 @@ fn an_identification_is_shown(rt: HostRuntime) {
 
 #[test]
 fn nobody_is_shown_before_a_frame(rt: HostRuntime) {
-    let nothing: &[u8] = b"";
-    let empty = run_words(&rt, ["groundstation", "replay"].as_slice(), nothing);
-    assert!(rt; empty.status == 0 && empty.out.is_empty());
-    assert_eq!(rt;
-        text(&empty.err),
-        "lines 0 frames 0 ticks 0 shows 0 blank 0 modeac 0 faults 0 accepted 0 refused 0\n"
-    );
-    let question: &[u8] = b"?";
-    let asked = run_words(&rt, ["groundstation", "replay"].as_slice(), question);
-    assert_eq!(rt; text(&asked.out), TABLE_OF_NOBODY);
-    assert_eq!(rt; asked.status, 0);
+    for (lines, tables, counts) in [
+        (
+            "",
+            "",
+            "lines 0 frames 0 ticks 0 shows 0 blank 0 modeac 0 faults 0 accepted 0 refused 0\n",
+        ),
+        (
+            "?",
+            TABLE_OF_NOBODY,
+            "lines 1 frames 0 ticks 0 shows 1 blank 0 modeac 0 faults 0 accepted 0 refused 0\n",
+        ),
+    ] {
+        let ran = replay(&rt, lines.as_bytes());
+        assert_eq!(rt; text(&ran.out), tables);
+        assert_eq!(rt; text(&ran.err), counts);
+        assert_eq!(rt; ran.status, 0);
+    }
 }
 
 // Gives a line, and then fails.
@@ -162,7 +209,7 @@ impl Read for Torn {
     }
 }
 
-// Takes nothing.
+// Fails at each write.
 #[derive(Drop)]
 struct Closed;
 
@@ -177,12 +224,8 @@ impl Write for Closed {
 }
 
 #[test]
-fn a_failed_read_or_write_is_told_after_the_tally(rt: HostRuntime) {
-    let torn = run_words(
-        &rt,
-        ["groundstation", "replay"].as_slice(),
-        Torn { is_torn: false },
-    );
+fn a_failed_read_or_write_is_told_after_the_tally(rt: HostRuntime) -> Result<(), AllocError> {
+    let torn = replay(&rt, Torn { is_torn: false });
     assert_eq!(rt;
         text(&torn.err),
         "lines 2 frames 1 ticks 0 shows 1 blank 0 modeac 0 faults 0 accepted 1 refused 0\n\
@@ -190,10 +233,11 @@ fn a_failed_read_or_write_is_told_after_the_tally(rt: HostRuntime) {
     );
     assert_eq!(rt; torn.status, 1);
     let mut err = Vec::new(rt.alloc());
+    let words = words_of(rt.alloc(), "groundstation replay", [].as_slice())?;
     let status = status_of(
         &rt,
         rt.alloc(),
-        ["groundstation", "replay"].as_slice(),
+        words.as_slice(),
         IDENTIFICATION,
         Closed,
         &mut err,
@@ -204,4 +248,40 @@ fn a_failed_read_or_write_is_told_after_the_tally(rt: HostRuntime) {
         groundstation: write failed\n"
     );
     assert_eq!(rt; status, 1);
+    Ok(())
+}
+
+// A process whose second word isn't UTF-8.
+#[derive(Drop)]
+struct NotText;
+
+impl Env for NotText {
+    fn arg(&self, i: usize, mut buffer: &mut [u8]) -> Result<usize, FillError> {
+        let word: &[u8] = match i {
+            0 => b"groundstation",
+            1 => b"\xFF",
+            _ => return Err(FillError::NotPresent),
+        };
+        buffer.write(word).map_err(|_| FillError::TooLong)
+    }
+
+    fn var(&self, _name: &str, _buffer: &mut [u8]) -> Result<usize, FillError> {
+        Err(FillError::NotPresent)
+    }
+
+    fn var_at(&self, _i: usize, _buffer: &mut [u8]) -> Result<usize, FillError> {
+        Err(FillError::NotPresent)
+    }
+}
+
+#[test]
+fn a_word_that_is_not_utf8_is_refused(rt: HostRuntime) {
+    let words = own_words(&(NotText, rt.alloc()));
+    let (mut out, mut err) = (Vec::new(rt.alloc()), Vec::new(rt.alloc()));
+    let status = answer(&rt, rt.alloc(), words, NO_LINES, &mut out, &mut err);
+    assert!(rt; status == 2 && out.is_empty());
+    assert_eq!(rt;
+        text(&err),
+        "error: a word of the command line is not UTF-8\n"
+    );
 }

@@ -1,11 +1,11 @@
-//! Outputs that fail once, that wait, and that tell how they are written.
-use super::staged::{Staged, becomes_set, end_path, lasting_path};
-use super::{NO_LINES, TABLE_OF_NOBODY, status_of, text};
+//! Outputs that fail once, that wait, and that report how they are written.
+use super::replies::all_call_replies;
+use super::staged::{Feed, Staged, becomes_set, run_lasting};
+use super::{TABLE_OF_NOBODY, status_of, text};
 use std::alloc::{AllocError, Global};
 use std::io::{self, ErrorKind, Write};
 use std::sync::atomic::{AtomicBool, Ordering};
 use std::test::*;
-use std::thread::join;
 use std::time::Clock;
 
 // Fails at its second write alone.
@@ -60,34 +60,14 @@ fn run_writes_nothing_after_a_failed_write_and_reads_on(rt: HostRuntime) -> Resu
     let moments = [0, 50, 100, 150, 200, 250, 300, 350, 400];
     let (has_ended, has_failed) = (AtomicBool::new(false), AtomicBool::new(false));
     let staged = Staged::new(&rt, moments.as_slice(), &has_ended);
-    let lasting = lasting_path(&rt, rt.alloc())?;
-    let words = [
-        "groundstation",
-        "run",
-        "--every",
-        "100",
-        lasting.path.as_str(),
-    ];
-    let (mut taken, mut err) = (Vec::new(rt.alloc()), Vec::new(rt.alloc()));
+    let mut taken = Vec::new(rt.alloc());
     let out = FailsOnce {
         taken: &mut taken,
         writes: 0,
         has_failed: &has_failed,
     };
-    let lines = lasting.lines;
-    let (was_fed, status) = join(
-        &rt,
-        || end_path(&rt, &has_failed, lines, b"*8D4840D6202CC371C32CE0576098;\n"),
-        || status_of(
-            &staged,
-            rt.alloc(),
-            words.as_slice(),
-            NO_LINES,
-            out,
-            &mut err,
-        ),
-    );
-    assert!(rt; was_fed);
+    let feed = Feed::at(&has_failed, b"*8D4840D6202CC371C32CE0576098;\n");
+    let told = run_lasting(&rt, &staged, "groundstation run --every 100", out, feed)?.told;
     assert_eq!(rt;
         text(&taken),
         concat!(
@@ -96,17 +76,17 @@ fn run_writes_nothing_after_a_failed_write_and_reads_on(rt: HostRuntime) -> Resu
         )
     );
     assert_eq!(rt;
-        text(&err),
+        text(&told.err),
         concat!(
             "lines 1 frames 1 ticks 0 shows 0 blank 0 modeac 0 faults 0 accepted 1 refused 0\n",
             "groundstation: write failed\n",
         )
     );
-    assert_eq!(rt; status, 1);
+    assert_eq!(rt; told.status, 1);
     Ok(())
 }
 
-// Waits in its first write until all has been fed. It fails where that doesn't come.
+// Waits in each write until the path has ended. It fails if that takes too long.
 #[derive(Drop)]
 struct Waiting<'a, R> {
     rt: &'a R,
@@ -129,7 +109,7 @@ impl<'a, R: Clock> Write for Waiting<'a, R> {
     }
 }
 
-// Four frames of four aircraft, each before 40,000 blank lines: more than a pipe and a receiver's buffer hold.
+// Four frames of four aircraft, each before 40,000 blank lines: more than a pipe and a receiver's buffer have room for.
 fn long_lines(alloc: Global) -> Result<Vec<u8>, AllocError> {
     let mut lines = Vec::new(alloc);
     for frame in [
@@ -149,41 +129,27 @@ fn long_lines(alloc: Global) -> Result<Vec<u8>, AllocError> {
 #[test]
 fn output_that_waits_holds_no_receiver_up(rt: HostRuntime) -> Result<(), Fail> {
     let (is_waiting, is_fed) = (AtomicBool::new(false), AtomicBool::new(false));
-    let lasting = lasting_path(&rt, rt.alloc())?;
-    let words = [
-        "groundstation",
-        "run",
-        "--every",
-        "1",
-        lasting.path.as_str(),
-    ];
-    let mut err = Vec::new(rt.alloc());
     let out = Waiting {
         rt: &rt,
         is_waiting: &is_waiting,
         is_fed: &is_fed,
     };
-    let fed = long_lines(rt.alloc())?;
-    let lines = lasting.lines;
-    let (was_fed, status) = join(
-        &rt,
-        || {
-            let was_fed = end_path(&rt, &is_waiting, lines, fed.as_slice());
-            is_fed.store(was_fed, Ordering::SeqCst);
-            was_fed
-        },
-        || status_of(&rt, rt.alloc(), words.as_slice(), NO_LINES, out, &mut err),
-    );
-    assert!(rt; was_fed);
+    let lines = long_lines(rt.alloc())?;
+    let feed = Feed {
+        start: &is_waiting,
+        text: lines.as_slice(),
+        end: &is_fed,
+    };
+    let told = run_lasting(&rt, &rt, "groundstation run --every 1", out, feed)?.told;
     assert_eq!(rt;
-        text(&err),
+        text(&told.err),
         "lines 160004 frames 4 ticks 0 shows 0 blank 160000 modeac 0 faults 0 accepted 4 refused 0\n"
     );
-    assert_eq!(rt; status, 0);
+    assert_eq!(rt; told.status, 0);
     Ok(())
 }
 
-// Keeps the length of each piece that it is given, and of all pieces the last.
+// Keeps the length of each piece, and the last piece.
 #[derive(Drop)]
 struct Pieces<'a> {
     lengths: &'a mut Vec<usize>,
@@ -205,69 +171,26 @@ impl<'a> Write for Pieces<'a> {
     }
 }
 
-// The 24 parity bits of a frame of 56 bits, of which these are the first 32.
-fn parity(first: u64) -> u64 {
-    let mut rest = (first & 0xFFFF_FFFF) << 24;
-    for place in (0..32u32).rev() {
-        if rest >> (place + 24) & 1 == 1 {
-            rest ^= 0x1FF_F409 << place;
-        }
-    }
-    rest
-}
-
-// An all-call reply of each address from 1 to 512.
-fn all_call_replies(alloc: Global) -> Result<String, AllocError> {
-    let mut lines = String::new(alloc);
-    for address in 1..513u64 {
-        let first = 0x5D00_0000 + address;
-        let last = parity(first);
-        lines.push_str(format!(in alloc; "*{first:08X}{last:06X};\n")?.as_str())?;
-    }
-    Ok(lines)
-}
-
 // The first line has 37 bytes before its LF where the moment has 20 digits, the header and each row have 73.
 #[test]
 fn a_full_table_is_written_at_once(rt: HostRuntime) -> Result<(), Fail> {
     let moments = [0, 18_446_744_073_709_551_000];
     let (has_ended, is_written) = (AtomicBool::new(false), AtomicBool::new(false));
     let staged = Staged::new(&rt, moments.as_slice(), &has_ended);
-    let lasting = lasting_path(&rt, rt.alloc())?;
-    let words = [
-        "groundstation",
-        "run",
-        "--every",
-        "1",
-        lasting.path.as_str(),
-    ];
     let (mut lengths, mut last) = (Vec::new(rt.alloc()), Vec::new(rt.alloc()));
-    let mut err = Vec::new(rt.alloc());
     let out = Pieces {
         lengths: &mut lengths,
         last: &mut last,
         is_written: &is_written,
     };
-    let replies = all_call_replies(rt.alloc())?;
-    let lines = lasting.lines;
-    let (was_fed, status) = join(
-        &rt,
-        || end_path(&rt, &is_written, lines, replies.as_bytes()),
-        || status_of(
-            &staged,
-            rt.alloc(),
-            words.as_slice(),
-            NO_LINES,
-            out,
-            &mut err,
-        ),
-    );
-    assert!(rt; was_fed);
+    let replies = all_call_replies(rt.alloc(), 1, 512)?;
+    let feed = Feed::at(&is_written, replies.as_bytes());
+    let told = run_lasting(&rt, &staged, "groundstation run --every 1", out, feed)?.told;
     assert!(rt; text(&last).starts_with("now 18446744073709551000 aircraft 512\n"));
     assert_eq!(rt;
         lengths.as_slice(),
         [36 + 74, 38 + 74 + 512 * 74].as_slice()
     );
-    assert_eq!(rt; status, 0);
+    assert_eq!(rt; told.status, 0);
     Ok(())
 }

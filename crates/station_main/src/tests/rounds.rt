@@ -1,13 +1,14 @@
 //! The job `run` in more rounds than one.
+use super::replies::all_call_replies;
 use super::run::{
-    IDENTIFICATION, NO_THREAD, ONE_FRAME_EACH, TABLE_OF_BOTH, TABLE_OF_SECOND, VELOCITY, path_text,
-    remove, shown_where_refused, two_files,
+    IDENTIFICATION, ONE_FRAME_EACH, TABLE_OF_BOTH, TABLE_OF_SECOND, VELOCITY, new_folder,
+    path_text, remove, two_files,
 };
 use super::staged::{Staged, lasting_path};
-use super::{Closed, NO_LINES, NO_MEMORY, Ran, run_words, status_of, stream, text};
+use super::{Closed, Told, run_line, text};
+use std::alloc::{AllocError, Global};
 use std::fs::{self, File, OpenOptions};
 use std::io::{self, Write};
-use std::process::Abort;
 use std::rt::Files;
 use std::sync::Wait;
 use std::sync::atomic::AtomicBool;
@@ -19,113 +20,59 @@ const ONE_FRAME_REFUSED_EACH: &str = concat!(
     "lines 1 frames 1 ticks 0 shows 0 blank 0 modeac 0 faults 0 accepted 0 refused 1\n",
 );
 
-fn run_two_rounds<R: Threads + Wait + Clock + Files<File = File> + Sync + AllocGlobal + Abort>(
-    rt: &R,
-    first: &str,
-    second: &str,
-) -> Ran {
-    let words = [
-        "groundstation",
-        "run",
-        "--every",
-        "3600000",
-        "--rounds",
-        "2",
-        first,
-        second,
-    ];
-    run_words(rt, words.as_slice(), NO_LINES)
-}
-
-// What was shown where the program was refused memory or a thread, in either of two rounds.
-fn shown_where_a_round_is_refused(told: &str) -> Option<&'static str> {
-    match told.strip_prefix(ONE_FRAME_EACH) {
-        Some(fault) if fault == NO_MEMORY || fault == NO_THREAD => Some(TABLE_OF_BOTH),
-        Some(_) => None,
-        None => shown_where_refused(told),
-    }
+// Rounds over these paths, with a table at the end of each.
+fn run_rounds<
+    R: Threads + Wait + Clock + Files<File = File> + Sync + AllocGlobal,
+    O: Write + Send + Drop,
+>(rt: &R, rounds: u16, paths: &[&str], out: O) -> Result<Told, AllocError> {
+    let alloc = rt.alloc();
+    let line = format!(in alloc; "groundstation run --every=3600000 --rounds={rounds}")?;
+    run_line(rt, alloc, line.as_str(), paths, out)
 }
 
 // No tick comes between the rounds, so the frames of the second are those of the first once more.
 #[test]
 fn a_second_round_goes_on_from_the_first(rt: HostRuntime) -> io::Result<()> {
     let files = two_files(&rt, IDENTIFICATION, VELOCITY)?;
-    let (first, second) = (path_text(&files.first)?, path_text(&files.second)?);
-    let mut ran = run_two_rounds(&rt, first, second);
-    if let Some(shown) = shown_where_a_round_is_refused(text(&ran.err)) {
-        assert_eq!(rt; text(&ran.out), shown);
-        assert_eq!(rt; ran.status, 1);
-        ran = run_two_rounds(&rt, first, second);
-    }
-    let second_table = text(&ran.out).strip_prefix(TABLE_OF_BOTH);
+    let paths = [path_text(&files.first)?, path_text(&files.second)?];
+    let mut out = Vec::new(rt.alloc());
+    let told = run_rounds(&rt, 2, paths.as_slice(), &mut out)?;
+    let second_table = text(&out).strip_prefix(TABLE_OF_BOTH);
     assert_eq!(rt; second_table, Some(TABLE_OF_BOTH));
-    let second_tallies = text(&ran.err).strip_prefix(ONE_FRAME_EACH);
+    let second_tallies = text(&told.err).strip_prefix(ONE_FRAME_EACH);
     assert_eq!(rt; second_tallies, Some(ONE_FRAME_REFUSED_EACH));
-    assert_eq!(rt; ran.status, 0);
+    assert_eq!(rt; told.status, 0);
     remove(&rt, &files)
-}
-
-// Whether the program was refused memory or a thread.
-fn is_refused(told: &str) -> bool {
-    told.contains(NO_MEMORY) || told.contains(NO_THREAD)
 }
 
 // The first path is a folder, which can't be read.
 #[test]
 fn a_failed_read_ends_the_run_after_its_round(rt: HostRuntime) -> io::Result<()> {
     let files = two_files(&rt, IDENTIFICATION, VELOCITY)?;
-    let (folder, second) = (path_text(&files.folder)?, path_text(&files.second)?);
-    let mut ran = run_two_rounds(&rt, folder, second);
-    if is_refused(text(&ran.err)) {
-        assert_eq!(rt; ran.status, 1);
-        ran = run_two_rounds(&rt, folder, second);
-    }
-    assert_eq!(rt; text(&ran.out), TABLE_OF_SECOND);
+    let paths = [path_text(&files.folder)?, path_text(&files.second)?];
+    let mut out = Vec::new(rt.alloc());
+    let told = run_rounds(&rt, 2, paths.as_slice(), &mut out)?;
+    assert_eq!(rt; text(&out), TABLE_OF_SECOND);
     assert_eq!(rt;
-        text(&ran.err),
+        text(&told.err),
         "lines 0 frames 0 ticks 0 shows 0 blank 0 modeac 0 faults 0 accepted 0 refused 0\n\
         groundstation: read failed\n\
         lines 1 frames 1 ticks 0 shows 0 blank 0 modeac 0 faults 0 accepted 1 refused 0\n"
     );
-    assert_eq!(rt; ran.status, 1);
+    assert_eq!(rt; told.status, 1);
     remove(&rt, &files)
-}
-
-// Runs over two paths into an output that takes nothing.
-fn run_closed<R: Threads + Wait + Clock + Files<File = File> + Sync + AllocGlobal + Abort>(
-    rt: &R,
-    first: &str,
-    second: &str,
-) -> Ran {
-    let words = [
-        "groundstation",
-        "run",
-        "--every=3600000",
-        "--rounds=2",
-        first,
-        second,
-    ];
-    let mut err = stream(rt, rt.alloc());
-    let status = status_of(rt, rt.alloc(), words.as_slice(), NO_LINES, Closed, &mut err);
-    Ran {
-        status,
-        out: Vec::new(rt.alloc()),
-        err,
-    }
 }
 
 #[test]
 fn a_failed_write_ends_the_run_after_its_round(rt: HostRuntime) -> io::Result<()> {
     let files = two_files(&rt, IDENTIFICATION, VELOCITY)?;
-    let (first, second) = (path_text(&files.first)?, path_text(&files.second)?);
-    let mut ran = run_closed(&rt, first, second);
-    if is_refused(text(&ran.err)) {
-        assert_eq!(rt; ran.status, 1);
-        ran = run_closed(&rt, first, second);
+    let paths = [path_text(&files.first)?, path_text(&files.second)?];
+    for rounds in [1, 2] {
+        let told = run_rounds(&rt, rounds, paths.as_slice(), Closed)?;
+        let fault = text(&told.err).strip_prefix(ONE_FRAME_EACH);
+        assert_eq!(rt; fault, Some("groundstation: write failed\n"));
+        assert_eq!(rt; told.status, 1);
     }
-    let fault = text(&ran.err).strip_prefix(ONE_FRAME_EACH);
-    assert_eq!(rt; fault, Some("groundstation: write failed\n"));
-    assert_eq!(rt; ran.status, 1);
     remove(&rt, &files)
 }
 
@@ -154,26 +101,64 @@ impl<'a, R: Files> Write for Removing<'a, R> {
 fn a_path_that_is_gone_is_told_after_the_round_before(rt: HostRuntime) -> io::Result<()> {
     let files = two_files(&rt, IDENTIFICATION, VELOCITY)?;
     let (first, second) = (path_text(&files.first)?, path_text(&files.second)?);
-    let words = [
-        "groundstation",
-        "run",
-        "--every=3600000",
-        "--rounds=2",
-        first,
-        second,
-    ];
-    let (mut taken, mut err) = (Vec::new(rt.alloc()), Vec::new(rt.alloc()));
+    let mut taken = Vec::new(rt.alloc());
     let out = Removing {
         rt: &rt,
         path: second,
         taken: &mut taken,
     };
-    let status = status_of(&rt, rt.alloc(), words.as_slice(), NO_LINES, out, &mut err);
-    let told = format!(in rt.alloc(); "{ONE_FRAME_EACH}groundstation: cannot open {second}\n")?;
+    let told = run_rounds(&rt, 2, [first, second].as_slice(), out)?;
+    let lines = format!(in rt.alloc(); "{ONE_FRAME_EACH}groundstation: cannot open {second}\n")?;
     assert_eq!(rt; text(&taken), TABLE_OF_BOTH);
-    assert_eq!(rt; text(&err), told.as_str());
-    assert_eq!(rt; status, 1);
+    assert_eq!(rt; text(&told.err), lines.as_str());
+    assert_eq!(rt; told.status, 1);
     remove(&rt, &files)
+}
+
+// How many frames each of eight paths has.
+const FRAMES: [u16; 8] = [3, 8, 1, 6, 2, 7, 5, 4];
+
+// Writes eight files into a folder, each with frames of aircraft of its own, and answers their paths.
+fn eight_paths<R: Files + AllocGlobal>(rt: &R, folder: &str) -> io::Result<Vec<String>> {
+    let mut paths = Vec::new(rt.alloc());
+    for count in FRAMES {
+        let path = format!(in rt.alloc(); "{folder}/{count}")?;
+        let lines = all_call_replies(rt.alloc(), 16 * count, count)?;
+        fs::write(rt, path.as_str(), lines.as_str())?;
+        paths.push(path)?;
+    }
+    Ok(paths)
+}
+
+// The tallies of a round in which all frames are accepted, and of one in which all are refused.
+fn eight_tallies(alloc: Global) -> Result<(String, String), AllocError> {
+    let (mut accepted, mut refused) = (String::new(alloc), String::new(alloc));
+    for count in FRAMES {
+        let read = format!(in alloc;
+            "lines {count} frames {count} ticks 0 shows 0 blank 0 modeac 0 faults 0"
+        )?;
+        accepted.push_str(format!(in alloc; "{read} accepted {count} refused 0\n")?.as_str())?;
+        refused.push_str(format!(in alloc; "{read} accepted 0 refused {count}\n")?.as_str())?;
+    }
+    Ok((accepted, refused))
+}
+
+#[test]
+fn each_tally_of_eight_paths_is_its_own(rt: HostRuntime) -> io::Result<()> {
+    let folder = new_folder(&rt)?;
+    let owned = eight_paths(&rt, path_text(&folder)?)?;
+    let mut paths = Vec::new(rt.alloc());
+    for path in &owned {
+        paths.push(path.as_str())?;
+    }
+    let mut out = Vec::new(rt.alloc());
+    let told = run_rounds(&rt, 2, paths.as_slice(), &mut out)?;
+    let (accepted, refused) = eight_tallies(rt.alloc())?;
+    assert!(rt; text(&out).starts_with("now 0 aircraft 36\n"));
+    let second_round = text(&told.err).strip_prefix(accepted.as_str());
+    assert_eq!(rt; second_round, Some(refused.as_str()));
+    assert_eq!(rt; told.status, 0);
+    fs::remove_dir_all(&rt, &folder)
 }
 
 // Takes tables. The last one of a round opens the path once more for lines, and the next one ends it. Each lets the
@@ -248,8 +233,7 @@ fn a_round_keeps_the_clock_and_the_ages(rt: HostRuntime) -> io::Result<()> {
     lasting.lines.write_all(IDENTIFICATION.as_bytes())?;
     let path = lasting.path.as_str();
     drop(lasting.lines);
-    let words = ["groundstation", "run", "--every=5000", "--rounds=3", path];
-    let (mut taken, mut err) = (Vec::new(rt.alloc()), Vec::new(rt.alloc()));
+    let mut taken = Vec::new(rt.alloc());
     let out = Turning {
         staged: &staged,
         path,
@@ -257,16 +241,10 @@ fn a_round_keeps_the_clock_and_the_ages(rt: HostRuntime) -> io::Result<()> {
         lines: None,
         tables: 0,
     };
-    let status = status_of(
-        &staged,
-        rt.alloc(),
-        words.as_slice(),
-        NO_LINES,
-        out,
-        &mut err,
-    );
+    let line = "groundstation run --every=5000 --rounds=3";
+    let told = run_line(&staged, rt.alloc(), line, [path].as_slice(), out)?;
     assert_eq!(rt; text(&taken), TABLES_OF_THREE_ROUNDS);
-    assert_eq!(rt; text(&err), TALLIES_OF_THREE_ROUNDS);
-    assert_eq!(rt; status, 0);
+    assert_eq!(rt; text(&told.err), TALLIES_OF_THREE_ROUNDS);
+    assert_eq!(rt; told.status, 0);
     Ok(())
 }

@@ -1,5 +1,5 @@
 //! The job `run`, over files.
-use super::{Closed, NO_MEMORY, Ran, run_words, status_of, text};
+use super::{NO_LINES, NO_MEMORY, Ran, run_line, run_words, text};
 use std::alloc::AllocError;
 use std::fs::File;
 use std::io::ErrorKind;
@@ -71,7 +71,7 @@ pub struct TwoFiles {
     pub second: PathBuf,
 }
 
-fn new_folder<R: Files + AllocGlobal + env::Env>(rt: &R) -> io::Result<PathBuf> {
+pub fn new_folder<R: Files + AllocGlobal + env::Env>(rt: &R) -> io::Result<PathBuf> {
     let base = env::temp_dir(rt)?;
     for i in 0..10_000u32 {
         let name = format!(in rt.alloc(); "groundstation_{i}")?;
@@ -97,7 +97,7 @@ fn two_paths<R: Files + AllocGlobal>(
     Ok((first, second))
 }
 
-/// Where the folder or a file is refused, it is made once more.
+/// A folder or a file that is refused is made once more.
 pub fn two_files<R: Files + AllocGlobal + env::Env>(
     rt: &R,
     first_text: &str,
@@ -118,7 +118,7 @@ pub fn two_files<R: Files + AllocGlobal + env::Env>(
     })
 }
 
-/// Where the folder stays, it is removed once more.
+/// Removes the folder, and once more if that is refused.
 pub fn remove<R: Files + AllocGlobal>(rt: &R, files: &TwoFiles) -> io::Result<()> {
     match fs::remove_dir_all(rt, &files.folder) {
         Ok(()) => Ok(()),
@@ -138,17 +138,16 @@ fn run_two<R: Threads + Wait + Clock + Files<File = File> + Sync + AllocGlobal +
     first: &str,
     second: &str,
 ) -> Ran {
-    let nothing: &[u8] = b"";
     run_words(
         rt,
         ["groundstation", "run", "--every", "3600000", first, second].as_slice(),
-        nothing,
+        NO_LINES,
     )
 }
 
-/// What was shown where the program was refused memory or a thread: nothing where no path was read, and else the other
-/// path's aircraft.
-pub fn shown_where_refused(told: &str) -> Option<&'static str> {
+// What was shown if the program was refused memory or a thread: nothing if no path was read, and else the other path's
+// aircraft.
+fn shown_where_refused(told: &str) -> Option<&'static str> {
     if told == NO_MEMORY || told == NO_THREAD {
         Some("")
     } else if told == FIRST_WITHOUT_MEMORY {
@@ -176,87 +175,77 @@ fn two_files_are_shown_in_one_table(rt: HostRuntime) -> io::Result<()> {
     remove(&rt, &files)
 }
 
-// Whichever of two paths hands in their frame first, the other's is refused.
-#[test]
-fn a_frame_of_two_paths_is_accepted_once(rt: HostRuntime) -> io::Result<()> {
-    let files = two_files(&rt, IDENTIFICATION, IDENTIFICATION)?;
-    let ran = run_two(&rt, path_text(&files.first)?, path_text(&files.second)?);
-    assert_eq!(rt; text(&ran.out), TABLE_OF_FIRST);
-    let told = text(&ran.err);
-    assert!(rt; told == FIRST_ACCEPTED || told == SECOND_ACCEPTED);
-    assert_eq!(rt; ran.status, 0);
-    fs::remove_dir_all(&rt, &files.folder)
-}
+const FAULTS_AND_FRAME: &str = concat!(
+    "lines 5 frames 0 ticks 0 shows 0 blank 1 modeac 1 faults 3 accepted 0 refused 0\n",
+    "lines 1 frames 1 ticks 0 shows 0 blank 0 modeac 0 faults 0 accepted 1 refused 0\n",
+);
 
+const FAILED_READ_AND_FRAME: &str = concat!(
+    "lines 0 frames 0 ticks 0 shows 0 blank 0 modeac 0 faults 0 accepted 0 refused 0\n",
+    "groundstation: read failed\n",
+    "lines 1 frames 1 ticks 0 shows 0 blank 0 modeac 0 faults 0 accepted 1 refused 0\n",
+);
+
+// A frame of both paths is accepted from the one that hands it in first. The last path is a folder, which can't be read.
 #[test]
 fn tallies_stand_in_the_order_of_the_paths(rt: HostRuntime) -> io::Result<()> {
-    let files = two_files(&rt, "\nx\n?\n*0000;\n+5", IDENTIFICATION)?;
-    let ran = run_two(&rt, path_text(&files.first)?, path_text(&files.second)?);
-    assert_eq!(rt;
-        text(&ran.err),
-        "lines 5 frames 0 ticks 0 shows 0 blank 1 modeac 1 faults 3 accepted 0 refused 0\n\
-        lines 1 frames 1 ticks 0 shows 0 blank 0 modeac 0 faults 0 accepted 1 refused 0\n"
-    );
-    assert_eq!(rt; ran.status, 0);
-    fs::remove_dir_all(&rt, &files.folder)
+    for (first, second, table, told, status) in [
+        (
+            Some(IDENTIFICATION),
+            IDENTIFICATION,
+            TABLE_OF_FIRST,
+            [FIRST_ACCEPTED, SECOND_ACCEPTED],
+            0,
+        ),
+        (
+            Some("\nx\n?\n*0000;\n+5"),
+            IDENTIFICATION,
+            TABLE_OF_FIRST,
+            [FAULTS_AND_FRAME, FAULTS_AND_FRAME],
+            0,
+        ),
+        (
+            None,
+            VELOCITY,
+            TABLE_OF_SECOND,
+            [FAILED_READ_AND_FRAME, FAILED_READ_AND_FRAME],
+            1,
+        ),
+    ] {
+        let files = two_files(&rt, first.unwrap_or(""), second)?;
+        let path = if first.is_some() {
+            &files.first
+        } else {
+            &files.folder
+        };
+        let ran = run_two(&rt, path_text(path)?, path_text(&files.second)?);
+        assert_eq!(rt; text(&ran.out), table);
+        assert!(rt; told.contains(&text(&ran.err)), "{second}");
+        assert_eq!(rt; ran.status, status);
+        remove(&rt, &files)?;
+    }
+    Ok(())
 }
 
 #[test]
 fn where_a_path_cannot_be_opened_nothing_is_read(rt: HostRuntime) -> io::Result<()> {
-    let nothing: &[u8] = b"";
-    let absent = run_words(
-        &rt,
-        ["groundstation", "run", "--every", "3600000", "nofile"].as_slice(),
-        nothing,
-    );
-    assert!(rt; absent.status == 1 && absent.out.is_empty());
-    assert_eq!(rt; text(&absent.err), "groundstation: cannot open nofile\n");
     let files = two_files(&rt, IDENTIFICATION, VELOCITY)?;
-    let second_absent = run_two(&rt, path_text(&files.first)?, "nofile");
-    assert!(rt; second_absent.status == 1 && second_absent.out.is_empty());
-    assert_eq!(rt;
-        text(&second_absent.err),
-        "groundstation: cannot open nofile\n"
-    );
-    let both_absent = run_two(&rt, "no first file", "no second file");
-    assert_eq!(rt;
-        text(&both_absent.err),
-        "groundstation: cannot open no first file\n"
-    );
-    fs::remove_dir_all(&rt, &files.folder)
-}
-
-#[test]
-fn a_failed_read_is_told_after_the_tally_of_its_path(rt: HostRuntime) -> io::Result<()> {
-    let files = two_files(&rt, IDENTIFICATION, VELOCITY)?;
-    let ran = run_two(&rt, path_text(&files.folder)?, path_text(&files.second)?);
-    assert_eq!(rt;
-        text(&ran.err),
-        "lines 0 frames 0 ticks 0 shows 0 blank 0 modeac 0 faults 0 accepted 0 refused 0\n\
-        groundstation: read failed\n\
-        lines 1 frames 1 ticks 0 shows 0 blank 0 modeac 0 faults 0 accepted 1 refused 0\n"
-    );
-    assert_eq!(rt; ran.status, 1);
-    fs::remove_dir_all(&rt, &files.folder)
-}
-
-#[test]
-fn a_failed_write_is_told_after_all_tallies(rt: HostRuntime) -> io::Result<()> {
-    let files = two_files(&rt, IDENTIFICATION, VELOCITY)?;
-    let mut err = Vec::new(rt.alloc());
-    let nothing: &[u8] = b"";
-    let first = path_text(&files.first)?;
-    let second = path_text(&files.second)?;
-    let status = status_of(
-        &rt,
-        rt.alloc(),
-        ["groundstation", "run", "--every", "3600000", first, second].as_slice(),
-        nothing,
-        Closed,
-        &mut err,
-    );
-    assert!(rt; text(&err).starts_with(ONE_FRAME_EACH));
-    assert!(rt; text(&err).ends_with("refused 0\ngroundstation: write failed\n"));
-    assert_eq!(rt; status, 1);
-    fs::remove_dir_all(&rt, &files.folder)
+    for (paths, told) in [
+        (["nofile"].as_slice(), "groundstation: cannot open nofile\n"),
+        (
+            [path_text(&files.first)?, "nofile"].as_slice(),
+            "groundstation: cannot open nofile\n",
+        ),
+        (
+            ["no first file", "no second file"].as_slice(),
+            "groundstation: cannot open no first file\n",
+        ),
+    ] {
+        let mut out = Vec::new(rt.alloc());
+        let line = "groundstation run --every 3600000";
+        let absent = run_line(&rt, rt.alloc(), line, paths, &mut out)?;
+        assert!(rt; absent.status == 1 && out.is_empty());
+        assert_eq!(rt; text(&absent.err), told);
+    }
+    remove(&rt, &files)
 }

@@ -1,23 +1,25 @@
-//! What tests of `run` stand on: a clock that shows the moments of a test, a path that lasts, and a wait with a bound.
+//! What tests of `run` share: a clock that shows a test's times, a path that lasts, a run over it, and a bounded wait.
+use super::{Told, run_line};
 use std::alloc::{Allocator, Global};
 use std::fs::{File, Metadata, OpenOptions};
 use std::io::{self, PipeReader, PipeWriter, Write};
 use std::os::fd::AsRawFd;
+use std::process::Abort;
 use std::rt::Files;
 use std::sync::Wait;
 use std::sync::atomic::{AtomicBool, AtomicUsize, Ordering};
-use std::thread::{self, Threads};
-use std::time::{Clock, Duration};
+use std::thread::{self, Threads, join};
+use std::time::{Clock, Duration, Instant};
 
-/// A runtime whose clock shows one moment after another, in milliseconds: each reading shows the next. At the last it
-/// stands, and the word is set by the reading after it. It stands before that where it is held.
+/// A runtime whose clock shows one time after another, in milliseconds: each reading shows the next. The last one
+/// repeats, and the reading after it sets the flag. `hold_at` stops the clock earlier.
 #[derive(Drop)]
 pub struct Staged<'a, R> {
     rt: &'a R,
     moments: &'a [u64],
-    // How many moments it may show.
+    // How many times it may show.
     most: AtomicUsize,
-    // Which moment comes next.
+    // Which one comes next.
     next: AtomicUsize,
     has_ended: &'a AtomicBool,
 }
@@ -33,7 +35,7 @@ impl<'a, R> Staged<'a, R> {
         }
     }
 
-    /// Holds the clock at the last of so many moments, 1 at least. It goes on from where it was held before.
+    /// Stops the clock at the last of `most` times, 1 at least. It goes on from where it was stopped before.
     pub fn hold_at(&self, most: usize) {
         let next = self.next.load(Ordering::SeqCst);
         let held = self.most.load(Ordering::SeqCst);
@@ -41,7 +43,7 @@ impl<'a, R> Staged<'a, R> {
         self.most.store(most, Ordering::SeqCst);
     }
 
-    /// How often it was read, where it was never held.
+    /// How often it was read, if it was never stopped.
     pub fn readings(&self) -> usize {
         self.next.load(Ordering::SeqCst)
     }
@@ -123,21 +125,21 @@ impl<'a, R: Files<File = File>> Files for Staged<'a, R> {
 pub struct Lasting {
     pub path: String,
     pub lines: PipeWriter,
-    // The path is there as long as this is.
+    // Keeps the path open.
     end: PipeReader,
 }
 
-/// A path that holds nothing yet.
+/// A path without lines so far.
 pub fn lasting_path<R: Files>(rt: &R, alloc: Global) -> io::Result<Lasting> {
     let (end, lines) = io::pipe(rt)?;
     let path = format!(in alloc; "/dev/fd/{}", end.as_raw_fd())?;
     Ok(Lasting { path, lines, end })
 }
 
-/// Waits until the word is set, for some 20 seconds at most, and answers whether it is.
-pub fn becomes_set<R: Clock>(rt: &R, word: &AtomicBool) -> bool {
+/// Waits until the flag is set, for some 20 seconds at most, and answers whether it is.
+pub fn becomes_set<R: Clock>(rt: &R, flag: &AtomicBool) -> bool {
     for _ in 0..2_000 {
-        if word.load(Ordering::SeqCst) {
+        if flag.load(Ordering::SeqCst) {
             return true;
         }
         thread::sleep(rt, Duration::from_millis(10));
@@ -145,7 +147,56 @@ pub fn becomes_set<R: Clock>(rt: &R, word: &AtomicBool) -> bool {
     false
 }
 
-/// Waits until the word is set, and then writes the lines and ends the path. Answers whether that was done.
-pub fn end_path<R: Clock>(rt: &R, word: &AtomicBool, mut lines: PipeWriter, text: &[u8]) -> bool {
-    becomes_set(rt, word) && lines.write_all(text).is_ok()
+/// What a lasting path gets before it ends, and when.
+#[derive(Clone, Copy)]
+pub struct Feed<'a> {
+    /// Awaited before the path gets its text.
+    pub start: &'a AtomicBool,
+    pub text: &'a [u8],
+    /// Set once the path has ended.
+    pub end: &'a AtomicBool,
+}
+
+impl<'a> Feed<'a> {
+    /// The text at a flag that nobody awaits afterwards.
+    pub fn at(flag: &'a AtomicBool, text: &'a [u8]) -> Feed<'a> {
+        Feed {
+            start: flag,
+            text,
+            end: flag,
+        }
+    }
+}
+
+// Answers whether the path got its text.
+fn end_path<R: Clock>(rt: &R, mut lines: PipeWriter, feed: Feed<'_>) -> bool {
+    let is_fed = becomes_set(rt, feed.start) && lines.write_all(feed.text).is_ok();
+    drop(lines);
+    feed.end.store(is_fed, Ordering::SeqCst);
+    is_fed
+}
+
+/// What a run leaves beside its output, and when its path ended.
+#[derive(Drop)]
+pub struct Lasted {
+    pub told: Told,
+    pub ended: io::Result<Instant>,
+}
+
+/// The job `run` by a clock, over one path that lasts until it is fed.
+pub fn run_lasting<
+    R: Threads + Clock + Files + Sync + AllocGlobal + Abort,
+    C: Threads + Wait + Clock + Files<File = File> + Sync,
+    O: Write + Send + Drop,
+>(rt: &R, clock: &C, line: &str, out: O, feed: Feed<'_>) -> io::Result<Lasted> {
+    let lasting = lasting_path(rt, rt.alloc())?;
+    let lines = lasting.lines;
+    let path = lasting.path.as_str();
+    let ((is_fed, ended), told) = join(
+        rt,
+        || (end_path(rt, lines, feed), Instant::now(rt)),
+        || run_line(clock, rt.alloc(), line, [path].as_slice(), out),
+    );
+    assert!(rt; is_fed, "the path got no text");
+    Ok(Lasted { told: told?, ended })
 }

@@ -1,10 +1,13 @@
 //! The job `run` while its paths last.
-use super::staged::{Staged, becomes_set, end_path, lasting_path};
-use super::{NO_LINES, status_of, text};
+use super::staged::{Feed, Staged, becomes_set, lasting_path, run_lasting};
+use super::{NO_LINES, run_line, text};
+use std::alloc::{AllocError, Global};
 use std::io::{self, Write};
 use std::sync::atomic::{AtomicBool, Ordering};
 use std::test::*;
 use std::thread::join;
+
+const HEADER: &str = "  ADDR CALLSIGN    ALT SQWK     VELOCITY   VERT        LAT        LON AGE\n";
 
 const TABLES_OF_NOBODY: &str = concat!(
     "now 100 aircraft 0\n",
@@ -19,7 +22,7 @@ const TABLES_OF_NOBODY: &str = concat!(
     "  ADDR CALLSIGN    ALT SQWK     VELOCITY   VERT        LAT        LON AGE\n",
 );
 
-// The clock starts at 1,000,000 ms. It shows the moment before each table is due and the one when it is, and passes a
+// The clock starts at 1,000,000 ms. It shows the millisecond before each table is due and the one when it is, and skips a
 // minute at once. The last table comes at the end of the path.
 #[test]
 fn a_table_is_printed_when_it_is_due_and_at_the_end(rt: HostRuntime) -> Result<(), Fail> {
@@ -29,35 +32,52 @@ fn a_table_is_printed_when_it_is_due_and_at_the_end(rt: HostRuntime) -> Result<(
     ];
     let has_ended = AtomicBool::new(false);
     let staged = Staged::new(&rt, moments.as_slice(), &has_ended);
-    let lasting = lasting_path(&rt, rt.alloc())?;
-    let words = [
-        "groundstation",
-        "run",
-        "--every",
-        "100",
-        lasting.path.as_str(),
-    ];
-    let (mut out, mut err) = (Vec::new(rt.alloc()), Vec::new(rt.alloc()));
-    let lines = lasting.lines;
-    let (was_shown, status) = join(
-        &rt,
-        || end_path(&rt, &has_ended, lines, NO_LINES),
-        || status_of(
-            &staged,
-            rt.alloc(),
-            words.as_slice(),
-            NO_LINES,
-            &mut out,
-            &mut err,
-        ),
-    );
-    assert!(rt; was_shown);
+    let mut out = Vec::new(rt.alloc());
+    let feed = Feed::at(&has_ended, NO_LINES);
+    let line = "groundstation run --every 100";
+    let lasted = run_lasting(&rt, &staged, line, &mut out, feed)?;
     assert_eq!(rt; text(&out), TABLES_OF_NOBODY);
-    assert_eq!(rt; status, 0);
+    assert_eq!(rt; lasted.told.status, 0);
     Ok(())
 }
 
-// Sets the word at a table of both aircraft.
+// Three hours and 2,100 ms of a clock that starts at 1,000,000 ms: the millisecond before each table is due, and then a
+// time 7 ms after it was due.
+fn three_hours(alloc: Global) -> Result<Vec<u64>, AllocError> {
+    let mut moments = Vec::new(alloc);
+    moments.push(1_000_000)?;
+    for table in 1..301u64 {
+        moments.push(999_992 + 36_007 * table)?;
+        moments.push(1_000_000 + 36_007 * table)?;
+    }
+    Ok(moments)
+}
+
+// The tables of these three hours, and the one at the end of the path.
+fn tables_of_three_hours(alloc: Global) -> Result<String, AllocError> {
+    let mut tables = String::new(alloc);
+    for table in 1..302u64 {
+        let now = 36_007 * table.min(300);
+        tables.push_str(format!(in alloc; "now {now} aircraft 0\n{HEADER}")?.as_str())?;
+    }
+    Ok(tables)
+}
+
+#[test]
+fn three_hundred_tables_are_printed_in_three_hours(rt: HostRuntime) -> Result<(), Fail> {
+    let moments = three_hours(rt.alloc())?;
+    let has_ended = AtomicBool::new(false);
+    let staged = Staged::new(&rt, moments.as_slice(), &has_ended);
+    let mut out = Vec::new(rt.alloc());
+    let feed = Feed::at(&has_ended, NO_LINES);
+    let line = "groundstation run --every 36000";
+    let lasted = run_lasting(&rt, &staged, line, &mut out, feed)?;
+    assert_eq!(rt; text(&out), tables_of_three_hours(rt.alloc())?.as_str());
+    assert_eq!(rt; lasted.told.status, 0);
+    Ok(())
+}
+
+// Sets the flag at a table of both aircraft.
 #[derive(Drop)]
 struct Seen<'a> {
     are_shown: &'a AtomicBool,
@@ -86,20 +106,13 @@ fn paths_are_read_and_shown_side_by_side(rt: HostRuntime) -> Result<(), Fail> {
     let mut second = lasting_path(&rt, rt.alloc())?;
     first.lines.write_all(b"*8D4840D6202CC371C32CE0576098;\n")?;
     second.lines.write_all(b"*8D485020994409940838175B284F;\n")?;
-    let words = [
-        "groundstation",
-        "run",
-        "--every",
-        "10",
-        first.path.as_str(),
-        second.path.as_str(),
-    ];
-    let mut err = Vec::new(rt.alloc());
+    let paths = [first.path.as_str(), second.path.as_str()];
     let out = Seen {
         are_shown: &are_shown,
     };
+    let line = "groundstation run --every 10";
     let (first_lines, second_lines) = (first.lines, second.lines);
-    let (were_shown, status) = join(
+    let (were_shown, told) = join(
         &rt,
         || {
             let were_shown = becomes_set(&rt, &are_shown);
@@ -107,9 +120,9 @@ fn paths_are_read_and_shown_side_by_side(rt: HostRuntime) -> Result<(), Fail> {
             drop(second_lines);
             were_shown
         },
-        || status_of(&rt, rt.alloc(), words.as_slice(), NO_LINES, out, &mut err),
+        || run_line(&rt, rt.alloc(), line, paths.as_slice(), out),
     );
     assert!(rt; were_shown);
-    assert_eq!(rt; status, 0);
+    assert_eq!(rt; told?.status, 0);
     Ok(())
 }

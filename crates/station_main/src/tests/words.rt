@@ -1,61 +1,63 @@
-//! Words that are refused, or that ask for help.
-use super::{Ran, run_words, text};
+//! Command lines that are refused, or that ask for help.
+use super::{NO_LINES, run_words, text, words_of};
 use crate::words::{Job, WordsFault, read_words};
-use std::alloc::Global;
-use std::fs::File;
-use std::process::Abort;
-use std::rt::Files;
-use std::sync::Wait;
-use std::thread::Threads;
-use std::time::Clock;
+use std::alloc::{AllocError, Global};
 
+// The lines that each refusal begins with. All end in the same way.
 #[test]
-fn words_are_refused(rt: HostRuntime) {
-    let nothing: &[u8] = b"";
-    let none = run_words(&rt, ["groundstation"].as_slice(), nothing);
-    assert!(rt; none.status == 2 && none.out.is_empty());
-    assert_eq!(rt;
-        text(&none.err),
-        concat!(
-            "error: 'groundstation' requires a subcommand but one was not provided\n",
-            "  [subcommands: replay, run, help]\n",
-            "\n",
-            "Usage: groundstation <COMMAND>\n",
-            "\n",
-            "For more information, try '--help'.\n",
-        )
-    );
-    let zero = run_words(
-        &rt,
-        ["groundstation", "run", "--every", "0", "x"].as_slice(),
-        nothing,
-    );
-    assert!(rt; zero.status == 2 && zero.out.is_empty());
-    assert_eq!(rt;
-        text(&zero.err),
-        concat!(
+fn words_are_refused(rt: HostRuntime) -> Result<(), AllocError> {
+    for (line, told) in [
+        (
+            "groundstation",
+            concat!(
+                "error: 'groundstation' requires a subcommand but one was not provided\n",
+                "  [subcommands: replay, run, help]\n",
+                "\n",
+                "Usage: groundstation <COMMAND>\n",
+            ),
+        ),
+        (
+            "groundstation fly",
+            concat!(
+                "error: unrecognized subcommand 'fly'\n",
+                "\n",
+                "Usage: groundstation <COMMAND>\n",
+            ),
+        ),
+        (
+            "groundstation run --every 0 x",
             "error: invalid value '0' for '--every <MS>': 0 is not in 1..=3600000\n",
-            "\n",
-            "For more information, try '--help'.\n",
-        )
-    );
-    let unknown = run_words(&rt, ["groundstation", "fly"].as_slice(), nothing);
-    assert!(rt; unknown.status == 2 && unknown.out.is_empty());
-    assert_eq!(rt;
-        text(&unknown.err),
-        concat!(
-            "error: unrecognized subcommand 'fly'\n",
-            "\n",
-            "Usage: groundstation <COMMAND>\n",
-            "\n",
-            "For more information, try '--help'.\n",
-        )
-    );
+        ),
+        (
+            "groundstation run --every 5 --rounds 0 x",
+            "error: invalid value '0' for '--rounds <R>': 0 is not in 1..=1000\n",
+        ),
+        (
+            "groundstation run --every 5 --rounds 1001 x",
+            "error: invalid value '1001' for '--rounds <R>': 1001 is not in 1..=1000\n",
+        ),
+        (
+            "groundstation run --every 5 --rounds x x",
+            "error: invalid value 'x' for '--rounds <R>': invalid digit found in string\n",
+        ),
+    ] {
+        let words = words_of(rt.alloc(), line, [].as_slice())?;
+        let refused = run_words(&rt, words.as_slice(), NO_LINES);
+        assert!(rt; refused.status == 2 && refused.out.is_empty(), "{line}");
+        let end = text(&refused.err).strip_prefix(told);
+        assert_eq!(rt;
+            end,
+            Some("\nFor more information, try '--help'.\n"),
+            "{line}"
+        );
+    }
+    Ok(())
 }
 
-// The rounds that the words of a run ask for, or what `clap` answers.
-fn rounds_of(alloc: Global, words: &[&str]) -> Result<u16, WordsFault> {
-    match read_words(alloc, words)? {
+// The rounds that a line asks for, 0 for a replay.
+fn rounds_of(alloc: Global, line: &str) -> Result<u16, WordsFault> {
+    let words = words_of(alloc, line, [].as_slice())?;
+    match read_words(alloc, words.as_slice())? {
         Job::Run { rounds, .. } => Ok(rounds),
         Job::Replay => Ok(0),
     }
@@ -63,77 +65,14 @@ fn rounds_of(alloc: Global, words: &[&str]) -> Result<u16, WordsFault> {
 
 #[test]
 fn rounds_are_1_where_they_are_not_given(rt: HostRuntime) -> Result<(), WordsFault> {
-    let none = ["groundstation", "run", "--every", "5", "x"];
-    assert_eq!(rt; rounds_of(rt.alloc(), none.as_slice())?, 1);
-    let most = [
-        "groundstation",
-        "run",
-        "--every",
-        "5",
-        "--rounds",
-        "1000",
-        "x",
-    ];
-    assert_eq!(rt; rounds_of(rt.alloc(), most.as_slice())?, 1_000);
-    let least = ["groundstation", "run", "x", "--rounds=1", "--every=5"];
-    assert_eq!(rt; rounds_of(rt.alloc(), least.as_slice())?, 1);
+    for (line, rounds) in [
+        ("groundstation run --every 5 x", 1),
+        ("groundstation run --every 5 --rounds 1000 x", 1_000),
+        ("groundstation run x --rounds=1 --every=5", 1),
+    ] {
+        assert_eq!(rt; rounds_of(rt.alloc(), line)?, rounds, "{line}");
+    }
     Ok(())
-}
-
-// Runs over an absent path in so many rounds.
-fn run_rounds<R: Threads + Wait + Clock + Files<File = File> + Sync + AllocGlobal + Abort>(
-    rt: &R,
-    rounds: &str,
-) -> Ran {
-    let nothing: &[u8] = b"";
-    run_words(
-        rt,
-        [
-            "groundstation",
-            "run",
-            "--every",
-            "5",
-            "--rounds",
-            rounds,
-            "x",
-        ]
-        .as_slice(),
-        nothing,
-    )
-}
-
-#[test]
-fn other_rounds_than_1_to_1000_are_refused(rt: HostRuntime) {
-    let none = run_rounds(&rt, "0");
-    assert!(rt; none.status == 2 && none.out.is_empty());
-    assert_eq!(rt;
-        text(&none.err),
-        concat!(
-            "error: invalid value '0' for '--rounds <R>': 0 is not in 1..=1000\n",
-            "\n",
-            "For more information, try '--help'.\n",
-        )
-    );
-    let many = run_rounds(&rt, "1001");
-    assert!(rt; many.status == 2 && many.out.is_empty());
-    assert_eq!(rt;
-        text(&many.err),
-        concat!(
-            "error: invalid value '1001' for '--rounds <R>': 1001 is not in 1..=1000\n",
-            "\n",
-            "For more information, try '--help'.\n",
-        )
-    );
-    let word = run_rounds(&rt, "x");
-    assert!(rt; word.status == 2 && word.out.is_empty());
-    assert_eq!(rt;
-        text(&word.err),
-        concat!(
-            "error: invalid value 'x' for '--rounds <R>': invalid digit found in string\n",
-            "\n",
-            "For more information, try '--help'.\n",
-        )
-    );
 }
 
 // The lines for which help is asked fit a terminal of 80 columns.
@@ -146,28 +85,21 @@ fn is_narrow(text: &str) -> bool {
     true
 }
 
-#[test]
-fn help_is_written_to_standard_output(rt: HostRuntime) {
-    let nothing: &[u8] = b"";
-    let help = run_words(&rt, ["groundstation", "--help"].as_slice(), nothing);
-    assert!(rt; help.status == 0 && help.err.is_empty() && is_narrow(text(&help.out)));
-    assert_eq!(rt;
-        text(&help.out),
-        "Decodes Mode S frames and keeps a table of aircraft\n\n\
-        Usage: groundstation <COMMAND>\n\n\
-        Commands:\n  \
-        replay  Reads standard input, and writes the table at each line that is ?\n  \
-        run     Reads 1 to 8 paths side by side, and writes one table every MS\n  \
-        help    Print this message or the help of the given subcommand(s)\n\n\
-        Options:\n  \
-        -h, --help  Print help\n\n\
-        Examples:\n  \
-        groundstation replay < examples/klm1023.avr\n  \
-        groundstation run --every 1000 <(nc 127.0.0.1 30002 < /dev/null)\n\n\
-        'groundstation help run' says more of that word. The formats of lines and tables\n\
-        are in docs/FORMATS.md; columns, counts and faults in README.md.\n"
-    );
-}
+const HELP: &str = concat!(
+    "Decodes Mode S frames and keeps a table of aircraft\n\n",
+    "Usage: groundstation <COMMAND>\n\n",
+    "Commands:\n",
+    "  replay  Reads standard input, and writes the table at each line that is ?\n",
+    "  run     Reads 1 to 8 paths side by side, and writes one table every MS\n",
+    "  help    Print this message or the help of the given subcommand(s)\n\n",
+    "Options:\n",
+    "  -h, --help  Print help\n\n",
+    "Examples:\n",
+    "  groundstation replay < examples/klm1023.avr\n",
+    "  groundstation run --every 1000 <(nc 127.0.0.1 30002 < /dev/null)\n\n",
+    "'groundstation help run' says more of that word. The formats of lines and tables\n",
+    "are in docs/FORMATS.md; columns, counts and faults in README.md.\n",
+);
 
 const RUN_HELP: &str = concat!(
     "Reads 1 to 8 paths side by side, and writes one table every MS\n\n",
@@ -181,13 +113,37 @@ const RUN_HELP: &str = concat!(
     "Lines of a path, one of each kind:\n",
 );
 
+const REPLAY_HELP: &str = "Reads standard input, and writes the table at each line that is ?\n\n";
+
+// The text of each begins and ends so. An empty end stands for nothing more.
 #[test]
-fn each_subcommand_tells_its_lines(rt: HostRuntime) {
-    let nothing: &[u8] = b"";
-    let run = run_words(&rt, ["groundstation", "run", "--help"].as_slice(), nothing);
-    assert!(rt; run.status == 0 && run.err.is_empty() && is_narrow(text(&run.out)));
-    assert!(rt; text(&run.out).starts_with(RUN_HELP));
-    let replay = run_words(&rt, ["groundstation", "replay", "-h"].as_slice(), nothing);
-    assert!(rt; replay.status == 0 && replay.err.is_empty() && is_narrow(text(&replay.out)));
-    assert!(rt; text(&replay.out).ends_with("Formats: docs/FORMATS.md.\n"));
+fn help_is_written_to_standard_output(rt: HostRuntime) -> Result<(), AllocError> {
+    for (line, front, end) in [
+        ("groundstation --help", HELP, ""),
+        (
+            "groundstation run --help",
+            RUN_HELP,
+            "\nFormats: docs/FORMATS.md. Receivers that drop: README.md.\n",
+        ),
+        (
+            "groundstation replay -h",
+            REPLAY_HELP,
+            "\nFormats: docs/FORMATS.md.\n",
+        ),
+    ] {
+        let words = words_of(rt.alloc(), line, [].as_slice())?;
+        let help = run_words(&rt, words.as_slice(), NO_LINES);
+        assert!(rt;
+            help.status == 0 && help.err.is_empty() && is_narrow(text(&help.out)),
+            "{line}"
+        );
+        let rest = text(&help.out)
+            .strip_prefix(front)
+            .unwrap_or("no such front");
+        assert!(rt;
+            rest.ends_with(end) && rest.is_empty() == end.is_empty(),
+            "{line}"
+        );
+    }
+    Ok(())
 }
