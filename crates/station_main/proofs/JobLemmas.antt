@@ -1,4 +1,4 @@
--- What the words name where they are refused for nothing.
+-- What an accepted command line names.
 use Rattle.std.proofs.Common.{rules, ◌≡◌, ◌∙◌, ◌⊎◌, inl, inr, ℕ, Bool, true, false, List, [], ◌∷◌, Option, Some, None, refl, sym, ap, subst, codes}
 use Rattle.std.specs.Prelude.{⊤, find, is_some, not, ◌&&◌, ◌||◌, cond, fold, option_map, if◌then◌else◌}
 use Rattle.std.specs.Str.{bytes_eq}
@@ -14,7 +14,7 @@ use Rattle.station_main.specs.Command.{station}
 use Rattle.station_main.proofs.WalkedLemmas.{both_none, not_none}
 use Rattle.station_main.proofs.RunLemmas.{Among, among, none_some, replay_shape, run_shape, shapes_are, some_same}
 
--- ---- the words of a job
+-- ---- the command line of a job
 
 abbrev NoHelp : Option (Text × List Text) → Type 0
 NoHelp None = ⊤

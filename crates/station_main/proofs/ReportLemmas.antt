@@ -15,9 +15,9 @@ use Rattle.station_main.specs.Output.{Printed}
 use Rattle.station_main.specs.Reporter.{IsShowing, Reports, Showing, Showings, Ticks, due_moments, looks_of, next_moment, seat_after}
 use Rattle.station_main.specs.Tables.{Prints, PassesOver, PrintsAtMost, TakesTexts, shown, texts, failures_after}
 
--- ---- moments
+-- ---- times
 
--- when the next table is due, after these moments
+-- when the next table is due, after these times
 abbrev pub due_after : (every due : ℕ) → List ℕ → ℕ
 due_after every due [] = due
 due_after every due (now ∷ moments) = cond (nat_lt now due) (due_after every due moments) (due_after every (next_moment every now) moments)
@@ -56,7 +56,7 @@ texts_snoc : (station : Start) (looks : List (Option Seated)) (look : Option Sea
 texts_snoc station [] look = append-nil (shown station look)
 texts_snoc station (l ∷ ls) look = ap (λ t. shown station l ++ t) (texts_snoc station ls look) ∙ sym (append_assoc (shown station l) (texts station ls) (shown station look))
 
--- one more table, by what its printing tells
+-- one more table, by what its printing ensures
 pub record PrintsOne (station : Start) (looks : List (Option Seated)) (old new : Seated) (before after : Printed) (failed_before : ℕ) (result : Result (Unit {0}) WriteFault) : Type 0 where
   pub look : Option Seated
   pub looked : (look ≡ None) × (new ≡ old) ⊎ (look ≡ Some new) × Looks station old new
@@ -105,7 +105,7 @@ pub printed_at_most : (station : Start) (looks : List (Option Seated)) (old new 
 printed_at_most station looks old new start before after result so_far same (inl prints) = printed station looks old new start before after result so_far same prints
 printed_at_most station looks old new start before after result so_far same (inr passes) = passed station looks old new start before after result so_far same passes
 
--- the showings so far, by the moments that a clock gave since it had given the first ones; a table is due at a moment
+-- the showings so far, by the times that a clock gave after the first ones; a table is due at `due`
 pub record ReportsTo (station : Start) (every last moment : ℕ) (given given_now : Option (List ℕ)) (old new : Seated) (before after : Printed) (has_failed : Bool) : Type 0 where
   pub moments : List ℕ
   pub are_given : Appends given given_now moments
@@ -115,7 +115,7 @@ pub record ReportsTo (station : Start) (every last moment : ℕ) (given given_no
 pub no_moment : (station : Start) (every last : ℕ) (seat : Seated) (sink : Printed) → Reports station every last [] seat seat sink sink false
 no_moment station every last seat sink = record { showings = []; keeps = record { due = refl; walk = refl }; takes = Appends-nil sink.taken; failures = refl }
 
--- nothing is done at a moment at which no table is due
+-- nothing is done at a time at which no table is due
 pub one_more_sleep : (station : Start) (every last moment now : ℕ) (given given_before given_now : Option (List ℕ)) (old new : Seated) (before after : Printed) (has_failed : Bool)
     → ReportsTo station every last moment given given_before old new before after has_failed → Appends given_before given_now (now ∷ []) → now < moment
     → ReportsTo station every last moment given given_now old new before after has_failed

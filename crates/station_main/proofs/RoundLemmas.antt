@@ -24,7 +24,7 @@ use Rattle.station_main.specs.Telling.{Tells, Told, answer_lines, output_lines}
 use Rattle.station_main.proofs.RunJobLemmas.{statuses}
 use Rattle.station_main.proofs.TellLemmas.{flat_map-map}
 
--- ---- a sound list is refused for want of memory alone
+-- ---- a sound list is refused only if out of memory
 
 pub wants_memory : (limits : Limits) (base : ℕ) (entries : List Entry) (fault : ResumeFault) → IsSound limits base (reverse entries) → Refuses limits base entries fault → (fault ≡ NoMemory → ⊥) → ⊥
 wants_memory limits base entries (TooManyEntries n) sound refuses other = omega (arith, refuses.1, length_sound limits base (reverse entries) sound, length-reverse entries)
@@ -60,7 +60,7 @@ snoc_front (a ∷ xs) (b ∷ ys) x y e = let rest = snoc_front xs ys x y (cc (e)
 
 -- ---- rounds
 
--- a round, by its output and what is told at its end
+-- a round, by its output and what is printed at its end
 pub is_round : {W : Type 0} (asked : Asked) (given : Given) (start : Start) (closing : Seated) (before after : Option (List ℕ)) (answer : W → Option (Result Tally PumpFault)) (ws : List W) (has_failed : Bool)
     (err_old err_new : Told) (status : ℕ) → GoesOnFrom given start → length ws ≡ asked.inputs
     → Leaves start asked.every given.last_tick (newcomer given.entries asked.inputs) closing before after has_failed

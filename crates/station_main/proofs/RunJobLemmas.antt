@@ -76,12 +76,12 @@ pub length_newcomers : (entries : List Entry) (n : ℕ) → length (newcomers en
 length_newcomers entries zero = refl
 length_newcomers entries (suc n) = omega (arith, length-append (newcomers entries n) (newcomer entries n ∷ []), length_newcomers entries n)
 
--- the worst of the answers, told one after another
+-- the worst of the answers, printed one after another
 pub statuses : {W T E : Type 0} (answer : W → Option (Result T E)) (ws : List W) (status : ℕ) (has_failed : Bool) → status ≡ max (fold (λ worst w. max worst (answer_status (answer w))) 0 ws) (fault_status has_failed)
     → status ≡ max (fold (λ worst a. max worst (answer_status a)) 0 (map answer ws)) (fault_status has_failed)
 statuses answer ws status has_failed e = e ∙ ap (λ n. max n (fault_status has_failed)) (sym (fold-map (λ worst a. max worst (answer_status a)) answer 0 ws))
 
--- nothing stands in a new buffer
+-- a new buffer is empty
 pub appended_nil : (o : Option (List ℕ)) (bs : List ℕ) → bs ≡ [] → append_known o bs ≡ o
 appended_nil None bs e = refl
 appended_nil (Some x) bs e = ap (λ b. Some (x ++ b)) e ∙ ap Some (append-nil x)

@@ -1,4 +1,4 @@
--- What `run` is given where its words are refused for nothing.
+-- What an accepted command line gives `run`.
 use Rattle.std.proofs.Common.{rules, ◌≡◌, ◌∙◌, ◌≤◌, ◌⊎◌, inl, inr, ℕ, Bool, true, false, zero, suc, List, [], ◌∷◌, ◌++◌, Option, Some, None, refl, sym, ap, ap₂, subst, ◌==◌, length, codes, drop, arith, pos}
 use Rattle.std.specs.Prelude.{⊤, nat_lt, int_le, unwrap_or, slice_get, option_and_then, neg_ℤ, find, is_some, not, ◌&&◌, ◌||◌, cond, fold, option_map, if◌then◌else◌}
 use Rattle.std.specs.Option.{option_map_or}
@@ -35,7 +35,7 @@ use Rattle.station_main.proofs.WalkedLemmas.{Keeps, both_none, not_none, settles
 abbrev pub IsNumber : Text → ℕ → Row → Type 0
 IsNumber id most r = (r.id ≡ id) × (r.reading ≡ WithoutMinus) × ((v : Text) × (r.values ≡ v ∷ []) × (is_signed_in (pos 1) (pos most) v ≡ true))
 
--- the row of `--every`, `--rounds` or PATH, as a use or a default leaves it that is refused for nothing
+-- the row of `--every`, `--rounds` or PATH after an accepted use or a default
 abbrev pub Good : Row → Type 0
 Good r = IsNumber (codes "every") 3600000 r
     ⊎ (IsNumber (codes "rounds") 1000 r
@@ -70,7 +70,7 @@ absent_step : (b : Bool) (r : Row) (rs missing : List Row) (id : Text) (change :
 absent_step true r rs missing id change e others = absurd (search rules)
 absent_step false r rs missing id change e others = ap (λ t. r ∷ t) (others e)
 
--- where no row has the id, a change of its row is a new row
+-- if no row has the id, a change of its row is a new row
 absent : (id : Text) (change : Row → List Row) (missing rows : List Row) → has_row id rows ≡ false → at_row id change missing rows ≡ rows ++ missing
 absent id change missing [] e = refl
 absent id change missing (r ∷ rs) e = absent_step (bytes_eq r.id id) r rs missing id change e (absent id change missing rs)
@@ -193,7 +193,7 @@ keeps_among a values rows (inr (inr (inl same))) e f = subst (λ b. Fine (used b
 keeps_among a values rows (inr (inr (inr (inl same)))) e f = subst (λ b. Fine (used b values rows)) same (keeps_help values rows (subst (λ b. use_fault false b values rows ≡ []) (sym same) e) f)
 keeps_among a values rows (inr (inr (inr (inr none)))) e f = absurd none
 
--- ---- the words of `run`
+-- ---- the command line of `run`
 
 abbrev pub run_shape : Shape
 run_shape = built_leaf (inherited (with_leaf_noted (marked_built station.top)) run.top)
@@ -213,7 +213,7 @@ has_last : (id : Text) (rows : List Row) (r : Row) → bytes_eq r.id id ≡ true
 has_last id [] r e = ap (λ b. b || false) e
 has_last id (x ∷ xs) r e = last_step (bytes_eq x.id id) _ (has_last id xs r e)
 
--- `--rounds` has a row, by its default where it wasn't given
+-- `--rounds` has a row, by its default if it wasn't given
 rounds_default : (b : Bool) (rows : List Row) → has_row (codes "rounds") rows ≡ b → Fine rows
     → (let after = if b then rows else default_rows (codes "rounds") WithoutMinus (codes "1" ∷ []) rows in
     Fine after × (has_row (codes "rounds") after ≡ true))

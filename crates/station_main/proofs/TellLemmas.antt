@@ -1,4 +1,4 @@
--- What is told, one line after another.
+-- What is printed, one line after another.
 use Rattle.std.proofs.Common.{◌≡◌, ◌∙◌, ℕ, ◌+◌, ◌<◌, List, [], ◌∷◌, ◌++◌, Option, Some, Result, length, map, take, get_or, refl, sym, ap, subst}
 use Rattle.std.specs.Prelude.{fold, max}
 use Rattle.std.specs.List.{flat_map}
@@ -22,7 +22,7 @@ pub flat_map-map : {X Y A : Type 0} (f : Y → List A) (g : X → Y) (xs : List 
 flat_map-map f g [] = refl
 flat_map-map f g (x ∷ xs) = ap (λ l. f (g x) ++ l) (flat_map-map f g xs)
 
--- one more answer is told
+-- one more answer is printed
 pub one_more_told : {W : Type 0} (answer : W → Option (Result Tally PumpFault)) (ws : List W) (i : ℕ) (w : W) (x : Result Tally PumpFault) (a b c : Told)
     → i < length ws → w ≡ get_or ws i w → answer w ≡ Some x
     → Tells a b (flat_map (λ v. answer_lines (answer v)) (take i ws)) → Tells b c (pump_lines x)

@@ -1,4 +1,4 @@
--- The command line as `clap` reads it, and the job that its words name.
+-- The command line as `clap` reads it, and the job that it names.
 use Rattle.std.specs.Prelude.{◌≡◌, ◌≤◌, ℕ, List, [], ◌∷◌, Some, codes, true, false, pos, map, length, option_map, ⊤}
 use Rattle.std.specs.String.{string_bytes}
 use Rattle.std.specs.Str.Parse.{IsNumeral, digits_value, without_leading_plus}
@@ -21,7 +21,7 @@ every = record (new_rule (codes "every")) {
   parser = Some (Signed (pos 1) (pos 3600000));
 }
 
--- `--rounds R`: a whole number from 1 to 1,000, and 1 where it isn't given
+-- `--rounds R`: a whole number from 1 to 1,000, or 1 if it isn't given
 abbrev pub rounds : Rule
 rounds = record (new_rule (codes "rounds")) {
   long = Some (codes "rounds");
@@ -30,7 +30,7 @@ rounds = record (new_rule (codes "rounds")) {
   parser = Some (Signed (pos 1) (pos 1000));
 }
 
--- `PATH..`: required, 1 to 8 of them, together
+-- `PATH..`: required, 1 to 8 of them, one after another
 abbrev pub path : Rule
 path = record (new_rule (codes "path")) {
   action = Some Set;
@@ -60,11 +60,11 @@ IsArg rule a = (rule_of a ≡ rule) × (a.global ≡ false)
 abbrev pub IsMade : App → Command → Type 0
 IsMade app c = (app_of c ≡ app) × ((out-Command c).has_globals ≡ false)
 
--- the number that a text of decimal digits, or a `+` and decimal digits, stands for
+-- the number of a text of decimal digits, or of a `+` and decimal digits
 abbrev pub number : Text → ℕ
 number text = digits_value 10 (without_leading_plus text)
 
--- the values that `--every`, `--rounds` and PATH have by the words of `run`, the paths in their order
+-- the values of `--every`, `--rounds` and PATH in a command line of `run`, the paths in their order
 pub record GivesRun (rows : List Row) (milliseconds times : ℕ) (paths : List Text) : Type 0 where
   pub text : Text
   pub every : one_of (codes "every") rows ≡ Some text
@@ -74,7 +74,7 @@ pub record GivesRun (rows : List Row) (milliseconds times : ℕ) (paths : List T
   pub rounds_is : times ≡ number rounds_text
   pub paths_are : all_of (codes "path") rows ≡ Some paths
 
--- what the words of `run` give where they are refused for nothing
+-- what a command line of `run` gives if nothing in it is refused
 pub record IsGiven (rows : List Row) : Type 0 where
   pub text : Text
   pub every : one_of (codes "every") rows ≡ Some text
@@ -95,7 +95,7 @@ abbrev pub GivesJob : List Row → Job → Type 0
 GivesJob rows Replay = ⊥
 GivesJob rows (Run milliseconds times paths) = GivesRun rows milliseconds times (map string_bytes paths.items)
 
--- the job is the one that the words name
+-- the job is the one that the command line names
 abbrev pub NamesJob : List Text → Job → Type 0
 NamesJob words Replay = option_map (λ p. p.0) (subcommand_of station words) ≡ Some (codes "replay")
 NamesJob words (Run milliseconds times paths) =

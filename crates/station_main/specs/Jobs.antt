@@ -1,4 +1,4 @@
--- What a job leaves: its output, what it told, and its status.
+-- What a job leaves: its output, what it printed on standard error, and its status.
 use Rattle.std.specs.Prelude.{◌≡◌, ◌⊎◌, ℕ, ◌-◌, List, Option, Some, None, length}
 use Rattle.clap.specs.Words.{Text}
 use Rattle.station_main.specs.Command.{NamesJob}
@@ -11,26 +11,26 @@ use Rattle.station_main.specs.declared.faults.Fault.TheVariants as fault
 use Rattle.station_main.specs.declared.words.Job.{Job}
 use Rattle.station_main.specs.declared.words.Job.TheVariants.{Replay, Run}
 
--- a replay without an output has read nothing
+-- a job is done; a replay that leaves no output has read nothing
 abbrev pub IsDone : Job → Option (List ℕ) → Option (List ℕ) → Option (Option (List ℕ)) → Told → Told → ℕ → Type 0
 IsDone Replay input before None err_old err_new status = EndsEarly err_old err_new status
 IsDone Replay input before (Some after) err_old err_new status = EndsReplay program_limits input before after err_old err_new status
 IsDone (Run every rounds paths) input before after err_old err_new status =
     Runs (record { every = every; inputs = length paths.items }) (rounds - 1) nothing before after err_old err_new status
 
--- the job that the words name is done
+-- the job that the command line names is done
 pub record DoesJob (words : List Text) (input before : Option (List ℕ)) (after : Option (Option (List ℕ))) (err_old err_new : Told) (status : ℕ) : Type 0 where
   pub job : Job
   pub named : NamesJob words job
   pub done : IsDone job input before after err_old err_new status
 
--- memory for reading the words was refused, and only that is told
+-- an allocation for reading the command line was refused, and only that is printed
 pub record HasNoMemory (after : Option (Option (List ℕ))) (err_old err_new : Told) (status : ℕ) : Type 0 where
   pub out : after ≡ None
   pub told : Tells err_old err_new (fault_line fault.NoMemory)
   pub status_is : status ≡ 1
 
--- what words that are taken leave
+-- what an accepted command line leaves
 abbrev pub IsAnswered : List Text → Option (List ℕ) → Option (List ℕ) → Option (Option (List ℕ)) → Told → Told → ℕ → Type 0
 IsAnswered words input before after err_old err_new status =
     DoesJob words input before after err_old err_new status ⊎ HasNoMemory after err_old err_new status

@@ -7,6 +7,6 @@ use Rattle.station_journal.specs.declared.limits.Limits.{Limits}
 abbrev pub program_limits : Limits
 program_limits = record { entries = most_entries; aircraft = 512 }
 
--- one input is read so often at most
+-- the most reads of one input
 abbrev pub most_reads : ℕ
 most_reads = 2 ^ 32 - 1

@@ -11,19 +11,19 @@ use Rattle.station_main.specs.Tables.{TakesTexts, failures_after}
 use Rattle.station_main.specs.declared.schedule.Act.{Act}
 use Rattle.station_main.specs.declared.schedule.Act.TheVariants.{Sleep, Print}
 
--- ---- when it acts; moments are milliseconds since its start
+-- ---- when it acts, in milliseconds since its start
 
--- the moment that comes so many milliseconds after another, up to 2^64 - 1
+-- the time one interval after another, at most 2^64 - 1
 abbrev pub next_moment : ℕ → ℕ → ℕ
 next_moment every at = min (at + every) (2 ^ 64 - 1)
 
--- before a table is due a sleep up to then, of 50 ms at most; from then on a table at that moment, and the next is due so
--- many milliseconds later
+-- before a table is due it sleeps up to then, for at most 50 ms; from then on it prints a table, and the next is due one
+-- interval later
 abbrev pub IsActAt : (every due now : ℕ) → Act → Type 0
 IsActAt every due now (Sleep pause) = (now < due) × (as_nanos pause ≡ min (due - now) 50 * 1000000)
 IsActAt every due now (Print at next) = (due ≤ now) × (at ≡ now) × (next ≡ next_moment every now)
 
--- of the moments that a clock gave, those at which a table was due
+-- of the times that a clock gave, those at which a table was due
 abbrev pub due_moments : (every due : ℕ) → List ℕ → List ℕ
 due_moments every due [] = []
 due_moments every due (now ∷ moments) =
@@ -31,7 +31,7 @@ due_moments every due (now ∷ moments) =
 
 -- ---- what it prints
 
--- a showing: the moment of its tick, the seat after the tick, and the seat after the look, if it was let in
+-- a showing: the time of its tick, the seat after the tick, and the seat after the look, unless the look was refused
 pub record Showing : Type 0 where
   pub at : ℕ
   pub ticked : Seated
@@ -43,7 +43,7 @@ seat_after showing = unwrap_or showing.look showing.ticked
 abbrev pub looks_of : List Showing → List (Option Seated)
 looks_of showings = map (λ (showing : Showing). showing.look) showings
 
--- the seat ticks at a moment, and that is accepted or refused
+-- the seat ticks at a time, and that is accepted or refused
 abbrev pub Ticks : Start → Seated → ℕ → Seated → Type 0
 Ticks start old at new =
     ((receipt : Known) × Accepted start old new (Tick old.number at) receipt) ⊎ ((refusal : Refusal) × Refused start old new (Tick old.number at) refusal)
@@ -53,23 +53,23 @@ pub record IsShowing (start : Start) (old : Seated) (showing : Showing) : Type 0
   pub ticks : Ticks start old showing.at showing.ticked
   pub looks : IfSome showing.look (λ look. Looks start showing.ticked look)
 
--- showings from one seat to another, each from where the one before left it
+-- showings from one seat to another, each from where the one before ended
 abbrev pub Showings : Start → Seated → List Showing → Seated → Type 0
 Showings start old [] new = new ≡ old
 Showings start old (showing ∷ showings) new = IsShowing start old showing × Showings start (seat_after showing) showings new
 
--- showings at just those of the clock's moments at which a table is due, the first so many milliseconds after the last tick
+-- showings at just those times of the clock at which a table is due, the first one interval after the last tick
 pub record KeepsTime (start : Start) (every last : ℕ) (moments : List ℕ) (old : Seated) (showings : List Showing) (new : Seated) : Type 0 where
   pub due : map (λ (showing : Showing). showing.at) showings ≡ due_moments every (next_moment every last) moments
   pub walk : Showings start old showings new
 
--- a reporter whose clock gave these moments, from one seat to another
+-- a reporter whose clock gave these times, from one seat to another
 pub record Reports (start : Start) (every last : ℕ) (moments : List ℕ) (old new : Seated) (before after : Printed) (has_failed : Bool) : Type 0 where
   pub showings : List Showing
   pub keeps : KeepsTime start every last moments old showings new
   pub takes : TakesTexts start (looks_of showings) before.taken after.taken has_failed
   pub failures : after.failures ≡ failures_after has_failed before.failures
 
--- the same at some clock
+-- a reporter by some clock
 abbrev pub ReportsByAClock : Start → ℕ → ℕ → Seated → Seated → Printed → Printed → Bool → Type 0
 ReportsByAClock start every last old new before after has_failed = (moments : List ℕ) × Reports start every last moments old new before after has_failed

@@ -16,7 +16,7 @@ use Rattle.station_main.specs.declared.kept.Kept.{Kept}
 use Rattle.station_main.specs.declared.round.Round.{Round}
 use Rattle.station_main.specs.declared.round.Round.TheVariants.{Over, GoesOn}
 
--- what a round goes on from: entries with the base of their clock, and the moment of the last tick before it
+-- what a round goes on from: entries with the base of their clock, and the time of the last tick before it
 pub record Given : Type 0 where
   pub base : ℕ
   pub entries : List Entry
@@ -37,12 +37,12 @@ pub record Asked : Type 0 where
   pub every : ℕ
   pub inputs : ℕ
 
--- a round of a station: its reporter's seat, the one after the inputs' seats, has seen what the round goes on from
+-- a round of a station: its reporter's seat, which comes after the inputs' seats, has seen what the round goes on from
 pub record IsRound (asked : Asked) (given : Given) (start : Start) (closing : Seated) (before after : Option (List ℕ)) (err_old err_new : Told) (status : ℕ) : Type 0 where
   pub goes_on : GoesOnFrom given start
   pub ends : Ends start asked.every given.last_tick asked.inputs (newcomer given.entries asked.inputs) closing before after err_old err_new status
 
--- what is kept of the journal of a closed station, which begins with all that a seat has seen: its recent entries
+-- what is kept of a closed station's journal: its recent entries; the journal begins with all that a seat has seen
 pub record KeepsRecent (start : Start) (closing : Seated) (kept : Given) : Type 0 where
   pub journal : List Entry
   pub legal : IsLegal (log_of start journal)
@@ -79,20 +79,21 @@ pub record KeepsNothing (asked : Asked) (given : Given) (before after : Option (
   pub told : Tells err_mid err_new (fault_line fault)
   pub status_is : status ≡ 1
 
--- a round that nothing follows; without an output nothing was read in it
+-- the last round; without an output nothing was read in it
 abbrev pub IsLast : Asked → Given → Option (List ℕ) → Option (Option (List ℕ)) → Told → Told → ℕ → Type 0
 IsLast asked given before None err_old err_new status = EndsEarly err_old err_new status
 IsLast asked given before (Some after) err_old err_new status =
     (start : Start) × (closing : Seated) × IsRound asked given start closing before after err_old err_new status
 
--- a round with a fault, which ends the run though others were to follow
+-- a round with a fault, which ends the run before its last round
 abbrev pub IsCutShort : Asked → Given → Option (List ℕ) → Option (Option (List ℕ)) → Told → Told → ℕ → Type 0
 IsCutShort asked given before None err_old err_new status = EndsEarly err_old err_new status
 IsCutShort asked given before (Some after) err_old err_new status =
     ((start : Start) × (closing : Seated) × (status ≡ 1) × IsRound asked given start closing before after err_old err_new status)
     ⊎ KeepsNothing asked given before after err_old err_new status
 
--- a last round after so many others, each of which goes on from what is kept of the one before, or fewer up to a fault
+-- rounds up to the last, each from what the one before kept, or up to the first with a fault; the number is that of the
+-- rounds before the last
 abbrev pub Runs : Asked → ℕ → Given → Option (List ℕ) → Option (Option (List ℕ)) → Told → Told → ℕ → Type 0
 Runs asked zero given before after err_old err_new status = IsLast asked given before after err_old err_new status
 Runs asked (suc more) given before after err_old err_new status =
@@ -100,11 +101,11 @@ Runs asked (suc more) given before after err_old err_new status =
     × HandsOn asked given before mid err_old err_mid kept × Runs asked more kept mid after err_mid err_new status)
     ⊎ IsCutShort asked given before after err_old err_new status
 
--- what a round hands on, as the next is given it
+-- what a round hands on to the next
 abbrev pub given_of : Kept → Given
 given_of kept = record { base = kept.recent.base; entries = kept.recent.entries.items; last_tick = kept.last_tick }
 
--- a round that others are to follow, by its answer
+-- a round that is not the last, by its answer
 abbrev pub EndsRound : {O : Type 0} → (O → Option (List ℕ)) → Asked → Given → Option (List ℕ) → Told → Told → Round O → Type 0
 EndsRound contents asked given before err_old err_new (Over ran) =
     (ran.status ≤ 1) × IsCutShort asked given before (option_map contents ran.out) err_old err_new ran.status

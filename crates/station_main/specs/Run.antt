@@ -21,7 +21,7 @@ use Rattle.station_main.specs.declared.faults.Fault.TheVariants as fault
 
 -- ---- the receivers
 
--- what a source over a reader is seen as, which has these bytes left, where they are known
+-- the view of a source over a reader with these bytes left, if they are known
 abbrev pub drawn_from : {R : Type 0} → Option (List ℕ) → FromBuffer R → Drawn
 drawn_from left source = record { left = left; reads = source.reads; ends = source.ends; failures = source.failures }
 
@@ -32,8 +32,7 @@ pub record HaveWorked {W R : Type 0} (start : Start) (seat : W → Seated) (sour
       (before : Option (List ℕ)) × (after : Option (List ℕ))
       × Worked start (seat was) (seat is) (drawn_from before (source was)) (drawn_from after (source is)) most_reads (answer is)
 
--- receivers that have each pumped one of these inputs to an answer, in their order, with seats of their own that had seen
--- these entries
+-- receivers that have pumped these inputs to answers, one each, in their order, from seats that had seen these entries
 pub record HavePumped {W R : Type 0} (start : Start) (entries : List Entry) (seat : W → Seated) (source : W → FromBuffer R) (answer : W → Option (Result Tally PumpFault)) (inputs : List (FromBuffer R)) (new : List W) : Type 0 where
   pub old : List W
   pub seats : map seat old ≡ newcomers entries (length inputs)
@@ -42,7 +41,7 @@ pub record HavePumped {W R : Type 0} (start : Start) (entries : List Entry) (sea
 
 -- ---- the last table
 
--- the last table, where no write failed before
+-- the last table, if no write failed before
 pub record PrintsMore (start : Start) (old new : Seated) (before : Printed) (after : Option (List ℕ)) (has_failed : Bool) : Type 0 where
   pub sink : Printed
   pub result : Result (Unit {0}) WriteFault
@@ -50,20 +49,20 @@ pub record PrintsMore (start : Start) (old new : Seated) (before : Printed) (aft
   pub gives : GivesBack sink.taken after has_failed
   pub told : is_err result ≡ true → has_failed ≡ true
 
--- the last table by a seat, and the output out of its buffer
+-- the last table, as a seat sees it, and the output out of its buffer
 abbrev pub PrintsLast : Start → Seated → Seated → Printed → Bool → Option (List ℕ) → Bool → Type 0
 PrintsLast start old new before false after has_failed = PrintsMore start old new before after has_failed
 PrintsLast start old new before true after has_failed = (new ≡ old) × GivesBack before.taken after has_failed × (has_failed ≡ true)
 
--- the looks of the seat after the last showing: one, where no write failed before
+-- the looks of the seat after the last showing: one, if no write failed before
 abbrev pub LastLook : Start → Seated → Seated → Bool → List (Option Seated) → Type 0
 LastLook start old new false looks = (look : Option Seated) × (looks ≡ look ∷ []) × (unwrap_or look old ≡ new) × IfSome look (λ l. Looks start old l)
 LastLook start old new true looks = (looks ≡ []) × (new ≡ old)
 
 -- ---- a whole round
 
--- what a round leaves of its output, whose reporter has one seat at first and another at last: the texts of its looks and of
--- one after them, and nothing else; or a front of that, where a write failed
+-- what a round leaves of its output, whose reporter's seat goes from `first` to `closing`: the texts of its looks and of one
+-- look after them, and nothing else, or a front of that if a write failed
 pub record Leaves (start : Start) (every last_tick : ℕ) (first closing : Seated) (before after : Option (List ℕ)) (has_failed : Bool) : Type 0 where
   pub mid : Seated
   pub moments : List ℕ
@@ -78,7 +77,7 @@ pub record Leaves (start : Start) (every last_tick : ℕ) (first closing : Seate
   pub gives : GivesBack between after has_failed
   pub told : write_failed ≡ true → has_failed ≡ true
 
--- what is told are the answers, one for each input in their order, and at last a failed write; the status is that of both
+-- it prints the answers, one for each input in their order, and at last a failed write; the status is the worst of these
 pub record Ends (start : Start) (every last_tick inputs : ℕ) (first closing : Seated) (before after : Option (List ℕ)) (err_old err_new : Told) (status : ℕ) : Type 0 where
   pub has_failed : Bool
   pub output : Leaves start every last_tick first closing before after has_failed
@@ -97,7 +96,7 @@ IsEarly fault.Write = ⊥
 IsEarly fault.TooManyReads = ⊥
 IsEarly fault.SeatLost = ⊥
 
--- only such a fault is told
+-- only such a fault is printed
 pub record EndsEarly (err_old err_new : Told) (status : ℕ) : Type 0 where
   pub fault : Fault
   pub early : IsEarly fault

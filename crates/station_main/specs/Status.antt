@@ -1,4 +1,4 @@
--- The statuses that answers give.
+-- The exit statuses of answers.
 use Rattle.std.specs.Prelude.{ℕ, Bool, true, false, Option, Some, None, Result, Ok, Err}
 
 -- 0 for an answer, and 1 after a fault
@@ -6,7 +6,7 @@ abbrev pub status_of : {T E : Type 0} → Result T E → ℕ
 status_of (Ok x) = 0
 status_of (Err fault) = 1
 
--- the same of a receiver, and 1 where it has no answer
+-- the status of a receiver: that of its answer, and 1 without one
 abbrev pub answer_status : {T E : Type 0} → Option (Result T E) → ℕ
 answer_status None = 1
 answer_status (Some answer) = status_of answer

@@ -10,13 +10,13 @@ use Rattle.station_desk.specs.Start.{Start, log_of}
 use Rattle.station_shared.specs.Seats.{Seated, Looks}
 use Rattle.station_main.specs.Output.{Printed}
 
--- the text of the table that these entries give
+-- the text of the table of these entries
 abbrev pub text_of : Start → List Entry → List ℕ
 text_of start seen = text (table_of (log_of start seen)) (clock_of (log_of start seen))
 
 -- ---- one table
 
--- the seat looks, and the table of all that it has then seen is written
+-- the seat looks, and the table of all that it has seen by then is written
 pub record Prints (start : Start) (old new : Seated) (before after : Printed) (result : Result (Unit {0}) WriteFault) : Type 0 where
   pub looks : Looks start old new
   pub takes : TakesAll before.taken after.taken before.failures after.failures (text_of start new.seen) result
@@ -32,7 +32,7 @@ PrintsAtMost start old new before after result = Prints start old new before aft
 
 -- ---- many tables
 
--- a look that was let in has a text
+-- the text of a look; a refused one has none
 abbrev pub shown : Start → Option Seated → List ℕ
 shown start None = []
 shown start (Some look) = text_of start look.seen
@@ -42,7 +42,7 @@ abbrev pub texts : Start → List (Option Seated) → List ℕ
 texts start [] = []
 texts start (look ∷ looks) = shown start look ++ texts start looks
 
--- the sink failed at the last look's text, and took a front of it, after the texts before it
+-- the sink took the texts before the last look's, and failed within that one
 pub record FailsAtLast (start : Start) (looks : List (Option Seated)) (old new : Option (List ℕ)) : Type 0 where
   pub front : List (Option Seated)
   pub last : Seated
@@ -52,12 +52,12 @@ pub record FailsAtLast (start : Start) (looks : List (Option Seated)) (old new :
   pub cut : text_of start last.seen ≡ taken ++ rest
   pub grown : Appends old new (texts start front ++ taken)
 
--- the sink took the texts of all looks and nothing else, or it failed at the last
+-- the sink took the texts of all looks and nothing else, or failed at the last
 abbrev pub TakesTexts : Start → List (Option Seated) → Option (List ℕ) → Option (List ℕ) → Bool → Type 0
 TakesTexts start looks old new false = Appends old new (texts start looks)
 TakesTexts start looks old new true = FailsAtLast start looks old new
 
--- a failed write is told exactly where the sink failed
+-- the count of failures rises by one if the sink failed
 abbrev pub failures_after : Bool → ℕ → ℕ
 failures_after false n = n
 failures_after true n = counted false n

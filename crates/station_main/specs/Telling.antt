@@ -1,4 +1,4 @@
--- What is told on standard error.
+-- What is printed on standard error.
 use Rattle.std.specs.Prelude.{◌≡◌, ℕ, Bool, true, false, List, [], ◌∷◌, ◌++◌, Option, Some, None, Result, Ok, Err, codes}
 use Rattle.std.specs.Fmt.{decimal}
 use Rattle.std.specs.Io.KnownBytes.{Appends}
@@ -11,16 +11,16 @@ use Rattle.station_main.specs.declared.faults.Fault.{Fault}
 use Rattle.station_main.specs.declared.faults.Fault.TheVariants as fault
 use Rattle.station_main.specs.declared.standard_error.StandardError.{StandardError}
 
--- standard error: the bytes taken so far, where they are known, and whether a write failed
+-- standard error: the bytes taken so far, if they are known, and whether a write failed
 pub record Told : Type 0 where
   pub taken : Option (List ℕ)
   pub has_failed : Bool
 
--- what standard error is seen as, by what its writer's trait tells of it
+-- the view of standard error by its writer's trait
 abbrev pub told_of : {E : Type 0} → (E → Option (List ℕ)) → StandardError E → Told
 told_of contents err = record { taken = contents err.inner; has_failed = err.has_failed }
 
--- this text is taken and nothing else, unless a write fails
+-- this text is printed and nothing else, unless a write fails
 pub record Tells (old new : Told) (text : List ℕ) : Type 0 where
   pub told : new.has_failed ≡ false → (old.has_failed ≡ false) × Appends old.taken new.taken text
 
@@ -38,7 +38,7 @@ fault_words fault.SeatLost = codes "seat lost"
 abbrev pub fault_line : Fault → List ℕ
 fault_line fault = codes "groundstation: " ++ fault_words fault ++ 10 ∷ []
 
--- each number after its word
+-- each number after its name
 abbrev pub tally_line : Tally → List ℕ
 tally_line tally =
     codes "lines " ++ decimal tally.lines ++ codes " frames " ++ decimal tally.frames ++ codes " ticks " ++ decimal tally.ticks
@@ -46,24 +46,24 @@ tally_line tally =
     ++ codes " faults " ++ decimal tally.faults ++ codes " accepted " ++ decimal tally.accepted ++ codes " refused " ++ decimal tally.refused
     ++ 10 ∷ []
 
--- a fault directly after the tally of the same path
+-- a tally, and directly after it the fault of that path
 abbrev pub pump_lines : Result Tally PumpFault → List ℕ
 pump_lines (Ok tally) = tally_line tally
 pump_lines (Err (pump.Read tally)) = tally_line tally ++ fault_line fault.Read
 pump_lines (Err (pump.TooManyTurns tally)) = tally_line tally ++ fault_line fault.TooManyReads
 pump_lines (Err (pump.NoMemory tally)) = tally_line tally ++ fault_line fault.NoMemory
 
--- a receiver without an answer is told by nothing
+-- a receiver without an answer has no line
 abbrev pub answer_lines : Option (Result Tally PumpFault) → List ℕ
 answer_lines None = []
 answer_lines (Some answer) = pump_lines answer
 
--- a write that failed, if one did
+-- a failed write, if there is one
 abbrev pub output_lines : Bool → List ℕ
 output_lines false = []
 output_lines true = fault_line fault.Write
 
--- one fault at most: that of the answer, or else that of the output
+-- a tally and at most one fault: that of the answer, or else that of the output
 abbrev pub replay_lines : Result Tally ReplayFault → Bool → List ℕ
 replay_lines (Ok tally) has_failed = tally_line tally ++ output_lines has_failed
 replay_lines (Err (replay.Read tally)) has_failed = tally_line tally ++ fault_line fault.Read

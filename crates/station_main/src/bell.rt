@@ -1,11 +1,11 @@
-//! The bell that is rung when all receivers have ended, and wakes the reporter.
+//! The bell that rings when all receivers have ended, and wakes the reporter.
 
 use std::sync::Wait;
 use std::sync::atomic::{AtomicBool, Ordering};
 use std::thread::Parker;
 use std::time::Duration;
 
-/// It is rung once, and stays so. One thread at a time rests beside it.
+/// A bell that rings once and stays rung. One thread at a time rests beside it.
 #[derive(Drop)]
 pub struct Bell {
     has_rung: AtomicBool,
@@ -21,18 +21,18 @@ impl Bell {
         }
     }
 
-    /// Rings it, and wakes who rests.
+    /// Rings the bell, and wakes a thread that rests.
     pub fn ring(&self) {
         self.has_rung.store(true, Ordering::SeqCst);
         self.parker.unpark();
     }
 
-    /// Whether it has rung.
+    /// Whether the bell has rung.
     pub fn has_rung(&self) -> bool {
         self.has_rung.load(Ordering::SeqCst)
     }
 
-    /// Rests until it rings, and so long at most. It may end before.
+    /// Rests until the bell rings, for `longest` at most. The rest may end earlier.
     pub fn rest<R: Wait>(&self, rt: &R, longest: Duration) {
         self.parker.park_timeout(rt, longest);
     }

@@ -1,4 +1,4 @@
-//! What the program tells on standard error.
+//! What the program prints on standard error.
 ghost use Rattle.std.specs.Prelude.{◌≡◌, ◌++◌};
 ghost use Rattle.station_main.specs.Telling.{Tells, fault_line, tally_line, told_of};
 
@@ -10,14 +10,19 @@ use std::io::Write;
 /// What ends a job with status 1.
 #[derive(Clone, Copy, Debug, PartialEq, Eq)]
 pub enum Fault<'a> {
+    /// An input couldn't be read.
     Read,
+    /// The output couldn't be written.
     Write,
+    /// An input hasn't ended after 2^32 - 1 reads.
     TooManyReads,
+    /// An allocation was refused.
     NoMemory,
-    /// The path, as it was given.
+    /// This path, as it was given, couldn't be opened.
     CannotOpen(&'a str),
+    /// The reporter's thread couldn't be started.
     ThreadNotStarted,
-    /// Between two rounds a station got back other seats than it had given.
+    /// A station got back other seats than it had given, between two rounds.
     SeatLost,
 }
 
@@ -40,7 +45,7 @@ impl Display for Fault<'_> {
     }
 }
 
-/// Writes the line of a fault, and answers its status.
+/// Prints the line of a fault, and answers the status 1.
 pub fn tell<E: Write>(err: &mut StandardError<E>, fault: Fault<'_>) -> u8
     ensures status { result ≡ 1 }
     ensures told { Tells (told_of E.contents err.old) (told_of E.contents err.new) (fault_line fault.entry) }
@@ -49,7 +54,7 @@ pub fn tell<E: Write>(err: &mut StandardError<E>, fault: Fault<'_>) -> u8
     1
 }
 
-/// Writes what was counted, and a fault directly after it. Answers the status.
+/// Prints what was counted, and a fault directly after it. Answers the status 1.
 pub fn tell_after<E: Write>(err: &mut StandardError<E>, tally: &Tally, fault: Fault<'_>) -> u8
     ensures status { result ≡ 1 }
     ensures told { Tells (told_of E.contents err.old) (told_of E.contents err.new)
@@ -59,7 +64,7 @@ pub fn tell_after<E: Write>(err: &mut StandardError<E>, tally: &Tally, fault: Fa
     tell(err, fault)
 }
 
-/// Writes what was counted as one line.
+/// Prints what was counted, as one line.
 pub fn write_tally<E: Write>(err: &mut StandardError<E>, tally: &Tally)
     ensures { Tells (told_of E.contents err.old) (told_of E.contents err.new) (tally_line tally.now) }
 {

@@ -1,18 +1,18 @@
 //! The limits of the program.
 use station_journal::{Limits, MOST_ENTRIES};
 
-/// How many aircraft may be live.
+/// The most aircraft that may be live at once.
 pub const AIRCRAFT: usize = 512;
 
-/// How many entries the journal may hold, and how many aircraft may be live.
+/// The most entries of a journal, 16,777,216, and the most live aircraft.
 pub const LIMITS: Limits = Limits {
     entries: MOST_ENTRIES,
     aircraft: AIRCRAFT as u32,
 };
 
-/// How many reads of one input are made at most.
+/// The most reads of one input.
 pub const TURNS: u32 = u32::MAX;
 
-/// How many bytes of tables are held until they are flushed. A full table has 512 rows of 74 bytes, and 112 bytes above
-/// them at most.
+/// The room of a run's output buffer, in bytes. A full table has 512 rows of 74 bytes, and at most 112 bytes above
+/// them.
 pub const TABLE_ROOM: usize = 65_536;

@@ -38,7 +38,7 @@ fn main(rt: HostRuntime) -> ExitCode {
     ExitCode::from(status)
 }
 
-// Runs the program on its words, or says why they couldn't be read. Answers the exit status.
+// Runs the program on its arguments, or says why they couldn't be read. Answers the exit status.
 fn answer<
     R: Threads + Wait + Clock + Files<File = File> + Sync,
     I: Read + Drop,

@@ -8,21 +8,24 @@ use crate::faults::{Fault, tell};
 use crate::standard_error::StandardError;
 use std::io::{BufWriter, Write};
 
-/// What a job leaves: the status, and its output, which is gone where nothing was read.
+/// What a job leaves.
 #[derive(Drop)]
 pub struct Ran<O> {
+    /// The exit status, 0 to 2.
     pub status: u8,
+    /// The output. It is gone if nothing was read.
     pub out: Option<O>,
 }
 
-/// An output that is written no more.
+/// An output after its last write.
 #[derive(Drop)]
 pub struct Written<O> {
     pub out: O,
+    /// Whether a write failed.
     pub has_failed: bool,
 }
 
-/// Tells a fault that came before anything was read.
+/// Prints a fault that came before anything was read.
 pub fn without_output<O, E: Write>(err: &mut StandardError<E>, fault: Fault<'_>) -> Ran<O>
     ensures status { result.status ≡ 1 }
     ensures out { result.out ≡ None }
@@ -34,7 +37,7 @@ pub fn without_output<O, E: Write>(err: &mut StandardError<E>, fault: Fault<'_>)
     }
 }
 
-/// The output out of its buffer.
+/// Writes what is left in the buffer, and takes the output out of it.
 pub fn unbuffered<O: Write + Drop>(out: BufWriter<O>) -> Written<O>
     ensures { GivesBack (writer_contents O.contents out) (O.contents result.out) result.has_failed }
 {
@@ -47,8 +50,8 @@ pub fn unbuffered<O: Write + Drop>(out: BufWriter<O>) -> Written<O>
     }
 }
 
-/// The output after a failed write, without what is left in its buffer: a writer that is dropped would write that after
-/// the fault was told.
+/// Takes the output out of its buffer after a failed write, and drops what is left there. A buffer that is dropped
+/// whole would write that after the fault was printed.
 pub fn give_up<O: Write + Drop>(out: BufWriter<O>) -> Written<O>
     ensures bytes { GivesBack (writer_contents O.contents out) (O.contents result.out) result.has_failed }
     ensures failed { result.has_failed ≡ true }

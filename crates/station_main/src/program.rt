@@ -20,9 +20,14 @@ use std::sync::Wait;
 use std::thread::Threads;
 use std::time::Clock;
 
-/// Runs the words of a command line, of which the first is the program's name. Answers the exit status, 0, also where lines
-/// were refused, 1 after a fault, 2 for words that are refused, and hands the output back, unless nothing was read. Words
-/// that are taken have the job done that they name, or are told that memory for reading them was refused.
+/// Runs a command line, which begins with the program's name. Answers the output, unless nothing was read, and the exit
+/// status:
+///
+/// - 0 after the job, even if lines were refused, and after help;
+/// - 1 after a fault;
+/// - 2 if the arguments are refused.
+///
+/// Arguments that are accepted name the job that is done. If there is no memory to read them, only that is printed.
 pub fn program<
     R: Threads + Wait + Clock + Files<File = File> + Sync,
     I: Read + Drop,
@@ -43,7 +48,7 @@ pub fn program<
     }
 }
 
-// Does what the words ask for.
+// Does the job that the arguments name.
 fn do_job<
     R: Threads + Wait + Clock + Files<File = File> + Sync,
     I: Read + Drop,
@@ -73,7 +78,7 @@ fn do_job<
     }
 }
 
-// Help goes to standard output with status 0, any other answer of `clap` to standard error with status 2.
+// Writes help to standard output with status 0, and any other answer of `clap` to standard error with status 2.
 fn write_answer<O: Write + Drop, E: Write>(
     error: &clap::Error,
     mut out: O,

@@ -18,8 +18,8 @@ use std::alloc::Global;
 use std::io::{BufReader, BufWriter, Read, Write};
 use std::sync::Wait;
 
-/// Reads the lines of the input, and writes the tables that they ask for, then what was counted, and a fault if there
-/// is one. Hands the output back, after all that was read.
+/// Reads the lines of the input, and writes the tables that they ask for. Then prints what was counted, and a fault if
+/// there is one. Answers the output, unless nothing was read.
 pub fn replay_input<R: Wait, I: Read + Drop, O: Write + Drop, E: Write>(
     rt: &R,
     alloc: Global,
@@ -51,7 +51,7 @@ pub fn replay_input<R: Wait, I: Read + Drop, O: Write + Drop, E: Write>(
     }
 }
 
-// The output of a replay out of its buffer.
+// Takes the output out of its buffer, and drops what is left there after a failed write.
 fn take_out<O: Write + Drop>(out: BufWriter<O>, answer: &Result<Tally, ReplayFault>) -> Written<O>
     ensures { GivesBack (writer_contents O.contents out) (O.contents result.out) result.has_failed }
 {
@@ -61,7 +61,7 @@ fn take_out<O: Write + Drop>(out: BufWriter<O>, answer: &Result<Tally, ReplayFau
     }
 }
 
-// Writes what was counted, and a fault if there is one: that of the answer, or else that of the output. Answers the
+// Prints what was counted, and a fault if there is one: that of the answer, or else that of the output. Answers the
 // status.
 fn tell_end<E: Write>(
     err: &mut StandardError<E>,

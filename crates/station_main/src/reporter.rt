@@ -1,4 +1,4 @@
-//! The reporter: the table of its own seat's looks, now and then.
+//! The reporter, which prints the table as its own seat sees it.
 ghost use Rattle.std.specs.Prelude.{◌≡◌, ℕ, List};
 ghost use Rattle.std.specs.Io.KnownBytes.{Appends};
 ghost use Rattle.station_main.specs.Output.{sink_of};
@@ -15,7 +15,7 @@ use std::sync::Wait;
 use std::thread::Promise;
 use std::time::{Clock, Instant};
 
-/// What a reporter hands back.
+/// What a reporter leaves.
 #[derive(Drop)]
 pub struct Reported<S, O> {
     pub seat: S,
@@ -24,7 +24,7 @@ pub struct Reported<S, O> {
     pub has_failed: bool,
 }
 
-/// What a reporter is given. Its promise is that it reports from there.
+/// What a reporter starts from. Its promise is that it reports from there.
 #[derive(Drop)]
 pub struct Given<S, O> {
     pub pace: Pace,
@@ -41,9 +41,9 @@ impl<const N: usize, L: StationName, S: Sink> Promise<Reported<Seat<N, L>, S>>
         (sink_of S.taken S.failures given.out.value) (sink_of S.taken S.failures reported.out) reported.has_failed };
 }
 
-/// Ticks and prints the table each time that the pace's milliseconds more have passed, until all receivers have ended or
-/// a write failed. Moments are milliseconds since the start. The seat comes back, and the sink has taken the tables of
-/// its looks and nothing else.
+/// Ticks and prints the table each time that the pace's interval has passed, in milliseconds since `start`. Ends when
+/// all receivers have ended or a write failed. Answers the seat, and the sink, which has taken the tables of its looks
+/// and nothing else.
 pub fn report<const N: usize, L: StationName, R: Wait + Clock, S: Sink>(
     rt: &R,
     station: &Station<N, L>,
@@ -60,7 +60,7 @@ pub fn report<const N: usize, L: StationName, R: Wait + Clock, S: Sink>(
     report_at(rt, station, ended, pace, seat, out, &mut moments)
 }
 
-// The same at the moments of any clock: a table at each of them that is due, and at no other.
+// `report` by any clock: a table at each of its times at which one is due, and at no other.
 fn report_at<const N: usize, L: StationName, R: Wait + Clock, S: Sink, M: Moments>(
     rt: &R,
     station: &Station<N, L>,
@@ -112,8 +112,8 @@ pub fn print_table<const N: usize, L: StationName, S: Sink>(
     }
 }
 
-// Writes the table of a look, ends the look, and then flushes: output that waits keeps nobody from the table, where
-// its buffer has room for one.
+// Writes the table of a look, ends the look, and then flushes. If the buffer has room for a table, output that waits
+// blocks no receiver.
 fn write_table<const N: usize, L: StationName, S: Sink>(
     look: Look<N, L>,
     out: &mut S,

@@ -29,24 +29,26 @@ use std::sync::ledger::Blank;
 use std::thread::Threads;
 use std::time::{Clock, Instant};
 
-/// What a round needs beside its station.
+/// What a round needs besides its station.
 #[derive(Drop)]
 pub struct Plan<O: Write + Drop> {
-    /// The start of the program, where its clock could be read.
+    /// The start of the program, if the clock could be read.
     pub start: Option<Instant>,
     /// Milliseconds from one table to the next.
     pub every: u32,
+    /// What the round goes on from.
     pub kept: Kept,
     /// At most 8.
     pub inputs: Vec<Input>,
     pub out: Output<O>,
 }
 
-/// How a round ends that others are to follow.
+/// How a round ends that is not the last.
 #[derive(Drop)]
 pub enum Round<O> {
-    /// The run is over, for a fault.
+    /// A fault was printed, and ends the run.
     Over(Ran<O>),
+    /// Another round follows.
     GoesOn { out: O, kept: Kept },
 }
 
@@ -58,7 +60,7 @@ struct Worked<L: StationName, O> {
     written: Written<O>,
 }
 
-/// A round that others follow. It hands on what is recent, unless a fault was told.
+/// Runs a round that is not the last. It hands on the recent entries, unless a fault was printed.
 pub fn run_round<
     L: StationName + Send + Sync,
     R: Threads + Wait + Clock + Sync,
@@ -92,7 +94,7 @@ pub fn run_round<
     }
 }
 
-/// The round that no other follows.
+/// Runs the last round.
 pub fn run_last<
     L: StationName + Send + Sync,
     R: Threads + Wait + Clock + Sync,
@@ -128,7 +130,7 @@ pub fn run_last<
     }
 }
 
-// The work of a station's seats, and the last table.
+// Starts a station, runs its threads to their ends, and prints the last table.
 fn work<L: StationName + Send + Sync, R: Threads + Wait + Clock + Sync, O: Write + Send + Drop>(
     rt: &R,
     alloc: Global,

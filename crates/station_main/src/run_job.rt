@@ -27,21 +27,25 @@ use std::sync::ledger::Blank;
 use std::thread::Threads;
 use std::time::{Clock, Instant};
 
-/// What is asked of a run.
+/// The options of a run.
 #[derive(Clone, Copy)]
 pub struct Asked<'a> {
     /// Milliseconds from one table to the next, 1 to 3,600,000.
     pub every: u32,
     /// 1 to 1,000.
     pub rounds: u16,
-    /// 1 to 8.
+    /// 1 to 8 files or pipes.
     pub paths: &'a Vec<String>,
 }
 
-/// Runs so many rounds, each of which reads each path by a receiver of its own, prints the table of them all each time
-/// that `every` milliseconds more have passed, and once more when all have ended, and then tells what each receiver
-/// counted, with a fault directly after it, and at last a fault of writing. Each round goes on from the last 70,000 ms of
-/// the one before. A fault ends the run after its round. Hands the output back, unless nothing was read in the last round.
+/// Runs the rounds. Each round
+///
+/// - reads each path by a receiver of its own;
+/// - prints the table of them all every `every` milliseconds, and once when all have ended;
+/// - prints what each receiver counted, with its fault directly after it, and at last a failed write.
+///
+/// Each round goes on from the last 70,000 ms of the one before. A fault ends the run after its round. Answers the
+/// output, unless nothing was read in the last round.
 pub fn run_paths<
     R: Threads + Wait + Clock + Files<File = File> + Sync,
     O: Write + Send + Drop,
@@ -74,7 +78,7 @@ pub fn run_paths<
     last_round(rt, alloc, asked, start, kept, out, err)
 }
 
-// A round that others follow.
+// Runs a round that is not the last.
 fn one_round<
     R: Threads + Wait + Clock + Files<File = File> + Sync,
     O: Write + Send + Drop,
@@ -102,7 +106,7 @@ fn one_round<
     }
 }
 
-// The round that no other follows.
+// Runs the last round.
 fn last_round<
     R: Threads + Wait + Clock + Files<File = File> + Sync,
     O: Write + Send + Drop,
@@ -132,7 +136,7 @@ fn last_round<
     }
 }
 
-// All that a round wants before its station: its inputs, a buffer for its output, and a place for the reporter, which
+// Makes what a round needs before its station: its inputs, a buffer for its output, and a place for the reporter, which
 // alone looks.
 fn prepare<'a, R: Wait + Files<File = File>, O: Write + Drop>(
     rt: &R,
@@ -169,7 +173,7 @@ fn prepare<'a, R: Wait + Files<File = File>, O: Write + Drop>(
     Ok((plan, places))
 }
 
-// Opens the paths in order, up to the first that can't be.
+// Opens the paths in order, up to the first that can't be opened.
 fn open_all<'a, R: Files<File = File>>(
     rt: &R,
     alloc: Global,
@@ -188,7 +192,7 @@ fn open_all<'a, R: Files<File = File>>(
     Ok(inputs)
 }
 
-// Opens a path, with a buffer before it.
+// Opens a path, behind a buffer.
 fn open<'a, R: Files<File = File>>(rt: &R, alloc: Global, path: &'a str) -> Result<Input, Fault<'a>>
     ensures early { IfErr result IsEarly }
     ensures fault { IfErr result (λ fault. (fault ≡ Fault.NoMemory) ⊎ (fault ≡ Fault.CannotOpen path.entry)) }

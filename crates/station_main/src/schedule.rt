@@ -1,4 +1,4 @@
-//! When the reporter acts. Moments are milliseconds since the start of the program.
+//! When the reporter acts, in milliseconds since the start of the program.
 ghost use Rattle.std.specs.Prelude.{◌≡◌, ◌-◌, ◌^◌, ◌/◌, ℕ, List, [], ◌∷◌, Option, None, min};
 ghost use Rattle.std.specs.Duration.{as_nanos};
 ghost use Rattle.std.specs.Io.KnownBytes.{Appends};
@@ -9,9 +9,9 @@ use std::time::{Clock, Duration, Instant};
 /// The pace of a reporter, in milliseconds.
 #[derive(Clone, Copy, Debug, PartialEq, Eq)]
 pub struct Pace {
-    /// From one table to the next.
+    /// The interval from one table to the next.
     pub every: u32,
-    /// The moment of the last tick before, from which the first table is due so much later.
+    /// The time of the last tick before. The first table is due one interval later.
     pub last: u64,
 }
 
@@ -27,22 +27,22 @@ impl Pace {
 // The longest sleep, in milliseconds.
 const LONGEST_SLEEP: u64 = 50;
 
-/// What the reporter does at a moment.
+/// What the reporter does at one time.
 #[derive(Clone, Copy, Debug, PartialEq, Eq)]
 pub enum Act {
     /// Sleep, since no table is due yet.
     Sleep(Duration),
     /// Tick and print the table.
     Print {
-        /// The moment of the tick.
+        /// The time of the tick.
         at: u64,
         /// When the next table is due.
         next_due: u64,
     },
 }
 
-/// What the reporter does now. Before a table is due it sleeps up to then, but at most 50 ms. From then on it prints one at
-/// this moment, and the next is due `every` milliseconds later, up to 2^64 - 1.
+/// What the reporter does at `now` if a table is due at `due`, both in milliseconds. Before that it sleeps up to `due`,
+/// but at most 50 ms. From then on it prints a table, and the next is due at `now + every`, at most 2^64 - 1.
 pub fn act_at(now: u64, due: u64, every: u32) -> Act
     ensures { IsActAt every due now result }
 {
@@ -56,17 +56,17 @@ pub fn act_at(now: u64, due: u64, every: u32) -> Act
     }
 }
 
-/// A clock that gives moments.
+/// A clock, in milliseconds.
 pub trait Moments {
-    /// The moments given so far, where they are known.
+    /// The times given so far, if they are known.
     ghost given: { Self → Option (List ℕ) };
 
-    /// The moment now.
+    /// The time now.
     fn now(&mut self) -> u64
         ensures { Appends (given self.old) (given self.new) (result ∷ []) };
 }
 
-/// The moments since a start, or none but 0 where the clock couldn't be read then.
+/// The time since a start. It stays 0 if the clock couldn't be read at the start.
 #[derive(Drop)]
 pub struct Since<'a, R> {
     pub rt: &'a R,
@@ -76,7 +76,7 @@ pub struct Since<'a, R> {
 impl<R: Clock> Moments for Since<'_, R> {
     ghost given = { λ _. None };
 
-    // A clock that can't be read counts as one that stands at the start.
+    // A clock that can't be read counts as one that still shows the start.
     fn now(&mut self) -> u64 {
         match self.start.map(|start| start.elapsed(self.rt)) {
             Some(Ok(passed)) => milliseconds(passed),

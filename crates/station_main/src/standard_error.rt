@@ -5,7 +5,7 @@ ghost use Rattle.station_main.specs.Telling.{Tells, told_of};
 use std::fmt::Display;
 use std::io::Write;
 
-/// A writer of lines, which knows whether a write failed. A failed write of standard error is no fault of a job.
+/// A writer of lines that remembers whether a write failed. A failed write of standard error is no fault of a job.
 #[derive(Drop)]
 pub struct StandardError<E> {
     inner: E,
@@ -13,7 +13,7 @@ pub struct StandardError<E> {
 }
 
 impl<E: Write> StandardError<E> {
-    /// Lines to this writer, of which none failed yet.
+    /// A writer of lines to `inner`, without a failed write.
     pub fn new(inner: E) -> Self
         ensures inner { result.inner ≡ inner }
         ensures failed { result.has_failed ≡ false }
@@ -24,7 +24,7 @@ impl<E: Write> StandardError<E> {
         }
     }
 
-    /// Writes this text, which has its own line feeds.
+    /// Writes a text that has its own line feeds.
     pub fn text<D: Display + Drop>(&mut self, text: D)
         ensures { IfSome (D.output text) (λ bytes.
             Tells (told_of E.contents self.old) (told_of E.contents self.new) bytes) }
@@ -34,7 +34,7 @@ impl<E: Write> StandardError<E> {
         }
     }
 
-    /// Writes a line of this text.
+    /// Writes a text and a line feed.
     pub fn line<D: Display + Drop>(&mut self, text: D)
         ensures { IfSome (D.output text) (λ bytes.
             Tells (told_of E.contents self.old) (told_of E.contents self.new) (bytes ++ 10 ∷ [])) }

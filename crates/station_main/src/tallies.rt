@@ -1,4 +1,4 @@
-//! What a round of the job `run` tells at its end.
+//! What a round of the job `run` prints at its end.
 ghost use Rattle.std.specs.Prelude.{◌≡◌, ◌≤◌, ◌++◌, All, fold, is_some, max, true};
 ghost use Rattle.std.specs.List.{flat_map};
 ghost use Rattle.station_main.specs.Status.{answer_status, fault_status, status_of};
@@ -10,7 +10,8 @@ use crate::threads::Receiver;
 use station_shared::{PumpFault, StationName, Tally};
 use std::io::Write;
 
-/// Tells what each receiver counted, with a fault directly after it, and at last a fault of writing. Answers the status.
+/// Prints what each receiver counted, with its fault directly after it, and at last a failed write. Answers the status,
+/// 0 or 1.
 pub fn tell_end<L: StationName, E: Write>(
     err: &mut StandardError<E>,
     receivers: &Vec<Receiver<L>>,
@@ -30,7 +31,7 @@ pub fn tell_end<L: StationName, E: Write>(
     status
 }
 
-// Tells what each receiver counted, and a fault directly after it. Answers the status.
+// Prints what each receiver counted, with its fault directly after it. Answers the status.
 fn tell_answers<L: StationName, E: Write>(
     err: &mut StandardError<E>,
     receivers: &Vec<Receiver<L>>,

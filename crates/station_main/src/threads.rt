@@ -19,16 +19,19 @@ use std::thread;
 use std::thread::Threads;
 use std::time::{Clock, Instant};
 
+/// A path that a receiver reads.
 pub type Input = FromBuffer<File>;
 
+/// The output of a run, in its buffer.
 pub type Output<O> = ToWrite<BufWriter<O>>;
 
+/// A receiver: its seat, its input and, once it has ended, its answer.
 pub type Receiver<L> = Worker<AIRCRAFT, Input, L>;
 
 type Ended<L, O> = Reported<Seat<AIRCRAFT, L>, Output<O>>;
 
-/// The receivers and the reporter, each in a thread of its own, to their ends. `None` where the reporter's thread can't
-/// be started: then nothing is read.
+/// Runs the receivers and the reporter to their ends, each in a thread of its own. Answers `None` if the reporter's
+/// thread can't be started, and then nothing is read.
 pub fn run_threads<
     L: StationName + Send + Sync,
     R: Threads + Wait + Clock + Sync,
@@ -80,7 +83,7 @@ pub fn run_threads<
     )
 }
 
-/// Prints the last table, unless a write failed, and takes the output out of its buffer.
+/// Prints the last table, unless a write failed before, and takes the output out of its buffer.
 pub fn print_last<L: StationName, O: Write + Drop>(
     reported: Ended<L, O>,
 ) -> (Seat<AIRCRAFT, L>, Written<O>)

@@ -1,4 +1,4 @@
-//! The words of the command line.
+//! The command line.
 ghost use Rattle.clap.specs.Words.{found_of, rows_of, takes};
 ghost use Rattle.station_main.specs.Command.{GivesJob, IsArg, IsGiven, IsInRange, IsMade, NamesJob, every, path, replay, rounds, run, station};
 ghost use Rattle.station_main.specs.declared.words.WordsFault.TheVariants.{NoMemory};
@@ -9,16 +9,18 @@ use clap::error::ErrorKind;
 use clap::{Arg, ArgAction, ArgMatches, Command, value_parser};
 use std::alloc::{AllocError, Global};
 
-/// What the words ask for.
+/// What the arguments ask for.
 #[derive(Debug, Drop)]
 pub enum Job {
     /// Read standard input, and write the tables that its lines ask for.
     Replay,
-    /// Read 1 to 8 paths, each by a receiver of its own, and write a table each `every` milliseconds (1 to
-    /// 3,600,000), in `rounds` rounds (1 to 1,000).
+    /// Read the paths, each by a receiver of its own, and write a table at an interval.
     Run {
+        /// Milliseconds from one table to the next, 1 to 3,600,000.
         every: u32,
+        /// How often the paths are read, 1 to 1,000.
         rounds: u16,
+        /// 1 to 8.
         paths: Vec<String>,
     },
 }
@@ -26,9 +28,9 @@ pub enum Job {
 /// Why there is no job.
 #[derive(Debug, Drop)]
 pub enum WordsFault {
-    /// A growth was refused.
+    /// An allocation was refused.
     NoMemory,
-    /// `clap` answers in place of a job: the words aren't those of a job, or they ask for help.
+    /// The answer of `clap`: the arguments are refused, or they ask for help.
     Clap(clap::Error),
 }
 
@@ -84,6 +86,8 @@ const AFTER_REPLAY_HELP: &str = concat!(
     "\n",
     "Without + lines nothing ages. At the end of the input a line of counts goes to\n",
     "standard error. For live receivers there is 'groundstation run'.\n",
+    "There is room for 16777216 accepted frames and + lines. When it is full, all\n",
+    "that comes is refused, and 'now' stands still.\n",
     "Formats: docs/FORMATS.md.",
 );
 
@@ -102,12 +106,13 @@ const AFTER_RUN_HELP: &str = concat!(
     "so: above 10000 positions may be wrong, above 60000 no aircraft is shown.\n",
     "When every path has ended, the last table is written, and a line of counts for\n",
     "each path goes to standard error.\n",
+    "A round has room for 16777216 accepted frames and ticks. When it is full, all\n",
+    "that comes is refused, and 'now' stands still.\n",
     "Formats: docs/FORMATS.md. Receivers that drop: README.md.",
 );
 
-/// Reads the words of a command line, of which the first is the program's name: the subcommand, and for `run` the
-/// values of `--every`, `--rounds` and PATH, as `clap` reads them. Words that the command line takes are refused for want of
-/// memory alone.
+/// Reads a command line, which begins with the program's name, by `clap`: the subcommand, and for `run` the values of
+/// `--every`, `--rounds` and PATH. Arguments that `clap` accepts are refused only if out of memory.
 pub fn read_words<'a>(alloc: Global, words: &'a [&'a str]) -> Result<Job, WordsFault>
     ensures job { IfOk result (NamesJob (map (λ w. w.now) words.entry.now)) }
     ensures range { IfOk result IsInRange }

@@ -1,4 +1,4 @@
-//! How a round ends: what was counted is told, and what is recent is kept or the station given up.
+//! How a round ends: it prints what was counted, and keeps the recent entries or drops them.
 ghost use Rattle.std.specs.Prelude.{◌≡◌, ◌≤◌, ◌∷◌, ℕ, List, Option, All, IfErr, IfOk, is_some, length, option_map, true};
 ghost use Rattle.station_shared.specs.Seats.{Seated, newcomer};
 ghost use Rattle.station_main.specs.Rounds.{Asked, EndsRound, Given, GoesOnFrom, IsBetween, KeepsRecent, IsLast, given_of};
@@ -19,7 +19,7 @@ use std::alloc::Global;
 use std::io::Write;
 use std::sync::Wait;
 
-// Tells what was counted, and gives the station up.
+// Prints what was counted, and takes the station apart.
 pub(super) fn finish<L: StationName, R: Wait, O: Write + Drop, E: Write>(
     rt: &R,
     worked: Worked<L, O>,
@@ -47,7 +47,7 @@ pub(super) fn finish<L: StationName, R: Wait, O: Write + Drop, E: Write>(
     }
 }
 
-// Tells what was counted, and keeps what is recent, unless a fault was told.
+// Prints what was counted, and keeps the recent entries unless a fault was printed.
 pub(super) fn hand_on<L: StationName, R: Wait, O: Write + Drop, E: Write>(
     rt: &R,
     alloc: Global,
@@ -84,7 +84,7 @@ pub(super) fn hand_on<L: StationName, R: Wait, O: Write + Drop, E: Write>(
     }
 }
 
-// Closes the station, and keeps what is recent of its journal.
+// Closes the station, and keeps the recent entries of its journal.
 fn keep<L: StationName, R: Wait>(
     rt: &R,
     alloc: Global,
@@ -111,7 +111,7 @@ fn keep<L: StationName, R: Wait>(
     }
 }
 
-// The reporter's seat, and those of the receivers.
+// All seats of a station: the reporter's, and those of the receivers.
 fn seats_of<L: StationName>(
     alloc: Global,
     reporter: Seat<AIRCRAFT, L>,

@@ -1,4 +1,4 @@
-//! How a round begins: its station, a receiver of each path, and the reporter's seat.
+//! How a round begins: its station, a receiver for each path, and the reporter's seat.
 ghost use Rattle.std.specs.Prelude.{◌≡◌, ◌+◌, ◌≤◌, IfOk, length, map, reverse};
 ghost use Rattle.station_journal.specs.Resume.{IsSound};
 ghost use Rattle.station_desk.specs.History.{base_of};
@@ -14,7 +14,7 @@ use std::alloc::{AllocError, Global};
 use std::sync::Wait;
 use std::sync::ledger::Blank;
 
-// The station that goes on from what is kept, a receiver of each input, and the reporter's seat.
+// Makes the station that goes on from the kept entries, a receiver for each input, and the reporter's seat.
 pub(super) fn begin<L: StationName, R: Wait>(
     rt: &R,
     alloc: Global,
@@ -61,7 +61,7 @@ pub(super) fn begin<L: StationName, R: Wait>(
     }
 }
 
-// A receiver of each input, with a seat of its own.
+// Makes a receiver for each input, with a seat of its own.
 fn receivers<L: StationName>(
     alloc: Global,
     seats: Vec<Seat<AIRCRAFT, L>>,

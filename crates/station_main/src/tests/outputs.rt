@@ -171,7 +171,7 @@ impl<'a> Write for Pieces<'a> {
     }
 }
 
-// The first line has 37 bytes before its LF where the moment has 20 digits, the header and each row have 73.
+// The first line has 37 bytes before its LF if its time has 20 digits, the header and each row have 73.
 #[test]
 fn a_full_table_is_written_at_once(rt: HostRuntime) -> Result<(), Fail> {
     let moments = [0, 18_446_744_073_709_551_000];

@@ -161,8 +161,8 @@ fn each_tally_of_eight_paths_is_its_own(rt: HostRuntime) -> io::Result<()> {
     fs::remove_dir_all(&rt, &folder)
 }
 
-// Takes tables. The last one of a round opens the path once more for lines, and the next one ends it. Each lets the
-// clock go on: up to the second round's tick, past it, and up to the third round's.
+// Takes tables. The last one of a round opens the path again for lines, and the next one ends it. Each lets the clock
+// go on: up to the second round's tick, past it, and up to the third round's.
 #[derive(Drop)]
 struct Turning<'a, R> {
     staged: &'a Staged<'a, R>,
@@ -194,8 +194,8 @@ impl<'a, R: Clock + Files<File = File>> Write for Turning<'a, R> {
     }
 }
 
-// A frame comes in the first round, whose clock stands. The second round ticks at 5,000 ms and ends at 7,000 ms. The
-// third doesn't tick at 9,999 ms, and does at 10,000 ms.
+// A frame comes in the first round, while the clock is stopped. The second round ticks at 5,000 ms and ends at 7,000 ms.
+// The third doesn't tick at 9,999 ms, and does at 10,000 ms.
 const MOMENTS: [u64; 7] = [
     1_000_000, 1_000_050, 1_004_999, 1_005_000, 1_007_000, 1_009_999, 1_010_000,
 ];

@@ -186,7 +186,7 @@ const FAILED_READ_AND_FRAME: &str = concat!(
     "lines 1 frames 1 ticks 0 shows 0 blank 0 modeac 0 faults 0 accepted 1 refused 0\n",
 );
 
-// A frame of both paths is accepted from the one that hands it in first. The last path is a folder, which can't be read.
+// A frame of both paths is accepted from either of them. The folder can't be read.
 #[test]
 fn tallies_stand_in_the_order_of_the_paths(rt: HostRuntime) -> io::Result<()> {
     for (first, second, table, told, status) in [

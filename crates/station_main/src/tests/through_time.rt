@@ -22,8 +22,8 @@ const TABLES_OF_NOBODY: &str = concat!(
     "  ADDR CALLSIGN    ALT SQWK     VELOCITY   VERT        LAT        LON AGE\n",
 );
 
-// The clock starts at 1,000,000 ms. It shows the millisecond before each table is due and the one when it is, and skips a
-// minute at once. The last table comes at the end of the path.
+// The clock starts at 1,000,000 ms. It shows the millisecond before each table is due and the one when it is, and skips
+// a minute at once. The last table comes at the end of the path.
 #[test]
 fn a_table_is_printed_when_it_is_due_and_at_the_end(rt: HostRuntime) -> Result<(), Fail> {
     let moments = [

@@ -115,21 +115,25 @@ const RUN_HELP: &str = concat!(
 
 const REPLAY_HELP: &str = "Reads standard input, and writes the table at each line that is ?\n\n";
 
-// The text of each begins and ends so. An empty end stands for nothing more.
+const REPLAY_HELP_END: &str = concat!(
+    "\nThere is room for 16777216 accepted frames and + lines. When it is full, all\n",
+    "that comes is refused, and 'now' stands still.\n",
+    "Formats: docs/FORMATS.md.\n",
+);
+
+const RUN_HELP_END: &str = concat!(
+    "\nA round has room for 16777216 accepted frames and ticks. When it is full, all\n",
+    "that comes is refused, and 'now' stands still.\n",
+    "Formats: docs/FORMATS.md. Receivers that drop: README.md.\n",
+);
+
+// How the text of each begins and ends. An empty end says that nothing follows.
 #[test]
 fn help_is_written_to_standard_output(rt: HostRuntime) -> Result<(), AllocError> {
     for (line, front, end) in [
         ("groundstation --help", HELP, ""),
-        (
-            "groundstation run --help",
-            RUN_HELP,
-            "\nFormats: docs/FORMATS.md. Receivers that drop: README.md.\n",
-        ),
-        (
-            "groundstation replay -h",
-            REPLAY_HELP,
-            "\nFormats: docs/FORMATS.md.\n",
-        ),
+        ("groundstation run --help", RUN_HELP, RUN_HELP_END),
+        ("groundstation replay -h", REPLAY_HELP, REPLAY_HELP_END),
     ] {
         let words = words_of(rt.alloc(), line, [].as_slice())?;
         let help = run_words(&rt, words.as_slice(), NO_LINES);

@@ -2,7 +2,7 @@ use Rattle.std.specs.Prelude.{◌+◌, length}
 use Rattle.station_main.specs.Limits.{program_limits}
 use Rattle.station_main.proofs.run_job.last_round.Given as goal
 
--- a station with a seat for each input and one for the reporter, under the limits of the program, that goes on from the plan's entries
+-- a station under the program's limits that goes on from the plan's entries, with a seat for each input and the reporter
 abbrev pub ghosts-run_last-L-StationName : goal.ghosts-run_last-L-StationName
 ghosts-run_last-L-StationName g a = record {
   seats = length a.plan.inputs.items + 1;

@@ -5,7 +5,7 @@ use Rattle.station_main.specs.Rounds.{Asked, Runs, given_of, nothing}
 use Rattle.station_main.specs.Telling.{Told, told_of}
 use Rattle.station_main.proofs.run_job.run_paths.Given as goal
 
--- whatever the rounds leave that are still to come, all rounds leave
+-- all rounds leave what the rounds to come leave
 abbrev pub invariant-loop-more : goal.invariant-loop-more
 invariant-loop-more g l =
     let asked : Asked = record { every = l.asked.every; inputs = length l.asked.paths.now.items } in
