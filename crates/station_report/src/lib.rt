@@ -8,7 +8,7 @@ mod sinks;
 mod to_write;
 
 pub use lines::table;
-pub use sinks::{Failed, Sink, WriteFault, flush_after};
+pub use sinks::{Failed, Sink, WriteFault, flush_after, write_all};
 pub use to_write::ToWrite;
 
 #[cfg(test)]

@@ -34,8 +34,8 @@ pub trait Sink {
         ensures failures { failures self.new ≡ counted (is_ok result) (failures self.old) };
 }
 
-/// Writes a whole piece. Stops at the first failure.
-pub(crate) fn write_all<S: Sink>(out: &mut S, piece: &[u8]) -> Result<(), WriteFault>
+/// Writes a whole piece, and stops at the first failure. The sink has then taken a front of the piece.
+pub fn write_all<S: Sink>(out: &mut S, piece: &[u8]) -> Result<(), WriteFault>
     ensures { TakesAll (S.taken out.old) (S.taken out.new) (S.failures out.old) (S.failures out.new) piece.now result }
 {
     let mut at = 0;
