@@ -69,7 +69,7 @@ const AFTER_HELP: &str = concat!(
     "  groundstation run --every 1000 <(nc 127.0.0.1 30002 < /dev/null)\n",
     "\n",
     "'groundstation help run' says more of that word. The formats of lines and tables\n",
-    "are in docs/FORMATS.md; columns, counts and faults in README.md.",
+    "are in docs/FORMATS.md; columns, counts and faults in docs/USING.md.",
 );
 
 const AFTER_REPLAY_HELP: &str = concat!(
@@ -108,7 +108,7 @@ const AFTER_RUN_HELP: &str = concat!(
     "each path goes to standard error.\n",
     "A round has room for 16777216 accepted frames and ticks. When it is full, all\n",
     "that comes is refused, and 'now' stands still.\n",
-    "Formats: docs/FORMATS.md. Receivers that drop: README.md.",
+    "Formats: docs/FORMATS.md. Receivers that drop: docs/USING.md.",
 );
 
 /// Reads a command line, which begins with the program's name, by `clap`: the subcommand, and for `run` the values of

@@ -98,7 +98,7 @@ const HELP: &str = concat!(
     "  groundstation replay < examples/klm1023.avr\n",
     "  groundstation run --every 1000 <(nc 127.0.0.1 30002 < /dev/null)\n\n",
     "'groundstation help run' says more of that word. The formats of lines and tables\n",
-    "are in docs/FORMATS.md; columns, counts and faults in README.md.\n",
+    "are in docs/FORMATS.md; columns, counts and faults in docs/USING.md.\n",
 );
 
 const RUN_HELP: &str = concat!(
@@ -124,7 +124,7 @@ const REPLAY_HELP_END: &str = concat!(
 const RUN_HELP_END: &str = concat!(
     "\nA round has room for 16777216 accepted frames and ticks. When it is full, all\n",
     "that comes is refused, and 'now' stands still.\n",
-    "Formats: docs/FORMATS.md. Receivers that drop: README.md.\n",
+    "Formats: docs/FORMATS.md. Receivers that drop: docs/USING.md.\n",
 );
 
 // How the text of each begins and ends. An empty end says that nothing follows.
