@@ -46,7 +46,9 @@ impl Rows for One {
     }
 }
 
-fn identified(heard: u64) -> Aircraft {
+fn identified(heard: u64) -> Aircraft
+    ensures { IsPrintableRow heard result }
+{
     Aircraft {
         callsign: callsign(0x2CC371C32CE0),
         heard,

@@ -1,6 +1,6 @@
 //! Sinks and writers that fail.
 
-use super::{HEADER, One, identified, is_printable};
+use super::{HEADER, One, identified};
 use crate::{Failed, Sink, ToWrite, WriteFault, flush_after, table};
 use std::io;
 use std::io::{ErrorKind, Write};
@@ -57,12 +57,10 @@ fn a_flush_that_fails_is_reported(rt: HostRuntime) {
 fn a_writer_without_room_for_the_last_byte_has_failed(rt: HostRuntime) -> Result<(), Fail> {
     let line = "4840D6 KLM1023       -    -            -      -          -          -   0\n";
     let text = format!(in rt.alloc(); "now 0 aircraft 1\n{HEADER}{line}")?;
-    let aircraft = identified(0);
-    assert!(rt; is_printable(0, aircraft));
     for (room, outcome) in [(164, Err(WriteFault)), (165, Ok(()))] {
         let mut bytes = [0u8; 165];
         let mut sink = ToWrite::new(&mut bytes[..room]);
-        assert_eq!(rt; table(&One(aircraft), 0, &mut sink), outcome, "{room}");
+        assert_eq!(rt; table(&One(identified(0)), 0, &mut sink), outcome, "{room}");
         assert_eq!(rt; &bytes[..room], &text.as_bytes()[..room], "{room}");
     }
     Ok(())

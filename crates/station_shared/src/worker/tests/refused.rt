@@ -32,7 +32,9 @@ fn count_calls<const N: usize, L: StationName>(
     rt: &impl Abort,
     seats: &mut Vec<Seat<N, L>>,
     workers: Vec<Worker<N, FromRead<&'static [u8]>, L>>,
-) -> (u64, u64) {
+) -> (u64, u64)
+    requires { N ≤ most_aircraft }
+{
     let (mut accepted, mut refused) = (0u64, 0u64);
     for worker in workers {
         match worker.answer {
