@@ -12,7 +12,8 @@ use Rattle.station_journal.proofs.SoundLemmas.{sound_by_fits}
 use Rattle.station_journal.proofs.StandsLemmas.{length_sound, recent_stands, sound_from_legal}
 use Rattle.station_desk.specs.History.{base_of}
 use Rattle.station_desk.specs.Start.{Start}
-use Rattle.station_shared.specs.Seats.{Seated, newcomer}
+use Rattle.station_shared.specs.Seats.{Seated, newcomer, newcomers}
+use Rattle.station_shared.proofs.NewcomerLemmas.{newcomers_more}
 use Rattle.station_lines.specs.declared.pumping.PumpFault.{PumpFault}
 use Rattle.station_lines.specs.declared.tally.Tally.{Tally}
 use Rattle.station_desk.proofs.StartLemmas.{sound_at, sound_front}
@@ -57,6 +58,16 @@ snoc_front [] [] x y e = refl
 snoc_front [] (b ∷ ys) x y e = absurd (omega (arith, ap length e, length-append ys (y ∷ [])))
 snoc_front (a ∷ xs) [] x y e = absurd (omega (arith, ap length e, length-append xs (x ∷ [])))
 snoc_front (a ∷ xs) (b ∷ ys) x y e = let rest = snoc_front xs ys x y (cc (e)) in cc (e, rest)
+
+-- ---- the seats of a station: the last is the reporter's, those before it are the receivers'
+
+pub reporter_seat : (entries : List Entry) (count inputs : ℕ) (seats others : List Seated) (last : Seated) → seats ≡ others ++ last ∷ [] → seats ≡ newcomers entries (count + 1) → count ≡ inputs → last ≡ newcomer entries inputs
+reporter_seat entries count inputs seats others last split made many =
+    snoc_end others (newcomers entries count) last (newcomer entries count) (sym split ∙ made ∙ sym (newcomers_more entries count)) ∙ ap (λ n. newcomer entries n) many
+
+pub receiver_seats : (entries : List Entry) (count inputs : ℕ) (seats others : List Seated) (last : Seated) → seats ≡ others ++ last ∷ [] → seats ≡ newcomers entries (count + 1) → count ≡ inputs → others ≡ newcomers entries inputs
+receiver_seats entries count inputs seats others last split made many =
+    snoc_front others (newcomers entries count) last (newcomer entries count) (sym split ∙ made ∙ sym (newcomers_more entries count)) ∙ ap (λ n. newcomers entries n) many
 
 -- ---- rounds
 

@@ -1,8 +1,8 @@
 //! The job `run` in more rounds than one.
 use super::replies::all_call_replies;
 use super::run::{
-    IDENTIFICATION, ONE_FRAME_EACH, TABLE_OF_BOTH, TABLE_OF_SECOND, VELOCITY, new_folder,
-    path_text, remove, two_files,
+    FAILED_READ_AND_FRAME, IDENTIFICATION, ONE_FRAME_EACH, TABLE_OF_BOTH, TABLE_OF_SECOND,
+    VELOCITY, new_folder, path_text, remove, two_files,
 };
 use super::staged::{Staged, lasting_path};
 use super::{Closed, Told, run_line, text};
@@ -53,12 +53,7 @@ fn a_failed_read_ends_the_run_after_its_round(rt: HostRuntime) -> io::Result<()>
     let mut out = Vec::new(rt.alloc());
     let told = run_rounds(&rt, 2, paths.as_slice(), &mut out)?;
     assert_eq!(rt; text(&out), TABLE_OF_SECOND);
-    assert_eq!(rt;
-        text(&told.err),
-        "lines 0 frames 0 ticks 0 shows 0 blank 0 modeac 0 faults 0 accepted 0 refused 0\n\
-        groundstation: read failed\n\
-        lines 1 frames 1 ticks 0 shows 0 blank 0 modeac 0 faults 0 accepted 1 refused 0\n"
-    );
+    assert_eq!(rt; text(&told.err), FAILED_READ_AND_FRAME);
     assert_eq!(rt; told.status, 1);
     remove(&rt, &files)
 }

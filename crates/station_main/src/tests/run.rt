@@ -180,72 +180,79 @@ const FAULTS_AND_FRAME: &str = concat!(
     "lines 1 frames 1 ticks 0 shows 0 blank 0 modeac 0 faults 0 accepted 1 refused 0\n",
 );
 
-const FAILED_READ_AND_FRAME: &str = concat!(
+pub const FAILED_READ_AND_FRAME: &str = concat!(
     "lines 0 frames 0 ticks 0 shows 0 blank 0 modeac 0 faults 0 accepted 0 refused 0\n",
     "groundstation: read failed\n",
     "lines 1 frames 1 ticks 0 shows 0 blank 0 modeac 0 faults 0 accepted 1 refused 0\n",
 );
 
-// A frame of both paths is accepted from either of them. The folder can't be read.
+// The first file, or the folder, which can't be read.
+fn first_path(files: &TwoFiles, is_file: bool) -> &PathBuf {
+    if is_file { &files.first } else { &files.folder }
+}
+
+// A frame of both paths is accepted from either of them.
 #[test]
 fn tallies_stand_in_the_order_of_the_paths(rt: HostRuntime) -> io::Result<()> {
-    for (first, second, table, told, status) in [
+    for (first, second, table, told, or_told, status) in [
         (
             Some(IDENTIFICATION),
             IDENTIFICATION,
             TABLE_OF_FIRST,
-            [FIRST_ACCEPTED, SECOND_ACCEPTED],
+            FIRST_ACCEPTED,
+            SECOND_ACCEPTED,
             0,
         ),
         (
             Some("\nx\n?\n*0000;\n+5"),
             IDENTIFICATION,
             TABLE_OF_FIRST,
-            [FAULTS_AND_FRAME, FAULTS_AND_FRAME],
+            FAULTS_AND_FRAME,
+            FAULTS_AND_FRAME,
             0,
         ),
         (
             None,
             VELOCITY,
             TABLE_OF_SECOND,
-            [FAILED_READ_AND_FRAME, FAILED_READ_AND_FRAME],
+            FAILED_READ_AND_FRAME,
+            FAILED_READ_AND_FRAME,
             1,
         ),
     ] {
         let files = two_files(&rt, first.unwrap_or(""), second)?;
-        let path = if first.is_some() {
-            &files.first
-        } else {
-            &files.folder
-        };
-        let ran = run_two(&rt, path_text(path)?, path_text(&files.second)?);
+        let path = path_text(first_path(&files, first.is_some()))?;
+        let ran = run_two(&rt, path, path_text(&files.second)?);
         assert_eq!(rt; text(&ran.out), table);
-        assert!(rt; told.contains(&text(&ran.err)), "{second}");
+        let lines = text(&ran.err);
+        assert!(rt; lines == told || lines == or_told, "{lines}");
         assert_eq!(rt; ran.status, status);
         remove(&rt, &files)?;
     }
     Ok(())
 }
 
+// Whether a run over these paths ends with status 1 and says this alone.
+fn says_alone<R: Threads + Wait + Clock + Files<File = File> + Sync + AllocGlobal>(
+    rt: &R,
+    paths: &[&str],
+    told: &str,
+) -> Result<bool, AllocError> {
+    let mut out = Vec::new(rt.alloc());
+    let line = "groundstation run --every 3600000";
+    let ran = run_line(rt, rt.alloc(), line, paths, &mut out)?;
+    Ok(ran.status == 1 && out.is_empty() && text(&ran.err) == told)
+}
+
 #[test]
 fn where_a_path_cannot_be_opened_nothing_is_read(rt: HostRuntime) -> io::Result<()> {
     let files = two_files(&rt, IDENTIFICATION, VELOCITY)?;
-    for (paths, told) in [
-        (["nofile"].as_slice(), "groundstation: cannot open nofile\n"),
-        (
-            [path_text(&files.first)?, "nofile"].as_slice(),
-            "groundstation: cannot open nofile\n",
-        ),
-        (
-            ["no first file", "no second file"].as_slice(),
-            "groundstation: cannot open no first file\n",
-        ),
-    ] {
-        let mut out = Vec::new(rt.alloc());
-        let line = "groundstation run --every 3600000";
-        let absent = run_line(&rt, rt.alloc(), line, paths, &mut out)?;
-        assert!(rt; absent.status == 1 && out.is_empty());
-        assert_eq!(rt; text(&absent.err), told);
-    }
+    let first = path_text(&files.first)?;
+    let no_file = "groundstation: cannot open nofile\n";
+    let no_first_file = "groundstation: cannot open no first file\n";
+    assert!(rt; says_alone(&rt, ["nofile"].as_slice(), no_file)?);
+    assert!(rt; says_alone(&rt, [first, "nofile"].as_slice(), no_file)?);
+    let both = ["no first file", "no second file"];
+    assert!(rt; says_alone(&rt, both.as_slice(), no_first_file)?);
     remove(&rt, &files)
 }

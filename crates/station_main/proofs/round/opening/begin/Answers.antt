@@ -1,8 +1,6 @@
-use Rattle.std.proofs.Common.{◌≡◌, ◌+◌, ◌∙◌, ◌∷◌, [], ap, sym, arith, length, length-append}
-use Rattle.station_shared.specs.Seats.{newcomer, newcomers}
-use Rattle.station_shared.proofs.NewcomerLemmas.{newcomers_more}
+use Rattle.std.proofs.Common.{◌≡◌, ◌+◌, ◌∙◌, ◌∷◌, [], ap, arith, length, length-append}
 use Rattle.station_main.specs.Limits.{program_limits}
-use Rattle.station_main.proofs.RoundLemmas.{snoc_end, snoc_front, wants_memory}
+use Rattle.station_main.proofs.RoundLemmas.{receiver_seats, reporter_seat, wants_memory}
 use Rattle.station_main.proofs.RunJobLemmas.{length_newcomers}
 use Rattle.station_main.proofs.round.opening.begin.Goals as goal
 
@@ -19,14 +17,11 @@ receivers-requires g c =
 
 pub returns-in-Ok-receivers-clause-reporter : goal.returns-in-Ok-receivers-clause-reporter
 returns-in-Ok-receivers-clause-reporter g c =
-    let es = c.args.kept.recent.entries.items in
     let many : c.len.result ≡ length c.args.inputs.items = omega (arith, c.len.ensures) in
-    snoc_end c.pop.new.self.items (newcomers es c.len.result) c.in-Some.reporter (newcomer es c.len.result) (sym c.in-Some.ensures.items ∙ c.in-Ok.ensures.made ∙ sym (newcomers_more es c.len.result)) ∙ ap (λ n. newcomer es n) many
+    reporter_seat c.args.kept.recent.entries.items c.len.result (length c.args.inputs.items) _ c.pop.new.self.items c.in-Some.reporter c.in-Some.ensures.items c.in-Ok.ensures.made many
 
 pub returns-in-Ok-receivers-clause-seats : goal.returns-in-Ok-receivers-clause-seats
 returns-in-Ok-receivers-clause-seats g c =
-    let es = c.args.kept.recent.entries.items in
     let many : c.len.result ≡ length c.args.inputs.items = omega (arith, c.len.ensures) in
     c.in-Ok-receivers.ensures.seats
-    ∙ snoc_front c.pop.new.self.items (newcomers es c.len.result) c.in-Some.reporter (newcomer es c.len.result) (sym c.in-Some.ensures.items ∙ c.in-Ok.ensures.made ∙ sym (newcomers_more es c.len.result))
-    ∙ ap (λ n. newcomers es n) many
+    ∙ receiver_seats c.args.kept.recent.entries.items c.len.result (length c.args.inputs.items) _ c.pop.new.self.items c.in-Some.reporter c.in-Some.ensures.items c.in-Ok.ensures.made many
