@@ -14,6 +14,3 @@ pub use decoding::pair;
 pub use encoding::encode;
 pub use points::{Degrees, Position};
 pub use transitions::zones;
-
-#[cfg(test)]
-mod tests;

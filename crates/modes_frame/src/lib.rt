@@ -19,6 +19,3 @@ pub use frame::Frame;
 pub use line::{Line, LineFault, LineReader, read_line};
 pub use parity::remainder;
 pub use plain::PlainLine;
-
-#[cfg(test)]
-mod tests;

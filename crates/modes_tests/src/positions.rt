@@ -1,6 +1,6 @@
 //! Positions, zones and places with values from outside.
 
-use crate::{Degrees, encode, pair, zones};
+use modes_cpr::{Degrees, encode, pair, zones};
 use modes_fields::Place;
 
 fn place(odd: bool, bins: (u32, u32)) -> Place {

@@ -1,8 +1,8 @@
 //! Every single byte, and a known line with every byte in each place.
 ghost use Rattle.std.specs.Prelude.{◌<◌, ◌≤◌, IfSome};
 
-use crate::tests::known::{KLM1023, KLM1023_LINE};
-use crate::{Cutter, Frame, Line, LineFault, LineReader, PlainLine, read_line};
+use crate::known::{KLM1023, KLM1023_LINE};
+use modes_frame::{Cutter, Frame, Line, LineFault, LineReader, PlainLine, read_line};
 
 #[test]
 fn a_line_of_one_byte_is_blank_or_faulty(rt: HostRuntime) {

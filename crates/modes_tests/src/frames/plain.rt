@@ -1,6 +1,6 @@
 //! Plain lines, and what they are not.
-use crate::tests::known::{ALL_CALL, KLM1023, KLM1023_LINE};
-use crate::{Cut, Cutter, Frame, LineReader, PlainLine};
+use crate::known::{ALL_CALL, KLM1023, KLM1023_LINE};
+use modes_frame::{Cut, Cutter, Frame, LineReader, PlainLine};
 use std::test::Fail;
 
 #[test]

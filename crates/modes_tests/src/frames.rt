@@ -1,13 +1,10 @@
 //! Values from known lines and frames.
 mod bytes;
-mod known;
 mod plain;
 
-use crate::parity::parity_of_byte;
-use crate::parity_by_place::remainder_by_place;
-use crate::readers::claim;
-use crate::tests::known::{ALL_CALL, KLM1023};
-use crate::{
+use crate::known::{ALL_CALL, KLM1023, frame};
+use modes_frame::readers::claim;
+use modes_frame::{
     CheckFault, Claim, Cut, Cutter, Frame, Line, LineFault, LineReader, read_line, remainder,
 };
 use std::test::Fail;
@@ -90,40 +87,28 @@ fn bits_are_counted_in_the_order_in_which_they_are_sent(rt: HostRuntime) -> Resu
     Ok(())
 }
 
-fn frame(line: &str) -> Result<Frame, Fail> {
-    match read_line(line.as_bytes()) {
-        Ok(line) => Ok(frame_in(line).ok_or("no frame")?),
-        Err(_) => Err("no line".into()),
-    }
-}
-
-fn frame_in(line: Line) -> Option<Frame> {
-    match line {
-        Line::Frame(frame) => Some(frame),
-        Line::ModeAc | Line::Blank => None,
-    }
-}
-
 #[test]
 fn remainders_are_what_was_laid_over_the_parity(rt: HostRuntime) -> Result<(), Fail> {
-    for (line, want) in [
-        ("*8D4840D6202CC371C32CE0576098;", 0x00_0000),
-        ("*2A00516D492B80;", 0x51_0AF9),
-        ("*20000100DF6126;", 0x51_0AF9),
-        ("*5D484FDEA248E3;", 0x00_0000),
-        ("*5D484FDEA248F5;", 0x00_0016),
-        ("*000014B496B148;", 0x48_40D6),
-        ("*800014B4000000000000003EAE64;", 0x48_40D6),
+    for (line, want, address) in [
+        ("*8D4840D6202CC371C32CE0576098;", 0x00_0000, 0x48_40D6),
+        ("*2A00516D492B80;", 0x51_0AF9, 0x51_0AF9),
+        ("*20000100DF6126;", 0x51_0AF9, 0x51_0AF9),
+        ("*5D484FDEA248E3;", 0x00_0000, 0x48_4FDE),
+        ("*5D484FDEA248F5;", 0x00_0016, 0x48_4FDE),
+        ("*000014B496B148;", 0x48_40D6, 0x48_40D6),
+        ("*800014B4000000000000003EAE64;", 0x48_40D6, 0x48_40D6),
     ] {
         let frame = frame(line)?;
         assert_eq!(rt; remainder(&frame), want, "{line}");
-        assert_eq!(rt; remainder_by_place(&frame), want, "{line}");
+        let overlaid = want != 0;
+        assert_eq!(rt; claim(&frame), Ok(Claim { address, overlaid }), "{line}");
     }
     Ok(())
 }
 
+// The byte is the last before the parity, which is zero, in a reply whose address is its remainder.
 #[test]
-fn parities_of_single_bytes(rt: HostRuntime) {
+fn parities_of_single_bytes(rt: HostRuntime) -> Result<(), Fail> {
     for (byte, want) in [
         (0, 0x00_0000),
         (1, 0xFF_F409),
@@ -131,8 +116,16 @@ fn parities_of_single_bytes(rt: HostRuntime) {
         (3, 0xFF_E812),
         (128, 0x07_06C0),
     ] {
-        assert_eq!(rt; parity_of_byte(byte), want, "byte {byte}");
+        let frame = Frame::from_bytes(&[0, 0, 0, byte, 0, 0, 0]).ok_or("no frame")?;
+        assert_eq!(rt; remainder(&frame), want, "byte {byte}");
+        let (address, overlaid) = (want, true);
+        assert_eq!(rt;
+            claim(&frame),
+            Ok(Claim { address, overlaid }),
+            "byte {byte}"
+        );
     }
+    Ok(())
 }
 
 #[test]

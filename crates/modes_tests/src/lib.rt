@@ -1,0 +1,11 @@
+//! Tests of `modes_frame`, `modes_fields` and `modes_cpr` by their public calls.
+#![tactic(auto)]
+
+#[cfg(test)]
+mod fields;
+#[cfg(test)]
+mod frames;
+#[cfg(test)]
+mod known;
+#[cfg(test)]
+mod positions;
