@@ -7,8 +7,6 @@ mod first_frames;
 pub mod laws;
 pub mod running;
 mod table;
-#[cfg(test)]
-mod tests;
 mod tracks;
 
 pub use decoded_entry::{Change, DecodedEntry, Sighting};

@@ -10,6 +10,3 @@ mod to_write;
 pub use lines::table;
 pub use sinks::{Failed, Sink, WriteFault, flush_after, write_all};
 pub use to_write::ToWrite;
-
-#[cfg(test)]
-mod tests;

@@ -3,12 +3,11 @@
 ghost use Rattle.std.specs.Prelude.{◌≤◌};
 ghost use Rattle.station_journal.specs.Log.{most_entries};
 
-use crate::tests::known::{ALL_CALL, IDENTIFICATION, IDENTITY, NOBODY, SPEED};
-use crate::tests::{
-    Call, Hear, HearToo, MANY, ONE_AIRCRAFT, ONE_ENTRY, Script, Tick, entry, go_on, played,
-    replayed, row, shown,
-};
-use crate::{Entry, Journal, Limits, Recent, Refusal, ResumeFault, Rows};
+use crate::calls::Call::{self, Hear, HearToo, Tick};
+use crate::calls::entry;
+use crate::journal::{MANY, ONE_AIRCRAFT, ONE_ENTRY, Script, go_on, played, replayed, row, shown};
+use crate::known::{ALL_CALL, IDENTIFICATION, IDENTITY, NOBODY, SPEED};
+use station_journal::{Entry, Journal, Limits, Recent, Refusal, ResumeFault, Rows};
 use std::alloc::Global;
 use std::process::Abort;
 use std::test::Fail;

@@ -1,18 +1,18 @@
-//! Worked examples, with the values that are known for them.
+//! Worked examples of a journal, with the values that are known for them.
 
 ghost use Rattle.std.specs.Prelude.{◌≡◌, ◌<◌, ◌≤◌, length, OnOk};
 ghost use Rattle.station_journal.specs.Log.{most_entries};
 
-mod known;
 mod resumed;
 mod stories;
 
-use crate::tests::known::{
+use crate::calls::Call::{self, Hear, HearToo, Tick};
+use crate::calls::{entry, once};
+use crate::known::{
     ALL_CALL, FORMAT_1, IDENTIFICATION, IDENTITY, NOBODY, ONES, SHORT_AIR, SPEED, SPOILED,
     SPOILED_REPLY, ZEROS,
 };
-use crate::{Aircraft, Entry, Journal, Limits, NoMemory, Refusal, Rows};
-use modes_frame::Frame;
+use station_journal::{Aircraft, Entry, Journal, Limits, NoMemory, Refusal, Rows};
 use std::alloc::Global;
 use std::process::Abort;
 use std::test::Fail;
@@ -32,41 +32,7 @@ const ONE_ENTRY: Limits = Limits {
     aircraft: 1,
 };
 
-// A call of seat 0, or a frame that seat 1 hears.
-#[derive(Clone, Copy)]
-enum Call {
-    Tick(u64),
-    Hear(&'static [u8]),
-    HearToo(&'static [u8]),
-}
-
-use Call::{Hear, HearToo, Tick};
-
 type Script = &'static [(Call, Result<u64, Refusal>)];
-
-fn frame(bytes: &[u8]) -> Result<Frame, Fail> {
-    Ok(Frame::from_bytes(bytes).ok_or("no frame")?)
-}
-
-// The entry of the call, once it is accepted.
-fn entry(call: Call) -> Result<Entry, Fail> {
-    let (seat, bytes) = match call {
-        Tick(at) => return Ok(Entry::Tick { seat: 0, at }),
-        Hear(bytes) => (0, bytes),
-        HearToo(bytes) => (1, bytes),
-    };
-    Ok(Entry::Heard {
-        seat,
-        frame: frame(bytes)?,
-    })
-}
-
-fn once(journal: &mut Journal, entry: &Entry) -> Result<u64, Refusal> {
-    match entry {
-        Entry::Tick { seat, at } => journal.tick(*seat, *at),
-        Entry::Heard { seat, frame } => journal.feed(*seat, *frame),
-    }
-}
 
 fn is_at(journal: &Journal, place: u64, entry: &Entry) -> bool {
     match journal.get(place) {

@@ -1,9 +1,10 @@
 //! Positions of pairs of places.
 
-use crate::Book;
-use crate::tests::Call::{self, Hear, Tick};
-use crate::tests::{EVEN, compare};
+use crate::book::compare;
+use crate::calls::Call::{self, Hear, Tick};
+use crate::known::EVEN;
 use modes_cpr::{Degrees, Position};
+use station_book::Book;
 use station_journal::{Aircraft, Rows};
 use std::test::Fail;
 

@@ -1,17 +1,11 @@
 //! Entries that fit, and lists of them that a book takes.
 
-use crate::tests::Call::{Hear, Tick};
-use crate::tests::{ALL_CALL, EVEN, KLM1023, SHORT_AIR, entry};
-use crate::{Book, DecodedEntry};
+use crate::calls::Call::{Hear, Tick};
+use crate::calls::entry;
+use crate::known::{ALL_CALL, EVEN, IDENTIFICATION, NOBODY, SHORT_AIR, SPOILED};
+use station_book::{Book, DecodedEntry};
 use station_journal::{Refusal, Rows};
 use std::test::Fail;
-
-// A frame of the address 000000, and one whose parity doesn't hold.
-const NOBODY: &[u8] = &[0; 7];
-
-const SPOILED: &[u8] = &[
-    0x8D, 0x48, 0x40, 0xD6, 0x20, 0x2C, 0xC3, 0x71, 0xC3, 0x2C, 0xE0, 0x57, 0x60, 0x99,
-];
 
 #[test]
 fn what_does_not_fit_leaves_a_book_as_it_was(rt: HostRuntime) -> Result<(), Fail> {
@@ -39,7 +33,7 @@ fn an_overlaid_frame_fits_whoever_is_live(rt: HostRuntime) -> Result<(), Fail> {
     assert!(rt; book.fits(&reply));
     book.offer(&reply);
     assert_eq!(rt; book.len(), 1);
-    assert!(rt; book.fits(&entry(Hear(KLM1023))?), "it is live");
+    assert!(rt; book.fits(&entry(Hear(IDENTIFICATION))?), "it is live");
     assert!(rt; !book.fits(&entry(Hear(ALL_CALL))?), "the book is full");
     Ok(())
 }
@@ -47,7 +41,7 @@ fn an_overlaid_frame_fits_whoever_is_live(rt: HostRuntime) -> Result<(), Fail> {
 #[test]
 fn a_list_is_taken_up_to_the_first_that_does_not_fit(rt: HostRuntime) -> Result<(), Fail> {
     let mut book = Book::<1>::starting(5);
-    let (heard, other) = (entry(Hear(KLM1023))?, entry(Hear(EVEN))?);
+    let (heard, other) = (entry(Hear(IDENTIFICATION))?, entry(Hear(EVEN))?);
     let fitting = [heard, entry(Tick(60_006))?, other, other];
     assert_eq!(rt; book.take_all(5, &fitting), Ok(()));
     assert_eq!(rt; (book.entries(), book.now(), book.len()), (4, 60_006, 1));

@@ -1,10 +1,11 @@
 //! Stories of calls, each made once, and what they leave.
 
-use crate::tests::Call::{Hear, HearToo, Tick};
-use crate::tests::known::{ALL_CALL, EVEN, IDENTIFICATION, IDENTITY, LOW, SPEED};
-use crate::tests::{MANY, Script, frame, played, row};
-use crate::{Journal, Refusal, Rows};
+use crate::calls::Call::{Hear, HearToo, Tick};
+use crate::calls::frame;
+use crate::journal::{MANY, Script, played, row};
+use crate::known::{ALL_CALL, EVEN, IDENTIFICATION, IDENTITY, LOW, SPEED};
 use modes_fields::Velocity;
+use station_journal::{Journal, Refusal, Rows};
 use std::test::Fail;
 
 const AT_60_SECONDS: Script = &[

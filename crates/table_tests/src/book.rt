@@ -4,51 +4,14 @@ mod lists;
 mod positions;
 mod repeats;
 
-use crate::{Book, DecodedEntry};
-use modes_frame::Frame;
+use crate::calls::Call::{self, Hear, Tick};
+use crate::calls::{entry, frame, once};
+use crate::known::{ALL_CALL, IDENTIFICATION, SHORT_AIR};
+use station_book::{Book, DecodedEntry};
 use station_journal::{Aircraft, Entry, Journal, Limits, Refusal, Rows};
 use std::alloc::Global;
 use std::process::Abort;
 use std::test::Fail;
-
-const KLM1023: &[u8] = &[
-    0x8D, 0x48, 0x40, 0xD6, 0x20, 0x2C, 0xC3, 0x71, 0xC3, 0x2C, 0xE0, 0x57, 0x60, 0x98,
-];
-
-const EVEN: &[u8] = &[
-    0x8D, 0x40, 0x62, 0x1D, 0x58, 0xC3, 0x82, 0xD6, 0x90, 0xC8, 0xAC, 0x28, 0x63, 0xA7,
-];
-
-const ALL_CALL: &[u8] = &[0x5D, 0x51, 0x0A, 0xF9, 0xA8, 0xD8, 0xBC];
-
-#[derive(Clone, Copy)]
-enum Call {
-    Tick(u64),
-    Hear(&'static [u8]),
-}
-
-use Call::{Hear, Tick};
-
-fn frame(bytes: &[u8]) -> Result<Frame, Fail> {
-    Ok(Frame::from_bytes(bytes).ok_or("no frame")?)
-}
-
-fn entry(call: Call) -> Result<Entry, Fail> {
-    match call {
-        Tick(at) => Ok(Entry::Tick { seat: 0, at }),
-        Hear(bytes) => Ok(Entry::Heard {
-            seat: 0,
-            frame: frame(bytes)?,
-        }),
-    }
-}
-
-fn once(journal: &mut Journal, entry: &Entry) -> Result<u64, Refusal> {
-    match entry {
-        Entry::Tick { seat, at } => journal.tick(*seat, *at),
-        Entry::Heard { seat, frame } => journal.feed(*seat, *frame),
-    }
-}
 
 fn same_rows<const N: usize>(rt: &impl Abort, rows: &[Aircraft], book: &Book<N>) {
     assert_eq!(rt; rows.len(), book.len());
@@ -119,13 +82,17 @@ fn compare<const N: usize>(
 #[test]
 fn an_aircraft_lives_for_sixty_seconds(rt: HostRuntime) -> Result<(), Fail> {
     let alloc = rt.alloc();
-    let book: Book<4> = compare(&rt, alloc, &[Tick(1000), Hear(KLM1023), Tick(61_000)])?;
+    let book: Book<4> = compare(
+        &rt,
+        alloc,
+        &[Tick(1000), Hear(IDENTIFICATION), Tick(61_000)],
+    )?;
     let row = book.get(0x4840D6).ok_or("no aircraft")?;
     assert!(rt; row.callsign.ok_or("no callsign")?.bytes() == b"KLM1023".as_slice());
     assert_eq!(rt; row.heard, 1000);
     let over = [
         Tick(1000),
-        Hear(KLM1023),
+        Hear(IDENTIFICATION),
         Tick(61_000),
         Tick(61_001),
         Tick(61_001),
@@ -143,7 +110,12 @@ fn the_last_tick_of_all(rt: HostRuntime) -> Result<(), Fail> {
     let book: Book<4> = compare(
         &rt,
         alloc,
-        &[Tick(0), Hear(KLM1023), Tick(u64::MAX), Tick(u64::MAX)],
+        &[
+            Tick(0),
+            Hear(IDENTIFICATION),
+            Tick(u64::MAX),
+            Tick(u64::MAX),
+        ],
     )?;
     assert_eq!(rt; book.entries(), 2);
     assert_eq!(rt; book.verdict_tick(5), Err(Refusal::NotLater(u64::MAX)));
@@ -154,15 +126,18 @@ fn the_last_tick_of_all(rt: HostRuntime) -> Result<(), Fail> {
 #[test]
 fn a_full_book_frees_a_place_at_a_tick(rt: HostRuntime) -> Result<(), Fail> {
     let alloc = rt.alloc();
-    let calls = [Hear(KLM1023), Hear(ALL_CALL), Hear(KLM1023)];
+    let calls = [Hear(IDENTIFICATION), Hear(ALL_CALL), Hear(IDENTIFICATION)];
     let book: Book<1> = compare(&rt, alloc, &calls)?;
     assert_eq!(rt; book.entries(), 1);
     assert_eq!(rt; book.verdict(&frame(ALL_CALL)?), Err(Refusal::BookFull));
-    assert_eq!(rt; book.verdict(&frame(KLM1023)?), Err(Refusal::Repeated));
+    assert_eq!(rt;
+        book.verdict(&frame(IDENTIFICATION)?),
+        Err(Refusal::Repeated)
+    );
     let calls = [
-        Hear(KLM1023),
+        Hear(IDENTIFICATION),
         Hear(ALL_CALL),
-        Hear(KLM1023),
+        Hear(IDENTIFICATION),
         Hear(SHORT_AIR),
         Tick(60_001),
         Hear(ALL_CALL),
@@ -175,8 +150,6 @@ fn a_full_book_frees_a_place_at_a_tick(rt: HostRuntime) -> Result<(), Fail> {
 }
 
 // Replies of 4840D6, whose address is overlaid on their parity.
-const SHORT_AIR: &[u8] = &[0x00, 0x00, 0x14, 0xB4, 0x96, 0xB1, 0x48];
-
 const LONG_AIR: &[u8] = &[
     0x80, 0x00, 0x14, 0xB4, 0x00, 0x00, 0x00, 0x00, 0x00, 0x00, 0x00, 0x3E, 0xAE, 0x64,
 ];
@@ -214,7 +187,7 @@ fn overlaid_replies_speak_for_live_aircraft(rt: HostRuntime) -> Result<(), Fail>
             book.verdict_of(&DecodedEntry::of(&entry(Hear(reply))?)),
             Err(Refusal::Unknown(0x4840D6))
         );
-        let book: Book<4> = compare(&rt, alloc, &[Hear(KLM1023), Hear(reply)])?;
+        let book: Book<4> = compare(&rt, alloc, &[Hear(IDENTIFICATION), Hear(reply)])?;
         let row = book.get(0x4840D6).ok_or("no aircraft")?;
         assert_eq!(rt; row.altitude, altitude);
         assert_eq!(rt; squawk_of(&row), squawk);
@@ -226,7 +199,7 @@ fn overlaid_replies_speak_for_live_aircraft(rt: HostRuntime) -> Result<(), Fail>
 fn a_book_of_512_aircraft_is_made(rt: HostRuntime) -> Result<(), Fail> {
     let mut book = Book::<512>::new();
     book.offer(&entry(Tick(5))?);
-    book.offer(&entry(Hear(KLM1023))?);
+    book.offer(&entry(Hear(IDENTIFICATION))?);
     assert_eq!(rt; book.len(), 1);
     assert_eq!(rt; book.now(), 5);
     Ok(())
@@ -241,14 +214,14 @@ const BELOW: &[u8] = &[0x5D, 0x40, 0x00, 0x00, 0xEE, 0x1F, 0x40];
 #[test]
 fn hints_that_are_out_of_date(rt: HostRuntime) -> Result<(), Fail> {
     let calls = [
-        Hear(KLM1023),
+        Hear(IDENTIFICATION),
         Tick(1),
-        Hear(KLM1023),
+        Hear(IDENTIFICATION),
         Hear(BELOW),
         Hear(SAME_LOW_BITS),
         Tick(2),
         Hear(SAME_LOW_BITS),
-        Hear(KLM1023),
+        Hear(IDENTIFICATION),
     ];
     let book: Book<4> = compare(&rt, rt.alloc(), &calls)?;
     let row = book.get(0x4840D6).ok_or("no aircraft")?;

@@ -5,11 +5,11 @@ ghost use Rattle.station_report.specs.Text.{IsPrintableRow};
 
 mod sinks;
 
-use crate::{ToWrite, table};
 use modes_cpr::{Degrees, Position};
 use modes_fields::Velocity;
 use modes_fields::readers::{callsign, squawk};
 use station_journal::{Aircraft, Rows};
+use station_report::{ToWrite, table};
 use std::alloc::Global;
 use std::process::Abort;
 use std::test::Fail;

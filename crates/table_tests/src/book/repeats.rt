@@ -1,9 +1,11 @@
 //! Frames that are heard again.
 
-use crate::tests::Call::{Hear, Tick};
-use crate::tests::{KLM1023, SHORT_AIR, entry, frame, give};
-use crate::{Book, DecodedEntry};
+use crate::book::give;
+use crate::calls::Call::{Hear, Tick};
+use crate::calls::{entry, frame};
+use crate::known::{IDENTIFICATION, SHORT_AIR};
 use modes_frame::remainder;
+use station_book::{Book, DecodedEntry};
 use station_journal::{Entry, Journal, Limits, Refusal};
 use std::test::Fail;
 
@@ -27,7 +29,7 @@ fn reply(last: u8) -> Result<Entry, Fail> {
 fn the_first_256_frames_since_a_tick_are_looked_at(rt: HostRuntime) -> Result<(), Fail> {
     let mut journal = Journal::new(rt.alloc(), LIMITS);
     let mut book = Book::<4>::new();
-    let first = entry(Hear(KLM1023))?;
+    let first = entry(Hear(IDENTIFICATION))?;
     for new in [entry(Tick(1))?, first] {
         assert_eq!(rt; give(&rt, &mut journal, &mut book, &new), Ok(()));
     }
@@ -49,7 +51,7 @@ fn the_first_256_frames_since_a_tick_are_looked_at(rt: HostRuntime) -> Result<()
     Ok(())
 }
 
-// Identity replies of 4840D6 whose last thirteen bits are those of KLM1023's identification.
+// Identity replies of 4840D6 whose last thirteen bits are those of IDENTIFICATION.
 const SAME_LAST_BITS: &[u8] = &[0x28, 0x00, 0x17, 0x00, 0xA2, 0xC0, 0x98];
 
 const SAME_LAST_BITS_TOO: &[u8] = &[0x28, 0x00, 0x28, 0xFE, 0x23, 0xE0, 0x98];
@@ -59,10 +61,10 @@ fn frames_with_the_same_last_bits_are_told_apart(rt: HostRuntime) -> Result<(), 
     let mut journal = Journal::new(rt.alloc(), LIMITS);
     let mut book = Book::<4>::new();
     let script = [
-        (KLM1023, Ok(())),
+        (IDENTIFICATION, Ok(())),
         (SHORT_AIR, Ok(())),
         (SAME_LAST_BITS, Ok(())),
-        (KLM1023, Err(Refusal::Repeated)),
+        (IDENTIFICATION, Err(Refusal::Repeated)),
         (SAME_LAST_BITS, Err(Refusal::Repeated)),
         (SAME_LAST_BITS_TOO, Ok(())),
         (SAME_LAST_BITS, Err(Refusal::Repeated)),
@@ -87,12 +89,12 @@ fn give_change(shown: &mut Book<4>, spare: &mut Book<4>, entry: &Entry) {
     }
 }
 
-// The 256 frames that are compared are KLM1023's and the first 255 replies.
+// The 256 frames that are compared are IDENTIFICATION and the first 255 replies.
 #[test]
 fn a_second_copy_refuses_the_same(rt: HostRuntime) -> Result<(), Fail> {
     let mut shown = Book::<4>::new();
     let mut spare = Book::<4>::new();
-    give_change(&mut shown, &mut spare, &entry(Hear(KLM1023))?);
+    give_change(&mut shown, &mut spare, &entry(Hear(IDENTIFICATION))?);
     for last in 0..=255 {
         let heard = reply(last)?;
         let decoded = DecodedEntry::of(&heard);
@@ -109,7 +111,7 @@ fn a_second_copy_refuses_the_same(rt: HostRuntime) -> Result<(), Fail> {
     give_change(&mut shown, &mut spare, &entry(Tick(1))?);
     assert_eq!(rt; (spare.entries(), spare.now()), (258, 1));
     assert_eq!(rt; spare.get(0x4840D6), shown.get(0x4840D6));
-    for heard in [entry(Hear(KLM1023))?, reply(7)?] {
+    for heard in [entry(Hear(IDENTIFICATION))?, reply(7)?] {
         assert_eq!(rt; spare.verdict_of(&DecodedEntry::of(&heard)), Ok(()));
     }
     Ok(())

@@ -1,7 +1,7 @@
 //! Sinks and writers that fail.
 
-use super::{HEADER, One, identified};
-use crate::{Failed, Sink, ToWrite, WriteFault, flush_after, table};
+use crate::report::{HEADER, One, identified};
+use station_report::{Failed, Sink, ToWrite, WriteFault, flush_after, table};
 use std::io;
 use std::io::{ErrorKind, Write};
 use std::test::Fail;
