@@ -4,9 +4,6 @@ ghost use Rattle.station_desk.specs.DeskPump.{PumpsDesk};
 ghost use Rattle.station_lines.specs.Drawing.{drawn_of};
 ghost use Rattle.station_desk.specs.Desk.{most_aircraft};
 
-#[cfg(test)]
-mod tests;
-
 use crate::desk::Desk;
 use crate::desk_feed::DeskFeed;
 use station_lines::{PumpFault, Source, Tally, pump};

@@ -7,8 +7,6 @@
 pub mod desk;
 pub mod desk_feed;
 pub mod desk_pump;
-#[cfg(test)]
-mod fakes;
 pub mod history;
 pub mod places;
 pub mod publish_rule;

@@ -3,9 +3,6 @@ ghost use Rattle.std.specs.Prelude.{◌≡◌, ◌<◌, ◌≤◌, length, nat_l
 ghost use Rattle.std.specs.Io.Buffered.{reader_buffer, reader_remaining};
 ghost use Rattle.std.specs.Io.KnownBytes.{Consumes};
 
-#[cfg(test)]
-mod tests;
-
 use crate::from_read::FromRead;
 use crate::source::Source;
 use station_report::Failed;

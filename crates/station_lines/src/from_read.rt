@@ -1,9 +1,6 @@
 //! A source over any reader.
 ghost use Rattle.std.specs.Prelude.{◌≡◌};
 
-#[cfg(test)]
-mod tests;
-
 use crate::source::Source;
 use station_report::Failed;
 use std::io::Read;

@@ -3,8 +3,6 @@
 
 pub mod command;
 mod counting;
-#[cfg(test)]
-mod fakes;
 pub mod feed;
 pub mod from_buffer;
 pub mod from_read;

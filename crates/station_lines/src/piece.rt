@@ -3,9 +3,6 @@ ghost use Rattle.std.specs.Prelude.{◌≡◌, ◌+◌, ◌<◌, ◌≤◌, ◌+
 ghost use Rattle.station_lines.specs.Drawing.{FailsOnce, Gathers, ReadsMore, drawn_of};
 ghost use Rattle.station_lines.specs.Source.{longest_piece};
 
-#[cfg(test)]
-mod tests;
-
 use crate::source::Source;
 use station_report::Failed;
 

@@ -1,7 +1,6 @@
 //! Sources over buffered readers.
-use crate::fakes::{MANY_BYTES, Torn, read_bytes};
-use crate::from_buffer::FromBuffer;
-use crate::source::Source;
+use crate::readers::{MANY_BYTES, Torn, read_bytes};
+use station_lines::{FromBuffer, Source};
 use station_report::Failed;
 use std::io::{BufReader, Read};
 use std::process::Abort;

@@ -2,9 +2,9 @@
 ghost use Rattle.std.specs.Prelude.{◌≡◌, ◌≤◌, None};
 ghost use Rattle.station_desk.specs.Desk.{most_aircraft};
 
-use crate::desk::Desk;
 use arrayvec::ArrayVec;
 use modes_frame::Frame;
+use station_desk::Desk;
 use station_journal::Limits;
 use station_lines::{Source, Tally};
 use station_report::{Failed, Sink};

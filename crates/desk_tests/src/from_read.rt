@@ -1,7 +1,6 @@
 //! Sources over readers.
-use crate::fakes::{MANY_BYTES, Torn, read_bytes};
-use crate::from_read::FromRead;
-use crate::source::Source;
+use crate::readers::{MANY_BYTES, Torn, read_bytes};
+use station_lines::{FromRead, Source};
 use station_report::Failed;
 
 #[test]

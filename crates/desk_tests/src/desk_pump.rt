@@ -1,8 +1,6 @@
 //! Pumps over a desk.
-use crate::desk::Desk;
-use crate::desk_feed::DeskFeed;
-use crate::desk_pump::pump_desk;
 use crate::fakes::{IDENTIFICATION_BYTES, Pieces, counted, frame_of, new_desk, new_desk_or_again};
+use station_desk::{Desk, DeskFeed, pump_desk};
 use station_journal::{Entry, Journal, Rows};
 use station_lines::{PumpFault, Tally, pump};
 use std::alloc::Global;

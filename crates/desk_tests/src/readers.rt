@@ -1,5 +1,5 @@
 //! Readers and reads for tests.
-use crate::source::Source;
+use station_lines::Source;
 use station_report::Failed;
 use std::io;
 use std::io::{ErrorKind, Read};

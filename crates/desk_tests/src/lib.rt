@@ -1,0 +1,21 @@
+//! Tests of station_lines and station_desk by their public calls.
+#![tactic(auto)]
+
+#[cfg(test)]
+mod command;
+#[cfg(test)]
+mod desk;
+#[cfg(test)]
+mod desk_pump;
+#[cfg(test)]
+mod fakes;
+#[cfg(test)]
+mod from_buffer;
+#[cfg(test)]
+mod from_read;
+#[cfg(test)]
+mod piece;
+#[cfg(test)]
+mod readers;
+#[cfg(test)]
+mod replaying;

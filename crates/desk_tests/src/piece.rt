@@ -1,0 +1,103 @@
+//! Reads gathered to pieces while bytes are at hand.
+use arrayvec::ArrayVec;
+use modes_frame::{Cut, Cutter, Frame, LineReader};
+use station_lines::{
+    Ended, FrameTaker, FromBuffer, FromRead, LineTaker, PieceTaker, Source, take_each, take_lines,
+};
+use std::io::BufReader;
+use std::sync::Wait;
+use std::test::*;
+
+const BYTES: [u8; 3000] = [b' '; 3000];
+
+// Keeps how many bytes each piece had, of up to 8, and nothing of their lines.
+#[derive(Drop)]
+struct Lengths {
+    lengths: ArrayVec<usize, 8>,
+}
+
+impl LineTaker for Lengths {
+    type Stop = ();
+
+    ghost took = { λ _ _ _ _. Unit {0} };
+
+    ghost counted = { λ _. 0 };
+
+    fn take_line<R: Wait>(&mut self, _rt: &R, _lines: &LineReader, _cut: &Cut) -> Result<(), ()> {
+        Ok(())
+    }
+
+    ghost none = { λ _. tt };
+
+    ghost then = { λ _ _ _ _ _ _ _ _. tt };
+}
+
+impl FrameTaker for Lengths {
+    fn take_frame<R: Wait>(&mut self, _rt: &R, _frame: Frame) -> Result<(), ()> {
+        Ok(())
+    }
+}
+
+impl PieceTaker for Lengths {
+    fn take_piece<R: Wait>(
+        &mut self,
+        rt: &R,
+        cutter: &mut Cutter,
+        lines: &LineReader,
+        bytes: &[u8],
+    ) -> Result<(), ()> {
+        let taken = take_each(rt, self, cutter, lines, bytes);
+        let _fits = self.lengths.try_push(bytes.len());
+        taken
+    }
+}
+
+// How the source ended in this many turns, and how many bytes its pieces had.
+fn gathered<S: Source, R: Wait>(
+    rt: &R,
+    from: &mut S,
+    turns: u32,
+) -> (Ended<()>, ArrayVec<usize, 8>) {
+    let mut taker = Lengths {
+        lengths: ArrayVec::new(),
+    };
+    let ended = take_lines(rt, &mut taker, from, turns);
+    (ended, taker.lengths)
+}
+
+#[test]
+fn reads_go_on_while_bytes_are_at_hand(rt: HostRuntime) -> Result<(), Fail> {
+    for (turns, want, pieces) in [
+        (4, Ended::TurnsOver, [2048].as_slice()),
+        (6, Ended::TurnsOver, &[2048, 952]),
+        (7, Ended::AtEnd, &[2048, 952, 0]),
+        (9, Ended::AtEnd, &[2048, 952, 0]),
+    ] {
+        let reader = BufReader::with_capacity(rt.alloc(), 2048, BYTES.as_slice())?;
+        let (ended, lengths) = gathered(&rt, &mut FromBuffer::new(reader), turns);
+        assert_eq!(rt; ended, want, "{turns}");
+        assert_eq!(rt; lengths.as_slice(), pieces, "{turns}");
+    }
+    Ok(())
+}
+
+#[test]
+fn reads_end_with_the_turns(rt: HostRuntime) -> Result<(), Fail> {
+    let reader = BufReader::with_capacity(rt.alloc(), 2048, BYTES.as_slice())?;
+    let (ended, lengths) = gathered(&rt, &mut FromBuffer::new(reader), 3);
+    assert_eq!(rt; ended, Ended::TurnsOver);
+    assert_eq!(rt; lengths.as_slice(), [1536].as_slice());
+    Ok(())
+}
+
+#[test]
+fn a_source_that_does_not_know_is_read_once(rt: HostRuntime) {
+    for (turns, want, pieces) in [
+        (1, Ended::TurnsOver, [512].as_slice()),
+        (9, Ended::AtEnd, &[512, 512, 512, 512, 512, 440, 0]),
+    ] {
+        let (ended, lengths) = gathered(&rt, &mut FromRead::new(BYTES.as_slice()), turns);
+        assert_eq!(rt; ended, want, "{turns}");
+        assert_eq!(rt; lengths.as_slice(), pieces, "{turns}");
+    }
+}
