@@ -2,8 +2,6 @@
 #![tactic(auto)]
 
 pub mod close;
-#[cfg(test)]
-mod fakes;
 mod held_pump;
 mod lines_ahead;
 mod locked;

@@ -3,9 +3,6 @@ ghost use Rattle.std.specs.Prelude.{◌≡◌, ◌<◌, ℕ, length, slice_index
 ghost use Rattle.station_lines.specs.Drawing.{drawn_of};
 ghost use Rattle.station_shared.specs.Workers.{Worked};
 
-#[cfg(test)]
-mod tests;
-
 use crate::held_pump::pump_held;
 use crate::seat::Seat;
 use crate::station::Station;

@@ -1,0 +1,11 @@
+//! Tests of station_shared and station_record by their public calls.
+#![tactic(auto)]
+
+#[cfg(test)]
+mod fakes;
+#[cfg(test)]
+mod station;
+#[cfg(test)]
+mod worker;
+#[cfg(test)]
+mod writing;
