@@ -26,7 +26,7 @@ use Rattle.clap.specs.declared.builder.value_parser.ValueParser.TheVariants.{Sig
 use Rattle.clap.specs.declared.parser.matches.ValueSource.{ValueSource}
 use Rattle.clap.specs.declared.parser.matches.ValueSource.TheVariants.{CommandLine, DefaultValue}
 use Rattle.clap.proofs.OnLiterals.{clap_on_literals}
-use Rattle.station_main.specs.Command.{IsGiven, every, number, path, replay, rounds, run, station}
+use Rattle.station_main.specs.Command.{IsGiven, every, number, path, record_file, replay, rounds, run, station}
 use Rattle.station_main.proofs.WalkedLemmas.{Keeps, both_none, not_none, settles, walks}
 
 -- ---- rows
@@ -35,11 +35,12 @@ use Rattle.station_main.proofs.WalkedLemmas.{Keeps, both_none, not_none, settles
 abbrev pub IsNumber : Text → ℕ → Row → Type 0
 IsNumber id most r = (r.id ≡ id) × (r.reading ≡ WithoutMinus) × ((v : Text) × (r.values ≡ v ∷ []) × (is_signed_in (pos 1) (pos most) v ≡ true))
 
--- the row of `--every`, `--rounds` or PATH after an accepted use or a default
+-- the row of `--every`, `--rounds`, PATH or `--record` after an accepted use or a default
 abbrev pub Good : Row → Type 0
 Good r = IsNumber (codes "every") 3600000 r
     ⊎ (IsNumber (codes "rounds") 1000 r
-    ⊎ ((r.id ≡ codes "path") × (1 ≤ length r.values) × (length r.values ≤ 8)))
+    ⊎ (((r.id ≡ codes "path") × (1 ≤ length r.values) × (length r.values ≤ 8))
+    ⊎ (r.id ≡ codes "record")))
 
 abbrev pub Fine : List Row → Type 0
 Fine [] = ⊤
@@ -106,6 +107,9 @@ every_rule = with_index 1 (filled every)
 abbrev pub rounds_rule : Rule
 rounds_rule = with_index 1 (filled rounds)
 
+abbrev pub record_rule : Rule
+record_rule = with_index 1 (filled record_file)
+
 abbrev pub path_rule : Rule
 path_rule = with_index 1 (filled path)
 
@@ -166,7 +170,16 @@ keeps_path (v ∷ vs) rows e f =
     let few = at_most_eight (length (v ∷ vs)) counted.0 in
     let parts = both_none (repeat_fault false (codes "path") rows) (values_fault path_rule (v ∷ vs)) counted.1 in
     let none = not_repeated (has_row (codes "path") rows) parts.0 in
-    subst Fine (sym (set_adds (codes "path") AsWritten (v ∷ vs) rows none)) (fine_snoc rows (row_for CommandLine (codes "path") AsWritten (v ∷ vs)) f (inr (inr (refl, omega arith, few))))
+    subst Fine (sym (set_adds (codes "path") AsWritten (v ∷ vs) rows none)) (fine_snoc rows (row_for CommandLine (codes "path") AsWritten (v ∷ vs)) f (inr (inr (inl (refl, omega arith, few)))))
+
+keeps_record : (values : List Text) (rows : List Row) → use_fault false record_rule values rows ≡ [] → Fine rows → Fine (used record_rule values rows)
+unfolding row_for
+keeps_record [] rows e f = absurd (not_none _ _ e)
+keeps_record (v ∷ vs) rows e f =
+    let counted = both_none (range_kinds 1 1 (length (v ∷ vs))) (set_fault false record_rule (v ∷ vs) rows) e in
+    let parts = both_none (repeat_fault false (codes "record") rows) (values_fault record_rule (v ∷ vs)) counted.1 in
+    let none = not_repeated (has_row (codes "record") rows) parts.0 in
+    subst Fine (sym (set_adds (codes "record") AsWritten (v ∷ vs) rows none)) (fine_snoc rows (row_for CommandLine (codes "record") AsWritten (v ∷ vs)) f (inr (inr (inr refl))))
 
 keeps_help : (values : List Text) (rows : List Row) → use_fault false help_flag values rows ≡ [] → Fine rows → Fine (used help_flag values rows)
 keeps_help values rows e f = absurd (not_none _ _ (both_none (range_kinds 0 0 (length values)) (kind.DisplayHelp ∷ []) e).1)
@@ -184,14 +197,15 @@ among test [] a e = absurd (none_some a e)
 among test (x ∷ xs) a e = among_step (test x) x (find test xs) xs a e (among test xs a)
 
 abbrev run_rules : List Rule
-run_rules = every_rule ∷ rounds_rule ∷ path_rule ∷ help_flag ∷ []
+run_rules = every_rule ∷ rounds_rule ∷ record_rule ∷ path_rule ∷ help_flag ∷ []
 
 keeps_among : (a : Rule) (values : List Text) (rows : List Row) → Among a run_rules → use_fault false a values rows ≡ [] → Fine rows → Fine (used a values rows)
 keeps_among a values rows (inl same) e f = subst (λ b. Fine (used b values rows)) same (keeps_every values rows (subst (λ b. use_fault false b values rows ≡ []) (sym same) e) f)
 keeps_among a values rows (inr (inl same)) e f = subst (λ b. Fine (used b values rows)) same (keeps_rounds values rows (subst (λ b. use_fault false b values rows ≡ []) (sym same) e) f)
-keeps_among a values rows (inr (inr (inl same))) e f = subst (λ b. Fine (used b values rows)) same (keeps_path values rows (subst (λ b. use_fault false b values rows ≡ []) (sym same) e) f)
-keeps_among a values rows (inr (inr (inr (inl same)))) e f = subst (λ b. Fine (used b values rows)) same (keeps_help values rows (subst (λ b. use_fault false b values rows ≡ []) (sym same) e) f)
-keeps_among a values rows (inr (inr (inr (inr none)))) e f = absurd none
+keeps_among a values rows (inr (inr (inl same))) e f = subst (λ b. Fine (used b values rows)) same (keeps_record values rows (subst (λ b. use_fault false b values rows ≡ []) (sym same) e) f)
+keeps_among a values rows (inr (inr (inr (inl same)))) e f = subst (λ b. Fine (used b values rows)) same (keeps_path values rows (subst (λ b. use_fault false b values rows ≡ []) (sym same) e) f)
+keeps_among a values rows (inr (inr (inr (inr (inl same))))) e f = subst (λ b. Fine (used b values rows)) same (keeps_help values rows (subst (λ b. use_fault false b values rows ≡ []) (sym same) e) f)
+keeps_among a values rows (inr (inr (inr (inr (inr none))))) e f = absurd none
 
 -- ---- the command line of `run`
 
@@ -228,9 +242,11 @@ finished_is : (rows : List Row) → fold with_default rows run_rules ≡ with_de
 finished_is rows =
     let after = with_default rows rounds_rule in
     let first = either_way (has_row (codes "every") rows) rows in
-    let third = either_way (has_row (codes "path") after) after in
+    let third = either_way (has_row (codes "record") after) after in
+    let fourth = either_way (has_row (codes "path") after) after in
     let last = either_way (has_row (codes "help") after) after in
-    ap (λ t. fold with_default t (rounds_rule ∷ path_rule ∷ help_flag ∷ [])) first ∙ ap (λ t. fold with_default t (help_flag ∷ [])) third ∙ last
+    ap (λ t. fold with_default t (rounds_rule ∷ record_rule ∷ path_rule ∷ help_flag ∷ [])) first ∙ ap (λ t. fold with_default t (path_rule ∷ help_flag ∷ [])) third
+    ∙ ap (λ t. fold with_default t (help_flag ∷ [])) fourth ∙ last
 
 both_given : (b c : Bool) (k : ErrorKind) → (if not b || (not c || false) then k ∷ [] else []) ≡ [] → (b ≡ true) × (c ≡ true)
 both_given true true k e = (refl, refl)
@@ -339,17 +355,20 @@ row_of id (x ∷ xs) e = row_step (bytes_eq x.id id) (has_row id xs) x (find (λ
 every_row : (r : Row) → Good r → bytes_eq r.id (codes "every") ≡ true → IsNumber (codes "every") 3600000 r
 every_row r (inl h) e = h
 every_row r (inr (inl h)) e = let bad : false ≡ true = ap (λ t. bytes_eq t (codes "every")) (sym h.0) ∙ e in absurd (search rules)
-every_row r (inr (inr h)) e = let bad : false ≡ true = ap (λ t. bytes_eq t (codes "every")) (sym h.0) ∙ e in absurd (search rules)
+every_row r (inr (inr (inl h))) e = let bad : false ≡ true = ap (λ t. bytes_eq t (codes "every")) (sym h.0) ∙ e in absurd (search rules)
+every_row r (inr (inr (inr h))) e = let bad : false ≡ true = ap (λ t. bytes_eq t (codes "every")) (sym h) ∙ e in absurd (search rules)
 
 rounds_row : (r : Row) → Good r → bytes_eq r.id (codes "rounds") ≡ true → IsNumber (codes "rounds") 1000 r
 rounds_row r (inl h) e = let bad : false ≡ true = ap (λ t. bytes_eq t (codes "rounds")) (sym h.0) ∙ e in absurd (search rules)
 rounds_row r (inr (inl h)) e = h
-rounds_row r (inr (inr h)) e = let bad : false ≡ true = ap (λ t. bytes_eq t (codes "rounds")) (sym h.0) ∙ e in absurd (search rules)
+rounds_row r (inr (inr (inl h))) e = let bad : false ≡ true = ap (λ t. bytes_eq t (codes "rounds")) (sym h.0) ∙ e in absurd (search rules)
+rounds_row r (inr (inr (inr h))) e = let bad : false ≡ true = ap (λ t. bytes_eq t (codes "rounds")) (sym h) ∙ e in absurd (search rules)
 
 path_values : (r : Row) → Good r → bytes_eq r.id (codes "path") ≡ true → (1 ≤ length r.values) × (length r.values ≤ 8)
 path_values r (inl h) e = let bad : false ≡ true = ap (λ t. bytes_eq t (codes "path")) (sym h.0) ∙ e in absurd (search rules)
 path_values r (inr (inl h)) e = let bad : false ≡ true = ap (λ t. bytes_eq t (codes "path")) (sym h.0) ∙ e in absurd (search rules)
-path_values r (inr (inr h)) e = (h.1, h.2)
+path_values r (inr (inr (inl h))) e = (h.1, h.2)
+path_values r (inr (inr (inr h))) e = let bad : false ≡ true = ap (λ t. bytes_eq t (codes "path")) (sym h) ∙ e in absurd (search rules)
 
 abbrev GivesNumber : Text → ℕ → List Row → Type 0
 GivesNumber id most rows = (v : Text) × (one_of id rows ≡ Some v) × IsNumeral 10 (without_leading_plus v) × (1 ≤ number v) × (number v ≤ most)

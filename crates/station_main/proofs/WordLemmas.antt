@@ -55,7 +55,7 @@ known_rows m name rows n r =
 pub names_run : (words : List Text) (rows : List Row) → subcommand_of station words ≡ Some (codes "run", rows)
     → (job : Job) → GivesJob rows job → NamesJob words job
 names_run words rows is Replay given = absurd given
-names_run words rows is (Run milliseconds times paths) given = (rows, is, given)
+names_run words rows is (Run milliseconds times paths file) given = (rows, is, given)
 
 name_first : {B : Type 0} (f : B → Text) (g : B → List Row) (o : Option B) → option_map {T = Text × List Row} (λ p. p.0) (option_map {U = Text × List Row} (λ b. (f b, g b)) o) ≡ option_map f o
 name_first f g None = refl

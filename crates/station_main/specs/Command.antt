@@ -1,8 +1,8 @@
 -- The command line as `clap` reads it, and the job that it names.
-use Rattle.std.specs.Prelude.{◌≡◌, ◌≤◌, ℕ, List, [], ◌∷◌, Some, codes, true, false, pos, map, length, option_map, ⊤}
+use Rattle.std.specs.Prelude.{◌≡◌, ◌≤◌, ℕ, List, [], ◌∷◌, Option, Some, codes, true, false, pos, map, length, option_map, ⊤}
 use Rattle.std.specs.String.{string_bytes}
 use Rattle.std.specs.Str.Parse.{IsNumeral, digits_value, without_leading_plus}
-use Rattle.clap.specs.Words.{App, Row, Rule, Text, all_of, new_app, new_rule, one_of, subcommand_of}
+use Rattle.clap.specs.Words.{App, Row, Rule, Text, all_of, first_of, new_app, new_rule, one_of, subcommand_of}
 use Rattle.clap.specs.Words.{app_of, rule_of, with_rule, with_subcommand}
 use Rattle.clap.specs.declared.builder.arg.Arg.{Arg}
 use Rattle.clap.specs.declared.builder.command.Command.{Command}
@@ -30,6 +30,13 @@ rounds = record (new_rule (codes "rounds")) {
   parser = Some (Signed (pos 1) (pos 1000));
 }
 
+-- `--record FILE`: any text, at most once, and not required
+abbrev pub record_file : Rule
+record_file = record (new_rule (codes "record")) {
+  long = Some (codes "record");
+  value_names = 1;
+}
+
 -- `PATH..`: required, 1 to 8 of them, one after another
 abbrev pub path : Rule
 path = record (new_rule (codes "path")) {
@@ -42,8 +49,12 @@ path = record (new_rule (codes "path")) {
 abbrev pub replay : App
 replay = new_app (codes "replay")
 
+-- `run` with its options, and then with PATH too
+abbrev pub run_options : App
+run_options = with_rule (with_rule (with_rule (new_app (codes "run")) every) rounds) record_file
+
 abbrev pub run : App
-run = with_rule (with_rule (with_rule (new_app (codes "run")) every) rounds) path
+run = with_rule run_options path
 
 abbrev pub wants_subcommand : App → App
 wants_subcommand a = record a { top = record a.top { subcommand_required = true } }
@@ -64,8 +75,9 @@ IsMade app c = (app_of c ≡ app) × ((out-Command c).has_globals ≡ false)
 abbrev pub number : Text → ℕ
 number text = digits_value 10 (without_leading_plus text)
 
--- the values of `--every`, `--rounds` and PATH in a command line of `run`, the paths in their order
-pub record GivesRun (rows : List Row) (milliseconds times : ℕ) (paths : List Text) : Type 0 where
+-- the values of `--every`, `--rounds`, PATH and `--record` in a command line of `run`: the paths in their order, and the
+-- file only if it is given
+pub record GivesRun (rows : List Row) (milliseconds times : ℕ) (paths : List Text) (file : Option Text) : Type 0 where
   pub text : Text
   pub every : one_of (codes "every") rows ≡ Some text
   pub every_is : milliseconds ≡ number text
@@ -73,6 +85,7 @@ pub record GivesRun (rows : List Row) (milliseconds times : ℕ) (paths : List T
   pub rounds : one_of (codes "rounds") rows ≡ Some rounds_text
   pub rounds_is : times ≡ number rounds_text
   pub paths_are : all_of (codes "path") rows ≡ Some paths
+  pub file_is : file ≡ first_of (codes "record") rows
 
 -- what a command line of `run` gives if nothing in it is refused
 pub record IsGiven (rows : List Row) : Type 0 where
@@ -93,17 +106,18 @@ pub record IsGiven (rows : List Row) : Type 0 where
 
 abbrev pub GivesJob : List Row → Job → Type 0
 GivesJob rows Replay = ⊥
-GivesJob rows (Run milliseconds times paths) = GivesRun rows milliseconds times (map string_bytes paths.items)
+GivesJob rows (Run milliseconds times paths file) =
+    GivesRun rows milliseconds times (map string_bytes paths.items) (option_map string_bytes file)
 
 -- the job is the one that the command line names
 abbrev pub NamesJob : List Text → Job → Type 0
 NamesJob words Replay = option_map (λ p. p.0) (subcommand_of station words) ≡ Some (codes "replay")
-NamesJob words (Run milliseconds times paths) =
+NamesJob words (Run milliseconds times paths file) =
     (rows : List Row) × (subcommand_of station words ≡ Some (codes "run", rows))
-    × GivesRun rows milliseconds times (map string_bytes paths.items)
+    × GivesRun rows milliseconds times (map string_bytes paths.items) (option_map string_bytes file)
 
 -- 1 to 3,600,000 milliseconds, 1 to 1,000 rounds, and 1 to 8 paths
 abbrev pub IsInRange : Job → Type 0
 IsInRange Replay = ⊤
-IsInRange (Run milliseconds times paths) = (1 ≤ milliseconds) × (milliseconds ≤ 3600000) × (1 ≤ times) × (times ≤ 1000)
+IsInRange (Run milliseconds times paths file) = (1 ≤ milliseconds) × (milliseconds ≤ 3600000) × (1 ≤ times) × (times ≤ 1000)
     × (1 ≤ length paths.items) × (length paths.items ≤ 8)

@@ -15,7 +15,7 @@ use Rattle.station_main.specs.declared.words.Job.TheVariants.{Replay, Run}
 abbrev pub IsDone : Job → Option (List ℕ) → Option (List ℕ) → Option (Option (List ℕ)) → Told → Told → ℕ → Type 0
 IsDone Replay input before None err_old err_new status = EndsEarly err_old err_new status
 IsDone Replay input before (Some after) err_old err_new status = EndsReplay program_limits input before after err_old err_new status
-IsDone (Run every rounds paths) input before after err_old err_new status =
+IsDone (Run every rounds paths file) input before after err_old err_new status =
     Runs (record { every = every; inputs = length paths.items }) (rounds - 1) nothing before after err_old err_new status
 
 -- the job that the command line names is done

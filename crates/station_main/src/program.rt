@@ -67,6 +67,7 @@ fn do_job<
             every,
             rounds,
             paths,
+            record: _,
         } => {
             let asked = Asked {
                 every,

@@ -1,8 +1,8 @@
 //! The command line.
 ghost use Rattle.clap.specs.Words.{found_of, rows_of, takes};
-ghost use Rattle.station_main.specs.Command.{GivesJob, IsArg, IsGiven, IsInRange, IsMade, NamesJob, every, path, replay, rounds, run, station};
+ghost use Rattle.station_main.specs.Command.{GivesJob, IsArg, IsGiven, IsInRange, IsMade, NamesJob, every, path, record_file, replay, rounds, run, run_options, station};
 ghost use Rattle.station_main.specs.declared.words.WordsFault.TheVariants.{NoMemory};
-ghost use Rattle.std.specs.Prelude.{◌≡◌, IfErr, IfOk, map, true};
+ghost use Rattle.std.specs.Prelude.{◌≡◌, IfErr, IfOk, map, option_map, true};
 ghost use Rattle.std.specs.String.{string_bytes};
 
 use clap::error::ErrorKind;
@@ -22,6 +22,8 @@ pub enum Job {
         rounds: u16,
         /// 1 to 8.
         paths: Vec<String>,
+        /// The file that the run is recorded to, if one is given.
+        record: Option<String>,
     },
 }
 
@@ -100,19 +102,22 @@ const AFTER_RUN_HELP: &str = concat!(
     "Examples, of a receiver that serves such lines, as dump1090 and readsb do:\n",
     "  groundstation run --every 1000 <(nc 127.0.0.1 30002 < /dev/null)\n",
     "  nc 127.0.0.1 30002 < /dev/null | groundstation run --every 1000 /dev/stdin\n",
+    "  groundstation run --every 1000 --record day.avr PATH\n",
     "\n",
     "The clock is the time since the start, and moves where a table is due: all that\n",
     "is heard between two tables is dated to the earlier one. So MS is best 1000 or\n",
     "so: above 10000 positions may be wrong, above 60000 no aircraft is shown.\n",
     "When every path has ended, the last table is written, and a line of counts for\n",
     "each path goes to standard error.\n",
+    "--record writes all that was accepted to FILE, with a ? for each table:\n",
+    "'groundstation replay < FILE' prints the tables again.\n",
     "A round has room for 16777216 accepted frames and ticks. When it is full, all\n",
     "that comes is refused, and 'now' stands still.\n",
     "Formats: docs/FORMATS.md. Receivers that drop: docs/USING.md.",
 );
 
 /// Reads a command line, which begins with the program's name, by `clap`: the subcommand, and for `run` the values of
-/// `--every`, `--rounds` and PATH. Arguments that `clap` accepts are refused only if out of memory.
+/// `--every`, `--rounds`, `--record` and PATH. Arguments that `clap` accepts are refused only if out of memory.
 pub fn read_words<'a>(alloc: Global, words: &'a [&'a str]) -> Result<Job, WordsFault>
     ensures job { IfOk result (NamesJob (map (λ w. w.now) words.entry.now)) }
     ensures range { IfOk result IsInRange }
@@ -143,10 +148,12 @@ fn read_run(alloc: Global, given: &ArgMatches<'_>) -> Result<Job, AllocError>
         unreachable!()
     };
     let paths = owned(alloc, texts)?;
+    let file = owned_if_given(alloc, given.get_str("record"))?;
     Ok(Job::Run {
         every,
         rounds,
         paths,
+        record: file,
     })
 }
 
@@ -158,6 +165,15 @@ fn owned(alloc: Global, texts: &[&str]) -> Result<Vec<String>, AllocError>
         paths.push(String::from_str(alloc, text)?)?;
     }
     Ok(paths)
+}
+
+fn owned_if_given(alloc: Global, text: Option<&str>) -> Result<Option<String>, AllocError>
+    ensures { IfOk result (λ own. option_map string_bytes own ≡ option_map (λ t. t.now) text.entry) }
+{
+    match text {
+        Some(text) => Ok(Some(String::from_str(alloc, text)?)),
+        None => Ok(None),
+    }
 }
 
 fn station_command<'a>(alloc: Global) -> Result<Command<'a>, AllocError>
@@ -183,15 +199,23 @@ fn replay_command<'a>(alloc: Global) -> Command<'a>
 fn run_command<'a>(alloc: Global) -> Result<Command<'a>, AllocError>
     ensures { IfOk result (IsMade run) }
 {
+    let path = path_arg(alloc);
+    let with_options = run_with_options(alloc)?;
+    with_options.arg(path)
+}
+
+fn run_with_options<'a>(alloc: Global) -> Result<Command<'a>, AllocError>
+    ensures { IfOk result (IsMade run_options) }
+{
     let every = every_arg(alloc);
     let rounds = rounds_arg(alloc);
-    let path = path_arg(alloc);
+    let file = record_arg(alloc);
     let bare = Command::new(alloc, "run")
         .about("Reads 1 to 8 paths side by side, and writes one table every MS")
         .after_help(AFTER_RUN_HELP);
     let with_every = bare.arg(every)?;
     let with_rounds = with_every.arg(rounds)?;
-    with_rounds.arg(path)
+    with_rounds.arg(file)
 }
 
 // `--every MS`
@@ -218,6 +242,16 @@ fn rounds_arg<'a>(alloc: Global) -> Arg<'a>
         .help("How many times to read the paths, 1 to 1000")
         .default_value("1")
         .value_parser(times)
+}
+
+// `--record FILE`
+fn record_arg<'a>(alloc: Global) -> Arg<'a>
+    ensures { IsArg record_file result }
+{
+    Arg::new(alloc, "record")
+        .long("record")
+        .value_name("FILE")
+        .help("File to record the run to, for replay")
 }
 
 // `PATH..`

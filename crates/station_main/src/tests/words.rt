@@ -40,6 +40,18 @@ fn words_are_refused(rt: HostRuntime) -> Result<(), AllocError> {
             "groundstation run --every 5 --rounds x x",
             "error: invalid value 'x' for '--rounds <R>': invalid digit found in string\n",
         ),
+        (
+            "groundstation run --every 5 --record f --record g x",
+            concat!(
+                "error: the argument '--record <FILE>' cannot be used multiple times\n",
+                "\n",
+                "Usage: groundstation run [OPTIONS] --every <MS> <PATH>...\n",
+            ),
+        ),
+        (
+            "groundstation run --every 5 x --record",
+            "error: a value is required for '--record <FILE>' but none was supplied\n",
+        ),
     ] {
         let words = words_of(rt.alloc(), line, [].as_slice())?;
         let refused = run_words(&rt, words.as_slice(), NO_LINES);
@@ -71,6 +83,35 @@ fn rounds_are_1_where_they_are_not_given(rt: HostRuntime) -> Result<(), WordsFau
         ("groundstation run x --rounds=1 --every=5", 1),
     ] {
         assert_eq!(rt; rounds_of(rt.alloc(), line)?, rounds, "{line}");
+    }
+    Ok(())
+}
+
+// Whether a line asks to record to this file, or to none.
+fn is_recorded_to(alloc: Global, line: &str, file: Option<&str>) -> Result<bool, WordsFault> {
+    let words = words_of(alloc, line, [].as_slice())?;
+    match read_words(alloc, words.as_slice())? {
+        Job::Run { record, .. } => Ok(record.as_deref() == file),
+        Job::Replay => Ok(false),
+    }
+}
+
+#[test]
+fn record_is_the_file_that_is_given(rt: HostRuntime) -> Result<(), WordsFault> {
+    for (line, file) in [
+        ("groundstation run --every 5 x", None),
+        ("groundstation run --every 5 -- x --record f", None),
+        ("groundstation run --record f --every 5 x", Some("f")),
+        ("groundstation run --every 5 --record f x y", Some("f")),
+        ("groundstation run --every 5 x y --record f", Some("f")),
+        ("groundstation run --every 5 x --record=f", Some("f")),
+        (
+            "groundstation run --every 5 x --record=--every",
+            Some("--every"),
+        ),
+        ("groundstation run --every 5 x --record=", Some("")),
+    ] {
+        assert!(rt; is_recorded_to(rt.alloc(), line, file)?, "{line}");
     }
     Ok(())
 }
@@ -107,9 +148,10 @@ const RUN_HELP: &str = concat!(
     "Arguments:\n",
     "  <PATH>...  1 to 8 files or named pipes, each read by a receiver of its own\n\n",
     "Options:\n",
-    "      --every <MS>  Milliseconds from one table to the next, 1 to 3600000\n",
-    "      --rounds <R>  How many times to read the paths, 1 to 1000 [default: 1]\n",
-    "  -h, --help        Print help\n\n",
+    "      --every <MS>     Milliseconds from one table to the next, 1 to 3600000\n",
+    "      --rounds <R>     How many times to read the paths, 1 to 1000 [default: 1]\n",
+    "      --record <FILE>  File to record the run to, for replay\n",
+    "  -h, --help           Print help\n\n",
     "Lines of a path, one of each kind:\n",
 );
 

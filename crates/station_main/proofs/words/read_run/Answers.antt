@@ -2,7 +2,7 @@ use Rattle.std.proofs.Common.{◌≡◌, ◌∙◌, ℕ, List, Some, map, sym, a
 use Rattle.std.proofs.lemmas.List.{length-map}
 use Rattle.std.specs.Str.Parse.{ExplainsUnsignedError, HasUnsignedDigitsIfOk, ParsesUnsigned}
 use Rattle.clap.specs.Words.{found_of, one_text}
-use Rattle.clap.proofs.WalkLemmas.{one_text-rows, raw_values-rows}
+use Rattle.clap.proofs.WalkLemmas.{first_value-rows, one_text-rows, raw_values-rows}
 use Rattle.station_main.specs.Command.{number}
 use Rattle.station_main.proofs.RunLemmas.{none_some, some_same}
 use Rattle.station_main.proofs.WordLemmas.{reads_number, same_length}
@@ -37,6 +37,7 @@ returns-clause-job c =
       rounds = sym (one_text-rows found (codes "rounds")) ∙ times.1;
       rounds_is = times.2;
       paths_are = sym (raw_values-rows found (codes "path")) ∙ sym c.in-Some-get_strs.ensures ∙ ap Some (sym c.in_ok-paths.ensures);
+      file_is = c.in_ok-file.ensures ∙ c.get_str.ensures ∙ first_value-rows found (codes "record");
     }
 
 pub returns-clause-range : goal.returns-clause-range
