@@ -8,3 +8,4 @@ pub mod CallLemmas
 pub mod StartLemmas
 pub mod TurnLemmas
 pub mod WalkLemmas
+pub mod RoomLemmas

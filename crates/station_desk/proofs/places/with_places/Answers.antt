@@ -1,6 +1,7 @@
 use Rattle.std.proofs.Common.{◌≡◌, arith, ◌∙◌}
 use Rattle.core.proofs.slice.Lists.{all_by_recursion_push}
 use Rattle.left_right.specs.Sides.{view}
+use Rattle.station_desk.proofs.RoomLemmas.{none_within}
 use Rattle.station_desk.proofs.places.with_places.Goals as goal
 
 pub loop-made-preserved : goal.loop-made-preserved
@@ -15,3 +16,12 @@ loop-made-preserved g c =
       room = omega (arith, c.push_reserved.ensures.capacity, i.room);
       all = rw c.push_reserved.ensures.items (all_by_recursion_push (λ p. view p.place ≡ view c.args.publisher.desk.place) c.loop-made.places.items c.in-Ok.place i.all (c.in-Ok.ensures.known ∙ i.knows));
     }
+
+pub drop-places-requires : goal.drop-places-requires
+drop-places-requires g c κs = search none_within
+
+pub new_place-requires : goal.new_place-requires
+new_place-requires g c = search
+
+pub give_up-requires : goal.give_up-requires
+give_up-requires g c = search
