@@ -4,3 +4,4 @@ pub mod CountLemmas
 pub mod LookLemmas
 pub mod NewcomerLemmas
 pub mod SeatRunLemmas
+pub mod RoomLemmas

@@ -1,0 +1,9 @@
+use Rattle.station_desk.proofs.RoomLemmas.{copy_fits, none_within}
+use Rattle.station_shared.proofs.RoomLemmas.{few}
+use Rattle.station_shared.proofs.look.Look.drop.Goals as goal
+
+pub leave-requires : goal.leave-requires
+leave-requires g c κs = let fits = copy_fits g.row.N (few g.row.N c.self.inside.small) in search none_within
+
+pub drop-leave-requires : goal.drop-leave-requires
+drop-leave-requires g c κs = let fits = copy_fits g.row.N (few g.row.N c.self.inside.small) in search none_within
