@@ -10,3 +10,4 @@ pub mod LawLemmas
 pub mod OfferLemmas
 pub mod DigestLemmas
 pub mod CatchingLemmas
+pub mod RoomLemmas

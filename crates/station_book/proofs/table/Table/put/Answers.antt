@@ -46,3 +46,9 @@ returns-in-Ok g c =
     let place : StandsAt tracks t.address (Ok i) = rw (c.in-Ok.is, ← c.self.view_is) at c.locate-place.ensures in
     let whole : refill (length tracks) tracks (set c.deref_mut.result.now i t) ≡ set tracks i t = rw c.deref_mut.ensures.value (refill_same tracks (set tracks i t) (length-set tracks i t)) in
     rw (← c.self.view_is) (whole ∙ copy_there g.row.N i t tracks place)
+
+pub locate-place-requires : goal.locate-place-requires
+locate-place-requires g c = search
+
+pub is_full-requires : goal.is_full-requires
+is_full-requires g c = search
