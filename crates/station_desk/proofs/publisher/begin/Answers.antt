@@ -1,4 +1,4 @@
-use Rattle.std.proofs.Common.{◌≡◌, rules, ap, ◌∙◌}
+use Rattle.std.proofs.Common.{◌≡◌, ap, ◌∙◌}
 use Rattle.station_book.specs.State.{BookState}
 use Rattle.station_book.specs.Matching.{book_after}
 use Rattle.station_desk.specs.Published.{Sheet, sheet_of}
@@ -10,8 +10,11 @@ show_spare-publisher-requires g c =
     let filled = c.in_ok-publisher in
     let after : BookState = book_after c.args.base c.args.entries.now in
     let book : filled.publisher.desk.spare.value.book ≡ after = ap (λ (s : Sheet). s.book) filled.ensures.sheet in (
-      search rules,
+      search,
       rw (filled.ensures.sheet, c.again.ensures)
           (begins g.row.N c.args.base (sheet_of filled.publisher.desk.shown.value) after c.args.front c.args.origin c.args.entries.now
           (ap (λ p. p.value.origin) filled.ensures.shown ∙ c.requires.new) c.requires.front.0 c.requires.front.1 c.requires.origin (rw book at filled.ensures.matched)),
     )
+
+pub fill_spare-requires : goal.fill_spare-requires
+fill_spare-requires g c = (search, search)

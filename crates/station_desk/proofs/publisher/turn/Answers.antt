@@ -17,3 +17,6 @@ show_as-requires-room-T-Destruct g c κs = search
 
 pub show_as-requires-room-M-Outcome : goal.show_as-requires-room-M-Outcome
 show_as-requires-room-M-Outcome g c κs = search
+
+pub renew-requires : goal.renew-requires
+renew-requires g c = search
