@@ -1,4 +1,4 @@
-use Rattle.std.proofs.Common.{◌≡◌, List, [], ◌∷◌, Option, length, rules, sym, ap, ◌∙◌, subst}
+use Rattle.std.proofs.Common.{◌≡◌, List, [], ◌∷◌, Option, length, rules, sym, ap, ◌∙◌, subst, arith}
 use Rattle.std.specs.List.{AllByRecursion}
 use Rattle.left_right.specs.Sides.{view}
 use Rattle.station_journal.specs.Follow.{IsFirstUnsound}
@@ -7,6 +7,7 @@ use Rattle.station_desk.specs.History.{base_of}
 use Rattle.station_desk.specs.Start.{Start}
 use Rattle.station_desk.specs.Published.{IsOf, Prepared}
 use Rattle.station_desk.specs.declared.published.Mark.{Mark}
+use Rattle.station_desk.proofs.RoomLemmas.{copy_fits}
 use Rattle.station_desk.proofs.StartLemmas.{sound_at, unsound_at}
 use Rattle.station_desk.proofs.places.Places.ready.Goals as goal
 
@@ -33,3 +34,9 @@ returns-in-Err-with_places-clause-err g c =
     let base : c.self.inside.base ≡ base_of c.args.self.history = sym c.self.invariant.4 ∙ ap (λ (p : Prepared). base_of p.history) c.self.view_is in
     let matched : Matches g.row.N (base_of c.args.self.history) c.in-Ok.publisher.desk.shown.value.book c.args.entries.now = subst (λ k. Matches g.row.N k c.in-Ok.publisher.desk.shown.value.book c.args.entries.now) base c.in-Ok.ensures.matched in
     sound_at c.args.limits g.row.N (base_of c.args.self.history) c.args.entries.now c.requires.aircraft c.requires.few.0 matched.sound
+
+pub begin-requires : goal.begin-requires
+begin-requires g c = (copy_fits g.row.N (omega (arith, c.self.inside.small)), search rules)
+
+pub with_places-requires : goal.with_places-requires
+with_places-requires g c = (copy_fits g.row.N (omega (arith, c.self.inside.small)), search rules)
