@@ -1,3 +1,4 @@
+pub mod Motion
 pub mod Sink
 pub mod Text
 pub mod ToWrite

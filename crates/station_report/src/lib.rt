@@ -3,10 +3,13 @@
 
 mod columns;
 mod decimals;
+pub mod laws;
 mod lines;
+mod motion;
 mod sinks;
 mod to_write;
 
 pub use lines::table;
+pub use motion::{speed_tenths, track};
 pub use sinks::{Failed, Sink, WriteFault, flush_after, write_all};
 pub use to_write::ToWrite;

@@ -10,4 +10,6 @@ mod journal;
 #[cfg(test)]
 mod known;
 #[cfg(test)]
+mod motion;
+#[cfg(test)]
 mod report;
