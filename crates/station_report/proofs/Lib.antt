@@ -1,5 +1,7 @@
+pub mod CommaLemmas
 pub mod DegreeLemmas
 pub mod LineLemmas
+pub mod MemberLemmas
 pub mod PaddingLemmas
 pub mod RootLemmas
 pub mod RowLemmas

@@ -1,3 +1,4 @@
+pub mod Json
 pub mod Motion
 pub mod Sink
 pub mod Text

@@ -3,6 +3,7 @@
 ghost use Rattle.std.specs.Prelude.{◌≡◌, true};
 ghost use Rattle.station_report.specs.Text.{IsPrintableRow};
 
+mod json;
 mod sinks;
 
 use modes_cpr::{Degrees, Position};

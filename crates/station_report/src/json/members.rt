@@ -1,0 +1,204 @@
+//! The members of an aircraft, each behind a comma. An absent field has none.
+
+ghost use Rattle.std.specs.Prelude.{◌≡◌, ◌+◌, ◌≤◌, ◌++◌, length, IfSome};
+ghost use Rattle.std.specs.Fmt.{signed_decimal};
+ghost use Rattle.arrayvec.specs.ArrayVec.{array_vec_len};
+ghost use Rattle.modes_cpr.specs.Pair.{IsWhole};
+ghost use Rattle.station_report.specs.Json.{if_known, flight, altitude, track_member, ground, airspeed_key, air, moving, rate, squawk, seen_pos, place};
+
+use crate::columns::{
+    callsign_field, decimal_field, latitude_field, longitude_field, signed_field, squawk_field,
+};
+use crate::decimals::Field;
+use crate::json::numbers::{seconds_field, tenths_field};
+use crate::motion::{speed_tenths, track};
+use arrayvec::ArrayVec;
+use modes_cpr::Position;
+use modes_fields::{Callsign, Squawk, Velocity};
+
+/// The text of an aircraft.
+pub(crate) type Object = ArrayVec<u8, 640>;
+
+/// Appends a text that the object has room for.
+pub(crate) fn push_text(object: &mut Object, text: &[u8])
+    requires { array_vec_len object.old + length text.now ≤ 640 }
+    ensures items { object.new.items ≡ object.old.items ++ text.now }
+    ensures len { array_vec_len object.new ≡ array_vec_len object.old + length text.now }
+{
+    let _fits = object.try_extend_from_slice(text);
+}
+
+/// Appends a key, with what is before and after it, and a value.
+pub(crate) fn push_member(object: &mut Object, key: &[u8], value: &Field)
+    requires { array_vec_len object.old + length key.now + 32 ≤ 640 }
+    ensures items { object.new.items ≡ object.old.items ++ key.now ++ value.now.items }
+    ensures len { array_vec_len object.new ≤ array_vec_len object.old + length key.now + 32 }
+{
+    push_text(object, key);
+    push_text(object, value.as_slice());
+}
+
+/// Appends `flight`.
+#[tactic(auto, unfolding(crate::specs::Json::flight))]
+pub(crate) fn push_flight(object: &mut Object, callsign: Option<Callsign>)
+    requires { array_vec_len object.old + 48 ≤ 640 }
+    ensures items { object.new.items ≡ object.old.items ++ if_known flight callsign }
+    ensures len { array_vec_len object.new ≤ array_vec_len object.old + 48 }
+{
+    if callsign.is_some() {
+        push_member(object, b",\"flight\":\"", &callsign_field(callsign));
+        push_text(object, b"\"");
+    }
+}
+
+/// Appends `alt_baro` and `altitude`, in feet.
+#[tactic(auto, unfolding(crate::specs::Json::altitude))]
+pub(crate) fn push_altitude(object: &mut Object, feet: Option<i32>)
+    requires { array_vec_len object.old + 96 ≤ 640 }
+    ensures items { object.new.items ≡ object.old.items ++ if_known altitude feet }
+    ensures len { array_vec_len object.new ≤ array_vec_len object.old + 96 }
+{
+    if let Some(feet) = feet {
+        push_twice(object, b",\"alt_baro\":", b",\"altitude\":", feet);
+    }
+}
+
+// Appends a number under two keys.
+fn push_twice(object: &mut Object, key: &[u8], other: &[u8], n: i32)
+    requires { array_vec_len object.old + length key.now + length other.now + 64 ≤ 640 }
+    ensures items { object.new.items ≡ object.old.items ++ (key.now ++ signed_decimal n ++ other.now ++ signed_decimal n) }
+    ensures len { array_vec_len object.new ≤ array_vec_len object.old + length key.now + length other.now + 64 }
+{
+    let number = signed_field(Some(n));
+    push_member(object, key, &number);
+    push_member(object, other, &number);
+}
+
+/// Appends `gs`, `speed` and `track`, or `mag_heading` and an airspeed.
+pub(crate) fn push_velocity(object: &mut Object, velocity: Option<Velocity>)
+    requires { array_vec_len object.old + 128 ≤ 640 }
+    ensures items { object.new.items ≡ object.old.items ++ if_known moving velocity }
+    ensures len { array_vec_len object.new ≤ array_vec_len object.old + 128 }
+{
+    match velocity {
+        None => {}
+        Some(Velocity::Ground { east, north }) => push_ground(object, east, north),
+        Some(
+            Velocity::Air {
+                heading,
+                is_true,
+                speed,
+            },
+        ) => push_air(object, heading, is_true, speed),
+    }
+}
+
+#[tactic(auto, unfolding(crate::specs::Json::ground))]
+fn push_ground(object: &mut Object, east: i16, north: i16)
+    requires { array_vec_len object.old + 128 ≤ 640 }
+    ensures items { object.new.items ≡ object.old.items ++ ground east north }
+    ensures len { array_vec_len object.new ≤ array_vec_len object.old + 128 }
+{
+    let speed = speed_tenths(east, north);
+    push_member(object, b",\"gs\":", &tenths_field(speed));
+    push_member(
+        object,
+        b",\"speed\":",
+        &decimal_field(u64::from(speed / 10)),
+    );
+    push_track(object, track(east, north));
+}
+
+#[tactic(auto, unfolding(crate::specs::Json::track_member))]
+fn push_track(object: &mut Object, degrees: Option<u16>)
+    requires { array_vec_len object.old + 48 ≤ 640 }
+    ensures items { object.new.items ≡ object.old.items ++ if_known track_member degrees }
+    ensures len { array_vec_len object.new ≤ array_vec_len object.old + 48 }
+{
+    if let Some(degrees) = degrees {
+        push_member(object, b",\"track\":", &decimal_field(u64::from(degrees)));
+    }
+}
+
+// The heading in 1/1024 of a turn, as tenths of a degree, rounded down.
+#[tactic(auto, unfolding(crate::specs::Json::air))]
+fn push_air(object: &mut Object, heading: u16, is_true: bool, speed: u16)
+    requires { array_vec_len object.old + 128 ≤ 640 }
+    ensures items { object.new.items ≡ object.old.items ++ air heading is_true speed }
+    ensures len { array_vec_len object.new ≤ array_vec_len object.old + 128 }
+{
+    let tenths = u32::from(heading) * 3600 / 1024;
+    push_member(object, b",\"mag_heading\":", &tenths_field(tenths));
+    push_member(
+        object,
+        airspeed_key(is_true),
+        &decimal_field(u64::from(speed)),
+    );
+}
+
+fn airspeed_key(is_true: bool) -> &'static [u8]
+    ensures key { result.now ≡ airspeed_key is_true }
+    ensures len { length result.now ≤ 8 }
+{
+    if is_true { b",\"tas\":" } else { b",\"ias\":" }
+}
+
+/// Appends `baro_rate` and `vert_rate`, in feet per minute.
+#[tactic(auto, unfolding(crate::specs::Json::rate))]
+pub(crate) fn push_rate(object: &mut Object, feet: Option<i32>)
+    requires { array_vec_len object.old + 96 ≤ 640 }
+    ensures items { object.new.items ≡ object.old.items ++ if_known rate feet }
+    ensures len { array_vec_len object.new ≤ array_vec_len object.old + 96 }
+{
+    if let Some(feet) = feet {
+        push_twice(object, b",\"baro_rate\":", b",\"vert_rate\":", feet);
+    }
+}
+
+/// Appends `squawk`.
+#[tactic(auto, unfolding(crate::specs::Json::squawk))]
+pub(crate) fn push_squawk(object: &mut Object, code: Option<Squawk>)
+    requires { array_vec_len object.old + 48 ≤ 640 }
+    ensures items { object.new.items ≡ object.old.items ++ if_known squawk code }
+    ensures len { array_vec_len object.new ≤ array_vec_len object.old + 48 }
+{
+    if code.is_some() {
+        push_member(object, b",\"squawk\":\"", &squawk_field(code));
+        push_text(object, b"\"");
+    }
+}
+
+/// Appends `lat` and `lon`, and `seen_pos` where the time of the position is known.
+#[tactic(auto, unfolding(crate::specs::Json::place))]
+pub(crate) fn push_place(
+    object: &mut Object,
+    now: u64,
+    placed: Option<u64>,
+    position: Option<Position>,
+)
+    requires whole { IfSome position IsWhole }
+    requires room { array_vec_len object.old + 128 ≤ 640 }
+    ensures items { object.new.items ≡ object.old.items ++ if_known (place now placed) position }
+    ensures len { array_vec_len object.new ≤ array_vec_len object.old + 128 }
+{
+    if position.is_some() {
+        push_member(object, b",\"lat\":", &latitude_field(position));
+        push_member(object, b",\"lon\":", &longitude_field(position));
+        push_seen_pos(object, now, placed);
+    }
+}
+
+#[tactic(auto, unfolding(crate::specs::Json::seen_pos))]
+fn push_seen_pos(object: &mut Object, now: u64, placed: Option<u64>)
+    requires { array_vec_len object.old + 48 ≤ 640 }
+    ensures items { object.new.items ≡ object.old.items ++ if_known (seen_pos now) placed }
+    ensures len { array_vec_len object.new ≤ array_vec_len object.old + 48 }
+{
+    if let Some(at) = placed {
+        push_member(
+            object,
+            b",\"seen_pos\":",
+            &seconds_field(u128::from(now.saturating_sub(at))),
+        );
+    }
+}

@@ -1,0 +1,240 @@
+//! Tables as JSON, with known texts.
+
+use super::{BARE, identified, is_printable, over_ground, placed, squawking, through_air};
+use station_journal::{Aircraft, Rows};
+use station_report::{PlacedRows, ToWrite, table_json};
+use std::alloc::Global;
+use std::process::Abort;
+use std::test::Fail;
+
+// A table of one row, and the time of its position.
+#[derive(Drop)]
+struct OnePlaced(Aircraft, Option<u64>);
+
+impl Rows for OnePlaced {
+    ghost use Rattle.std.specs.Prelude.{[], ◌∷◌};
+
+    ghost rows = { λ r. r.0 ∷ [] };
+
+    fn len(&self) -> usize {
+        1
+    }
+
+    fn row(&self, _i: usize) -> Aircraft {
+        self.0
+    }
+}
+
+impl PlacedRows for OnePlaced {
+    ghost use Rattle.std.specs.Prelude.{[], ◌∷◌};
+
+    ghost moments = { λ r. r.1 ∷ [] };
+
+    fn placed(&self, _i: usize) -> Option<u64> {
+        self.1
+    }
+}
+
+// A table of two rows without positions.
+#[derive(Drop)]
+struct Two(Aircraft, Aircraft);
+
+impl Rows for Two {
+    ghost use Rattle.std.specs.Prelude.{[], ◌∷◌};
+
+    ghost rows = { λ r. r.0 ∷ r.1 ∷ [] };
+
+    fn len(&self) -> usize {
+        2
+    }
+
+    fn row(&self, i: usize) -> Aircraft {
+        if i == 0 { self.0 } else { self.1 }
+    }
+}
+
+impl PlacedRows for Two {
+    ghost use Rattle.std.specs.Prelude.{[], ◌∷◌, None};
+
+    ghost moments = { λ r. None ∷ None ∷ [] };
+
+    fn placed(&self, _i: usize) -> Option<u64> {
+        None
+    }
+}
+
+// A table without rows.
+#[derive(Drop)]
+struct Empty;
+
+impl Rows for Empty {
+    ghost use Rattle.std.specs.Prelude.{[]};
+
+    ghost rows = { λ r. [] };
+
+    fn len(&self) -> usize {
+        0
+    }
+
+    fn row(&self, _i: usize) -> Aircraft {
+        BARE
+    }
+}
+
+impl PlacedRows for Empty {
+    ghost use Rattle.std.specs.Prelude.{[]};
+
+    ghost moments = { λ r. [] };
+
+    fn placed(&self, _i: usize) -> Option<u64> {
+        None
+    }
+}
+
+// An aircraft, the time of its position, the time at which its table is written in milliseconds and in seconds, and its
+// object there.
+type Row<'a> = (Aircraft, Option<u64>, u64, &'a str, &'a str);
+
+fn have_their_objects(rt: &impl Abort, alloc: Global, rows: &[Row<'_>]) -> Result<(), Fail> {
+    for (aircraft, at, now, seconds, object) in rows {
+        assert!(rt; is_printable(*now, *aircraft), "{object}");
+        let mut sink = ToWrite::new(Vec::new(alloc));
+        let table = OnePlaced(*aircraft, *at);
+        assert_eq!(rt;
+            table_json(&table, *now, 0, 7, &mut sink),
+            Ok(()),
+            "{object}"
+        );
+        let text = format!(in alloc;
+            "{{\"now\":{seconds},\"messages\":7,\"aircraft\":[{object}]}}\n"
+        )?;
+        assert_eq!(rt; sink.into_inner().as_slice(), text.as_bytes(), "{object}");
+    }
+    Ok(())
+}
+
+#[test]
+fn each_field_has_its_members(rt: HostRuntime) -> Result<(), Fail> {
+    let rows = [
+        (
+            identified(1000),
+            None,
+            61_000,
+            "61.000",
+            "{\"hex\":\"4840d6\",\"flight\":\"KLM1023\",\"seen\":60.000}",
+        ),
+        (
+            squawking(),
+            None,
+            1,
+            "0.001",
+            "{\"hex\":\"510af9\",\"squawk\":\"0356\",\"seen\":0.001}",
+        ),
+        (
+            over_ground(-8, -159),
+            None,
+            0,
+            "0.000",
+            "{\"hex\":\"485020\",\"gs\":159.2,\"speed\":159,\"track\":183,\"baro_rate\":-832,\"vert_rate\":-832,\"seen\":0.000}",
+        ),
+        (
+            over_ground(0, 0),
+            None,
+            0,
+            "0.000",
+            "{\"hex\":\"485020\",\"gs\":0.0,\"speed\":0,\"baro_rate\":-832,\"vert_rate\":-832,\"seen\":0.000}",
+        ),
+        (
+            through_air(true),
+            None,
+            0,
+            "0.000",
+            "{\"hex\":\"a05f21\",\"mag_heading\":243.9,\"tas\":375,\"baro_rate\":-2304,\"vert_rate\":-2304,\"seen\":0.000}",
+        ),
+        (
+            through_air(false),
+            None,
+            0,
+            "0.000",
+            "{\"hex\":\"a05f21\",\"mag_heading\":243.9,\"ias\":375,\"baro_rate\":-2304,\"vert_rate\":-2304,\"seen\":0.000}",
+        ),
+    ];
+    have_their_objects(&rt, rt.alloc(), &rows)
+}
+
+// An aircraft just south of the equator, at 180 degrees.
+fn west() -> Aircraft {
+    placed((-79, 7864320), (-1391984640, 7733248))
+}
+
+// A time that is to come is 0 seconds ago, and one that isn't known has no member.
+#[test]
+fn positions_have_their_times(rt: HostRuntime) -> Result<(), Fail> {
+    let climbing = Aircraft {
+        address: 0x40621D,
+        altitude: Some(38000),
+        heard: 1000,
+        ..placed((404184240, 7733248), (18069840, 4587520))
+    };
+    let rows = [
+        (
+            climbing,
+            Some(0),
+            1234,
+            "1.234",
+            "{\"hex\":\"40621d\",\"alt_baro\":38000,\"altitude\":38000,\"lat\":52.26578,\"lon\":3.93891,\"seen_pos\":1.234,\"seen\":0.234}",
+        ),
+        (
+            west(),
+            Some(60),
+            50,
+            "0.050",
+            "{\"hex\":\"4840d6\",\"lat\":-0.00001,\"lon\":-180.00000,\"seen_pos\":0.000,\"seen\":0.050}",
+        ),
+        (
+            west(),
+            None,
+            0,
+            "0.000",
+            "{\"hex\":\"4840d6\",\"lat\":-0.00001,\"lon\":-180.00000,\"seen\":0.000}",
+        ),
+        (
+            BARE,
+            Some(0),
+            0,
+            "0.000",
+            "{\"hex\":\"4840d6\",\"seen\":0.000}",
+        ),
+    ];
+    have_their_objects(&rt, rt.alloc(), &rows)
+}
+
+#[test]
+fn two_aircraft_have_a_comma_between_them(rt: HostRuntime) -> Result<(), Fail> {
+    let table = Two(BARE, squawking());
+    assert!(rt; is_printable(1234, table.0) && is_printable(1234, table.1));
+    let mut sink = ToWrite::new(Vec::new(rt.alloc()));
+    let origin = 1_700_000_000_000;
+    assert_eq!(rt; table_json(&table, 1234, origin, 3, &mut sink), Ok(()));
+    let text = concat!(
+        "{\"now\":1700000001.234,\"messages\":3,\"aircraft\":[",
+        "{\"hex\":\"4840d6\",\"seen\":1.234},",
+        "{\"hex\":\"510af9\",\"squawk\":\"0356\",\"seen\":1.234}]}\n",
+    );
+    assert_eq!(rt; sink.into_inner().as_slice(), text.as_bytes());
+    Ok(())
+}
+
+// The sum of the largest times doesn't wrap.
+#[test]
+fn a_table_without_aircraft_is_an_empty_list(rt: HostRuntime) -> Result<(), Fail> {
+    let mut sink = ToWrite::new(Vec::new(rt.alloc()));
+    assert_eq!(rt;
+        table_json(&Empty, u64::MAX, u64::MAX, u64::MAX, &mut sink),
+        Ok(())
+    );
+    let text =
+        "{\"now\":36893488147419103.230,\"messages\":18446744073709551615,\"aircraft\":[]}\n";
+    assert_eq!(rt; sink.into_inner().as_slice(), text.as_bytes());
+    Ok(())
+}
