@@ -63,34 +63,6 @@ impl PlacedRows for Two {
     }
 }
 
-// A table without rows.
-#[derive(Drop)]
-struct Empty;
-
-impl Rows for Empty {
-    ghost use Rattle.std.specs.Prelude.{[]};
-
-    ghost rows = { λ r. [] };
-
-    fn len(&self) -> usize {
-        0
-    }
-
-    fn row(&self, _i: usize) -> Aircraft {
-        BARE
-    }
-}
-
-impl PlacedRows for Empty {
-    ghost use Rattle.std.specs.Prelude.{[]};
-
-    ghost moments = { λ r. [] };
-
-    fn placed(&self, _i: usize) -> Option<u64> {
-        None
-    }
-}
-
 // An aircraft, the time of its position, the time at which its table is written in milliseconds and in seconds, and its
 // object there.
 type Row<'a> = (Aircraft, Option<u64>, u64, &'a str, &'a str);
@@ -114,49 +86,56 @@ fn have_their_objects(rt: &impl Abort, alloc: Global, rows: &[Row<'_>]) -> Resul
 }
 
 #[test]
-fn each_field_has_its_members(rt: HostRuntime) -> Result<(), Fail> {
+fn callsigns_and_squawks_have_their_members(rt: HostRuntime) -> Result<(), Fail> {
     let rows = [
         (
             identified(1000),
             None,
             61_000,
             "61.000",
-            "{\"hex\":\"4840d6\",\"flight\":\"KLM1023\",\"seen\":60.000}",
+            r#"{"hex":"4840d6","flight":"KLM1023","seen":60.000}"#,
         ),
         (
             squawking(),
             None,
             1,
             "0.001",
-            "{\"hex\":\"510af9\",\"squawk\":\"0356\",\"seen\":0.001}",
+            r#"{"hex":"510af9","squawk":"0356","seen":0.001}"#,
         ),
+    ];
+    have_their_objects(&rt, rt.alloc(), &rows)
+}
+
+#[test]
+fn velocities_have_their_members(rt: HostRuntime) -> Result<(), Fail> {
+    let rows = [
         (
             over_ground(-8, -159),
             None,
             0,
             "0.000",
-            "{\"hex\":\"485020\",\"gs\":159.2,\"speed\":159,\"track\":183,\"baro_rate\":-832,\"vert_rate\":-832,\"seen\":0.000}",
+            r#"{"hex":"485020","gs":159.2,"speed":159,"track":183,"baro_rate":-832,"vert_rate":-832,"seen":0.000}"#,
         ),
         (
             over_ground(0, 0),
             None,
             0,
             "0.000",
-            "{\"hex\":\"485020\",\"gs\":0.0,\"speed\":0,\"baro_rate\":-832,\"vert_rate\":-832,\"seen\":0.000}",
+            r#"{"hex":"485020","gs":0.0,"speed":0,"baro_rate":-832,"vert_rate":-832,"seen":0.000}"#,
         ),
         (
             through_air(true),
             None,
             0,
             "0.000",
-            "{\"hex\":\"a05f21\",\"mag_heading\":243.9,\"tas\":375,\"baro_rate\":-2304,\"vert_rate\":-2304,\"seen\":0.000}",
+            r#"{"hex":"a05f21","mag_heading":243.9,"tas":375,"baro_rate":-2304,"vert_rate":-2304,"seen":0.000}"#,
         ),
         (
             through_air(false),
             None,
             0,
             "0.000",
-            "{\"hex\":\"a05f21\",\"mag_heading\":243.9,\"ias\":375,\"baro_rate\":-2304,\"vert_rate\":-2304,\"seen\":0.000}",
+            r#"{"hex":"a05f21","mag_heading":243.9,"ias":375,"baro_rate":-2304,"vert_rate":-2304,"seen":0.000}"#,
         ),
     ];
     have_their_objects(&rt, rt.alloc(), &rows)
@@ -182,28 +161,28 @@ fn positions_have_their_times(rt: HostRuntime) -> Result<(), Fail> {
             Some(0),
             1234,
             "1.234",
-            "{\"hex\":\"40621d\",\"alt_baro\":38000,\"altitude\":38000,\"lat\":52.26578,\"lon\":3.93891,\"seen_pos\":1.234,\"seen\":0.234}",
+            r#"{"hex":"40621d","alt_baro":38000,"altitude":38000,"lat":52.26578,"lon":3.93891,"seen_pos":1.234,"seen":0.234}"#,
         ),
         (
             west(),
             Some(60),
             50,
             "0.050",
-            "{\"hex\":\"4840d6\",\"lat\":-0.00001,\"lon\":-180.00000,\"seen_pos\":0.000,\"seen\":0.050}",
+            r#"{"hex":"4840d6","lat":-0.00001,"lon":-180.00000,"seen_pos":0.000,"seen":0.050}"#,
         ),
         (
             west(),
             None,
             0,
             "0.000",
-            "{\"hex\":\"4840d6\",\"lat\":-0.00001,\"lon\":-180.00000,\"seen\":0.000}",
+            r#"{"hex":"4840d6","lat":-0.00001,"lon":-180.00000,"seen":0.000}"#,
         ),
         (
             BARE,
             Some(0),
             0,
             "0.000",
-            "{\"hex\":\"4840d6\",\"seen\":0.000}",
+            r#"{"hex":"4840d6","seen":0.000}"#,
         ),
     ];
     have_their_objects(&rt, rt.alloc(), &rows)
@@ -217,24 +196,35 @@ fn two_aircraft_have_a_comma_between_them(rt: HostRuntime) -> Result<(), Fail> {
     let origin = 1_700_000_000_000;
     assert_eq!(rt; table_json(&table, 1234, origin, 3, &mut sink), Ok(()));
     let text = concat!(
-        "{\"now\":1700000001.234,\"messages\":3,\"aircraft\":[",
-        "{\"hex\":\"4840d6\",\"seen\":1.234},",
+        r#"{"now":1700000001.234,"messages":3,"aircraft":["#,
+        r#"{"hex":"4840d6","seen":1.234},"#,
         "{\"hex\":\"510af9\",\"squawk\":\"0356\",\"seen\":1.234}]}\n",
     );
     assert_eq!(rt; sink.into_inner().as_slice(), text.as_bytes());
     Ok(())
 }
 
-// The sum of the largest times doesn't wrap.
+// An aircraft that was heard at the largest time.
+fn heard_last() -> Aircraft {
+    Aircraft {
+        heard: u64::MAX,
+        ..BARE
+    }
+}
+
 #[test]
-fn a_table_without_aircraft_is_an_empty_list(rt: HostRuntime) -> Result<(), Fail> {
+fn the_sum_of_the_largest_times_does_not_wrap(rt: HostRuntime) -> Result<(), Fail> {
+    let table = OnePlaced(heard_last(), None);
+    assert!(rt; is_printable(u64::MAX, table.0));
     let mut sink = ToWrite::new(Vec::new(rt.alloc()));
     assert_eq!(rt;
-        table_json(&Empty, u64::MAX, u64::MAX, u64::MAX, &mut sink),
+        table_json(&table, u64::MAX, u64::MAX, u64::MAX, &mut sink),
         Ok(())
     );
-    let text =
-        "{\"now\":36893488147419103.230,\"messages\":18446744073709551615,\"aircraft\":[]}\n";
+    let text = concat!(
+        r#"{"now":36893488147419103.230,"messages":18446744073709551615,"aircraft":["#,
+        "{\"hex\":\"4840d6\",\"seen\":0.000}]}\n",
+    );
     assert_eq!(rt; sink.into_inner().as_slice(), text.as_bytes());
     Ok(())
 }
