@@ -18,6 +18,7 @@ use Rattle.station_lines.specs.declared.pumping.PumpFault.{PumpFault}
 use Rattle.station_lines.specs.declared.tally.Tally.{Tally}
 use Rattle.station_desk.proofs.StartLemmas.{sound_at, sound_front}
 use Rattle.station_main.specs.Limits.{program_limits}
+use Rattle.station_main.specs.Recorded.{Recording}
 use Rattle.station_main.specs.Rounds.{Asked, Given, GoesOnFrom, HandsOn, IsCutShort, KeepsRecent, IsRound, Runs}
 use Rattle.station_main.specs.Run.{Leaves}
 use Rattle.station_main.specs.Status.{answer_status, fault_status}
@@ -36,8 +37,8 @@ wants_memory limits base entries (Unsound k) sound refuses other =
 wants_memory limits base entries NoMemory sound refuses other = other refl
 
 -- what is kept of a station under the limits of the program may be resumed from under them
-pub kept_sound : (start : Start) (closing : Seated) (kept : Given) → start.limits ≡ program_limits → KeepsRecent start closing kept → IsSound program_limits kept.base (reverse kept.entries)
-kept_sound start closing kept limits is =
+pub kept_sound : (start : Start) (closing : Seated) (kept : Given) (was recorded : Option Recording) → start.limits ≡ program_limits → KeepsRecent start closing kept was recorded → IsSound program_limits kept.base (reverse kept.entries)
+kept_sound start closing kept was recorded limits is =
     let base = base_of start.history in
     let past = reverse is.journal in
     let stands = recent_stands start.limits base past (sound_from_legal start.limits base start.resumed past is.legal) in
@@ -72,13 +73,13 @@ receiver_seats entries count inputs seats others last split made many =
 -- ---- rounds
 
 -- a round, by its output and what is printed at its end
-pub is_round : {W : Type 0} (asked : Asked) (given : Given) (start : Start) (closing : Seated) (before after : Option (List ℕ)) (answer : W → Option (Result Tally PumpFault)) (ws : List W) (has_failed : Bool)
+pub is_round : {W : Type 0} (asked : Asked) (given : Given) (start : Start) (closing : Seated) (before after : Option (List ℕ)) (was recorded : Option Recording) (answer : W → Option (Result Tally PumpFault)) (ws : List W) (has_failed : Bool)
     (err_old err_new : Told) (status : ℕ) → GoesOnFrom given start → length ws ≡ asked.inputs
-    → Leaves start asked.every given.last_tick (newcomer given.entries asked.inputs) closing before after has_failed
+    → Leaves start asked.every given.last_tick (newcomer given.entries asked.inputs) closing before after was recorded has_failed
     → Tells err_old err_new (flat_map (λ w. answer_lines (answer w)) ws ++ output_lines has_failed)
     → status ≡ max (fold (λ worst w. max worst (answer_status (answer w))) 0 ws) (fault_status has_failed)
-    → IsRound asked given start closing before after err_old err_new status
-is_round asked given start closing before after answer ws has_failed err_old err_new status goes_on many output told is = record {
+    → IsRound asked given start closing before after was recorded err_old err_new status
+is_round asked given start closing before after was recorded answer ws has_failed err_old err_new status goes_on many output told is = record {
   goes_on = goes_on;
   ends = record {
     has_failed = has_failed;
@@ -90,14 +91,14 @@ is_round asked given start closing before after answer ws has_failed err_old err
   };
 }
 
-pub cut_short : (asked : Asked) (more : ℕ) (given : Given) (before : Option (List ℕ)) (after : Option (Option (List ℕ))) (err_old err_new : Told) (status : ℕ) → 0 < more
-    → IsCutShort asked given before after err_old err_new status → Runs asked more given before after err_old err_new status
-cut_short asked zero given before after err_old err_new status some cut = absurd (omega (arith, some))
-cut_short asked (suc more) given before after err_old err_new status some cut = inr cut
+pub cut_short : (asked : Asked) (more : ℕ) (given : Given) (before : Option (List ℕ)) (after : Option (Option (List ℕ))) (was is : Option Recording) (err_old err_new : Told) (status : ℕ) → 0 < more
+    → IsCutShort asked given before after was is err_old err_new status → Runs asked more given before after was is err_old err_new status
+cut_short asked zero given before after was is err_old err_new status some cut = absurd (omega (arith, some))
+cut_short asked (suc more) given before after was is err_old err_new status some cut = inr cut
 
-pub one_more_round : (asked : Asked) (more left : ℕ) (given kept : Given) (before mid : Option (List ℕ)) (after : Option (Option (List ℕ))) (err_old err_mid err_new : Told) (status : ℕ) → more ≡ left + 1
-    → HandsOn asked given before mid err_old err_mid kept → Runs asked left kept mid after err_mid err_new status → Runs asked more given before after err_old err_new status
-one_more_round asked zero left given kept before mid after err_old err_mid err_new status is hands runs = absurd (omega (arith, is))
-one_more_round asked (suc more) left given kept before mid after err_old err_mid err_new status is hands runs =
-    let same : left ≡ more = omega (arith, is) in
-    inl (mid, err_mid, kept, hands, subst (λ k. Runs asked k kept mid after err_mid err_new status) same runs)
+pub one_more_round : (asked : Asked) (more left : ℕ) (given kept : Given) (before mid : Option (List ℕ)) (after : Option (Option (List ℕ))) (was recorded is : Option Recording) (err_old err_mid err_new : Told) (status : ℕ)
+    → more ≡ left + 1 → HandsOn asked given before mid was recorded err_old err_mid kept → Runs asked left kept mid after recorded is err_mid err_new status → Runs asked more given before after was is err_old err_new status
+one_more_round asked zero left given kept before mid after was recorded is err_old err_mid err_new status one hands runs = absurd (omega (arith, one))
+one_more_round asked (suc more) left given kept before mid after was recorded is err_old err_mid err_new status one hands runs =
+    let same : left ≡ more = omega (arith, one) in
+    inl (mid, recorded, err_mid, kept, hands, subst (λ k. Runs asked k kept mid after recorded is err_mid err_new status) same runs)

@@ -10,9 +10,11 @@ use Rattle.station_desk.specs.Start.{Start}
 use Rattle.station_shared.specs.Seats.{Seated, Looks, newcomer, newcomers}
 use Rattle.station_main.specs.Status.{answer_status, fault_status}
 use Rattle.station_main.specs.Output.{Printed}
+use Rattle.station_main.specs.Recorded.{IfRecording, Recording, Records, seen_by}
 use Rattle.station_main.specs.Reporter.{ReportsByAClock, looks_of}
 use Rattle.station_main.specs.Run.{LastLook, Leaves, PrintsLast}
 use Rattle.station_main.specs.Tables.{TakesTexts}
+use Rattle.station_main.proofs.RecordedLemmas.{one-more-look}
 use Rattle.station_main.proofs.ReportLemmas.{printed_at_most}
 
 -- a vector that was lent as a slice
@@ -34,25 +36,30 @@ one_look station mid new None (inr p) = absurd (search rules)
 one_look station mid new (Some l) (inl p) = absurd (search rules)
 one_look station mid new (Some l) (inr p) = let same : new ≡ l = cc in (Some l, refl, sym same, subst (λ s. Looks station mid s) same p.1)
 
-pub leaves : (station : Start) (every last_tick : ℕ) (first mid closing : Seated) (start before : Printed) (after : Option (List ℕ)) (failed_before has_failed : Bool)
-    → ReportsByAClock station every last_tick first mid start before failed_before → PrintsLast station mid closing before failed_before after has_failed
-    → Leaves station every last_tick first closing start.taken after has_failed
-leaves station every last_tick first mid closing start before after true has_failed reports prints = record {
-  mid = mid;
-  moments = reports.0;
-  showings = reports.1.showings;
-  keeps = reports.1.keeps;
-  failed_before = true;
-  last = [];
-  looks = (refl, prints.0);
-  between = before.taken;
-  write_failed = true;
-  takes = subst (λ ls. TakesTexts station ls start.taken before.taken true) (sym (append-nil (looks_of reports.1.showings))) reports.1.takes;
-  gives = prints.1;
-  told = λ _. prints.2;
-}
-leaves station every last_tick first mid closing start before after false has_failed reports prints =
-    let p = printed_at_most station (looks_of reports.1.showings) mid closing start before prints.sink prints.result reports.1.takes reports.1.failures prints.prints in
+pub leaves : (station : Start) (every last_tick : ℕ) (first mid closing : Seated) (start before : Printed) (after : Option (List ℕ)) (was shown is : Option Recording) (failed_before has_failed : Bool)
+    → ReportsByAClock station every last_tick first mid start before was shown failed_before → PrintsLast station mid closing before failed_before after shown is has_failed
+    → Leaves station every last_tick first closing start.taken after was is has_failed
+leaves station every last_tick first mid closing start before after was shown is true has_failed reports prints =
+    let looks = looks_of reports.1.showings in
+    record {
+      mid = mid;
+      moments = reports.0;
+      showings = reports.1.showings;
+      keeps = reports.1.keeps;
+      failed_before = true;
+      last = [];
+      looks = (refl, prints.0);
+      between = before.taken;
+      write_failed = true;
+      takes = subst (λ ls. TakesTexts station ls start.taken before.taken true) (sym (append-nil looks)) reports.1.takes;
+      records = subst (λ (ls : List (Option Seated)). IfRecording (Records (seen_by ls)) was is) (sym (append-nil looks))
+          (subst (λ (o : Option Recording). IfRecording (Records (seen_by looks)) was o) (sym prints.1) reports.1.records);
+      gives = prints.2;
+      told = λ _. prints.3;
+    }
+leaves station every last_tick first mid closing start before after was shown is false has_failed reports prints =
+    let looks = looks_of reports.1.showings in
+    let p = printed_at_most station looks mid closing start before prints.sink shown is prints.result reports.1.takes reports.1.failures prints.prints in
     record {
       mid = mid;
       moments = reports.0;
@@ -64,6 +71,7 @@ leaves station every last_tick first mid closing start before after false has_fa
       between = prints.sink.taken;
       write_failed = is_err prints.result;
       takes = p.takes;
+      records = one-more-look looks p.look was shown is reports.1.records p.records;
       gives = prints.gives;
       told = prints.told;
     }

@@ -7,6 +7,7 @@ use Rattle.station_desk.specs.History.{Known}
 use Rattle.station_desk.specs.Start.{Start}
 use Rattle.station_shared.specs.Seats.{Seated, Accepted, Refused, Looks}
 use Rattle.station_main.specs.Output.{Printed}
+use Rattle.station_main.specs.Recorded.{IfRecording, Recording, Records, seen_by}
 use Rattle.station_main.specs.Tables.{TakesTexts, failures_after}
 use Rattle.station_main.specs.declared.schedule.Act.{Act}
 use Rattle.station_main.specs.declared.schedule.Act.TheVariants.{Sleep, Print}
@@ -63,13 +64,15 @@ pub record KeepsTime (start : Start) (every last : ℕ) (moments : List ℕ) (ol
   pub due : map (λ (showing : Showing). showing.at) showings ≡ due_moments every (next_moment every last) moments
   pub walk : Showings start old showings new
 
--- a reporter whose clock gave these times, from one seat to another
-pub record Reports (start : Start) (every last : ℕ) (moments : List ℕ) (old new : Seated) (before after : Printed) (has_failed : Bool) : Type 0 where
+-- a reporter whose clock gave these times, from one seat to another; the record goes on with what its looks have seen
+pub record Reports (start : Start) (every last : ℕ) (moments : List ℕ) (old new : Seated) (before after : Printed) (was is : Option Recording) (has_failed : Bool) : Type 0 where
   pub showings : List Showing
   pub keeps : KeepsTime start every last moments old showings new
   pub takes : TakesTexts start (looks_of showings) before.taken after.taken has_failed
   pub failures : after.failures ≡ failures_after has_failed before.failures
+  pub records : IfRecording (Records (seen_by (looks_of showings))) was is
 
 -- a reporter by some clock
-abbrev pub ReportsByAClock : Start → ℕ → ℕ → Seated → Seated → Printed → Printed → Bool → Type 0
-ReportsByAClock start every last old new before after has_failed = (moments : List ℕ) × Reports start every last moments old new before after has_failed
+abbrev pub ReportsByAClock : Start → ℕ → ℕ → Seated → Seated → Printed → Printed → Option Recording → Option Recording → Bool → Type 0
+ReportsByAClock start every last old new before after was is has_failed =
+    (moments : List ℕ) × Reports start every last moments old new before after was is has_failed

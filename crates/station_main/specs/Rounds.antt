@@ -1,5 +1,5 @@
 -- What the job `run` leaves: its rounds, one after another.
-use Rattle.std.specs.Prelude.{◌≡◌, ◌≤◌, ◌⊎◌, ℕ, zero, suc, List, [], length, reverse, Option, Some, None, option_map, ⊤}
+use Rattle.std.specs.Prelude.{◌≡◌, ◌≤◌, ◌⊎◌, ℕ, zero, suc, Bool, true, false, List, [], length, max, reverse, Option, Some, None, option_map, ⊤}
 use mathlib.Core.List.{IsPrefix}
 use Rattle.station_journal.specs.declared.entry.Entry.{Entry}
 use Rattle.station_journal.specs.Log.{IsLegal, clock_of}
@@ -8,6 +8,8 @@ use Rattle.station_desk.specs.History.{base_of}
 use Rattle.station_desk.specs.Start.{Start, log_of}
 use Rattle.station_shared.specs.Seats.{Seated, newcomer}
 use Rattle.station_main.specs.Limits.{program_limits}
+use Rattle.station_main.specs.Recorded.{IfRecording, IsBlank, Recording, RecordsRest}
+use Rattle.station_main.specs.Status.{record_status}
 use Rattle.station_main.specs.Run.{Ends, EndsEarly}
 use Rattle.station_main.specs.Telling.{Tells, Told, fault_line}
 use Rattle.station_main.specs.declared.faults.Fault.{Fault}
@@ -38,25 +40,28 @@ pub record Asked : Type 0 where
   pub inputs : ℕ
 
 -- a round of a station: its reporter's seat, which comes after the inputs' seats, has seen what the round goes on from
-pub record IsRound (asked : Asked) (given : Given) (start : Start) (closing : Seated) (before after : Option (List ℕ)) (err_old err_new : Told) (status : ℕ) : Type 0 where
+pub record IsRound (asked : Asked) (given : Given) (start : Start) (closing : Seated) (before after : Option (List ℕ)) (was is : Option Recording) (err_old err_new : Told) (status : ℕ) : Type 0 where
   pub goes_on : GoesOnFrom given start
-  pub ends : Ends start asked.every given.last_tick asked.inputs (newcomer given.entries asked.inputs) closing before after err_old err_new status
+  pub ends : Ends start asked.every given.last_tick asked.inputs (newcomer given.entries asked.inputs) closing before after was is err_old err_new status
 
--- what is kept of a closed station's journal: its recent entries; the journal begins with all that a seat has seen
-pub record KeepsRecent (start : Start) (closing : Seated) (kept : Given) : Type 0 where
+-- what is kept of a closed station's journal: its recent entries; the journal begins with all that a seat has seen; the record
+-- goes on with the rest of it
+pub record KeepsRecent (start : Start) (closing : Seated) (kept : Given) (was is : Option Recording) : Type 0 where
   pub journal : List Entry
   pub legal : IsLegal (log_of start journal)
   pub shown : IsPrefix closing.seen journal
   pub base : kept.base ≡ recent_base (base_of start.history) (reverse journal)
   pub entries : reverse kept.entries ≡ recent_of (base_of start.history) (reverse journal)
   pub last_tick : kept.last_tick ≡ clock_of (log_of start journal)
+  pub records : IfRecording (RecordsRest journal (length kept.entries)) was is
 
 -- a round without a fault, and what the next goes on from
-pub record HandsOn (asked : Asked) (given : Given) (before after : Option (List ℕ)) (err_old err_new : Told) (kept : Given) : Type 0 where
+pub record HandsOn (asked : Asked) (given : Given) (before after : Option (List ℕ)) (was is : Option Recording) (err_old err_new : Told) (kept : Given) : Type 0 where
   pub start : Start
   pub closing : Seated
-  pub round : IsRound asked given start closing before after err_old err_new 0
-  pub is_kept : KeepsRecent start closing kept
+  pub shown : Option Recording
+  pub round : IsRound asked given start closing before after was shown err_old err_new 0
+  pub is_kept : KeepsRecent start closing kept shown is
 
 -- a fault between two rounds
 abbrev pub IsBetween : Fault → Type 0
@@ -67,46 +72,71 @@ IsBetween (fault.CannotOpen path) = ⊥
 IsBetween fault.Read = ⊥
 IsBetween fault.Write = ⊥
 IsBetween fault.TooManyReads = ⊥
+IsBetween (fault.CannotRecord path) = ⊥
+IsBetween fault.Record = ⊥
 
 -- a round without a fault, after which nothing could be kept
-pub record KeepsNothing (asked : Asked) (given : Given) (before after : Option (List ℕ)) (err_old err_new : Told) (status : ℕ) : Type 0 where
+pub record KeepsNothing (asked : Asked) (given : Given) (before after : Option (List ℕ)) (was is : Option Recording) (err_old err_new : Told) (status : ℕ) : Type 0 where
   pub start : Start
   pub closing : Seated
   pub err_mid : Told
-  pub round : IsRound asked given start closing before after err_old err_mid 0
+  pub round : IsRound asked given start closing before after was is err_old err_mid 0
   pub fault : Fault
   pub between : IsBetween fault
   pub told : Tells err_mid err_new (fault_line fault)
   pub status_is : status ≡ 1
 
 -- the last round; without an output nothing was read in it
-abbrev pub IsLast : Asked → Given → Option (List ℕ) → Option (Option (List ℕ)) → Told → Told → ℕ → Type 0
-IsLast asked given before None err_old err_new status = EndsEarly err_old err_new status
-IsLast asked given before (Some after) err_old err_new status =
-    (start : Start) × (closing : Seated) × IsRound asked given start closing before after err_old err_new status
+abbrev pub IsLast : Asked → Given → Option (List ℕ) → Option (Option (List ℕ)) → Option Recording → Option Recording → Told → Told → ℕ → Type 0
+IsLast asked given before None was is err_old err_new status = EndsEarly err_old err_new status
+IsLast asked given before (Some after) was is err_old err_new status =
+    (start : Start) × (closing : Seated) × IsRound asked given start closing before after was is err_old err_new status
 
 -- a round with a fault, which ends the run before its last round
-abbrev pub IsCutShort : Asked → Given → Option (List ℕ) → Option (Option (List ℕ)) → Told → Told → ℕ → Type 0
-IsCutShort asked given before None err_old err_new status = EndsEarly err_old err_new status
-IsCutShort asked given before (Some after) err_old err_new status =
-    ((start : Start) × (closing : Seated) × (status ≡ 1) × IsRound asked given start closing before after err_old err_new status)
-    ⊎ KeepsNothing asked given before after err_old err_new status
+abbrev pub IsCutShort : Asked → Given → Option (List ℕ) → Option (Option (List ℕ)) → Option Recording → Option Recording → Told → Told → ℕ → Type 0
+IsCutShort asked given before None was is err_old err_new status = EndsEarly err_old err_new status
+IsCutShort asked given before (Some after) was is err_old err_new status =
+    ((start : Start) × (closing : Seated) × (status ≡ 1) × IsRound asked given start closing before after was is err_old err_new status)
+    ⊎ KeepsNothing asked given before after was is err_old err_new status
 
 -- rounds up to the last, each from what the one before kept, or up to the first with a fault; the number is that of the
 -- rounds before the last
-abbrev pub Runs : Asked → ℕ → Given → Option (List ℕ) → Option (Option (List ℕ)) → Told → Told → ℕ → Type 0
-Runs asked zero given before after err_old err_new status = IsLast asked given before after err_old err_new status
-Runs asked (suc more) given before after err_old err_new status =
-    ((mid : Option (List ℕ)) × (err_mid : Told) × (kept : Given)
-    × HandsOn asked given before mid err_old err_mid kept × Runs asked more kept mid after err_mid err_new status)
-    ⊎ IsCutShort asked given before after err_old err_new status
+abbrev pub Runs : Asked → ℕ → Given → Option (List ℕ) → Option (Option (List ℕ)) → Option Recording → Option Recording → Told → Told → ℕ → Type 0
+Runs asked zero given before after was is err_old err_new status = IsLast asked given before after was is err_old err_new status
+Runs asked (suc more) given before after was is err_old err_new status =
+    ((mid : Option (List ℕ)) × (recorded : Option Recording) × (err_mid : Told) × (kept : Given)
+    × HandsOn asked given before mid was recorded err_old err_mid kept × Runs asked more kept mid after recorded is err_mid err_new status)
+    ⊎ IsCutShort asked given before after was is err_old err_new status
 
 -- what a round hands on to the next
 abbrev pub given_of : Kept → Given
 given_of kept = record { base = kept.recent.base; entries = kept.recent.entries.items; last_tick = kept.last_tick }
 
 -- a round that is not the last, by its answer
-abbrev pub EndsRound : {O : Type 0} → (O → Option (List ℕ)) → Asked → Given → Option (List ℕ) → Told → Told → Round O → Type 0
-EndsRound contents asked given before err_old err_new (Over ran) =
-    (ran.status ≤ 1) × IsCutShort asked given before (option_map contents ran.out) err_old err_new ran.status
-EndsRound contents asked given before err_old err_new (GoesOn out kept) = HandsOn asked given before (contents out) err_old err_new (given_of kept)
+abbrev pub EndsRound : {O : Type 0} → (O → Option (List ℕ)) → Asked → Given → Option (List ℕ) → Option Recording → Option Recording → Told → Told → Round O → Type 0
+EndsRound contents asked given before was is err_old err_new (Over ran) =
+    (ran.status ≤ 1) × IsCutShort asked given before (option_map contents ran.out) was is err_old err_new ran.status
+EndsRound contents asked given before was is err_old err_new (GoesOn out kept) =
+    HandsOn asked given before (contents out) was is err_old err_new (given_of kept)
+
+-- ---- a run with or without a record
+
+-- the record could not be begun, and nothing is read
+abbrev pub CannotRecord : Option (Option (List ℕ)) → Told → Told → ℕ → Type 0
+CannotRecord after err_old err_new status = (after ≡ None) × EndsEarly err_old err_new status
+
+-- a run with a record, which begins blank; the status is the worse of the rounds' and the record's
+pub record RunsRecorded (asked : Asked) (more : ℕ) (before : Option (List ℕ)) (after : Option (Option (List ℕ))) (alarm : Option (List ℕ)) (err_old err_new : Told) (status : ℕ) : Type 0 where
+  pub blank : Recording
+  pub is_blank : IsBlank alarm blank
+  pub left : Option Recording
+  pub of_rounds : ℕ
+  pub runs : Runs asked more nothing before after (Some blank) left err_old err_new of_rounds
+  pub status_is : status ≡ max of_rounds (record_status left)
+
+-- what was asked is done: without a record the rounds alone
+abbrev pub RunsAsked : Bool → Asked → ℕ → Option (List ℕ) → Option (Option (List ℕ)) → Option (List ℕ) → Told → Told → ℕ → Type 0
+RunsAsked false asked more before after alarm err_old err_new status =
+    (left : Option Recording) × Runs asked more nothing before after None left err_old err_new status
+RunsAsked true asked more before after alarm err_old err_new status =
+    CannotRecord after err_old err_new status ⊎ RunsRecorded asked more before after alarm err_old err_new status

@@ -1,5 +1,5 @@
 -- The tables that are printed, one and many.
-use Rattle.std.specs.Prelude.{◌≡◌, ℕ, ◌⊎◌, Bool, true, false, List, [], ◌∷◌, ◌++◌, Option, Some, None, Result, Ok}
+use Rattle.std.specs.Prelude.{◌≡◌, ℕ, Bool, true, false, List, [], ◌∷◌, ◌++◌, Option, Some, None, Result, Ok}
 use Rattle.std.specs.Io.KnownBytes.{Appends}
 use Rattle.station_journal.specs.declared.entry.Entry.{Entry}
 use Rattle.station_journal.specs.Log.{clock_of, table_of}
@@ -26,9 +26,6 @@ pub record PassesOver (old new : Seated) (before after : Printed) (result : Resu
   pub same_seat : new ≡ old
   pub same_sink : after ≡ before
   pub well : result ≡ Ok tt
-
-abbrev pub PrintsAtMost : Start → Seated → Seated → Printed → Printed → Result (Unit {0}) WriteFault → Type 0
-PrintsAtMost start old new before after result = Prints start old new before after result ⊎ PassesOver old new before after result
 
 -- ---- many tables
 

@@ -34,6 +34,8 @@ fault_words fault.NoMemory = codes "no memory"
 fault_words (fault.CannotOpen path) = codes "cannot open " ++ path.now
 fault_words fault.ThreadNotStarted = codes "thread not started"
 fault_words fault.SeatLost = codes "seat lost"
+fault_words (fault.CannotRecord path) = codes "cannot record to " ++ path.now
+fault_words fault.Record = codes "record failed"
 
 abbrev pub fault_line : Fault → List ℕ
 fault_line fault = codes "groundstation: " ++ fault_words fault ++ 10 ∷ []

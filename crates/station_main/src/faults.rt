@@ -24,6 +24,10 @@ pub enum Fault<'a> {
     ThreadNotStarted,
     /// A station got back other seats than it had given, between two rounds.
     SeatLost,
+    /// This file, as it was given, can't take a record.
+    CannotRecord(&'a str),
+    /// The record couldn't be written.
+    Record,
 }
 
 impl Display for Fault<'_> {
@@ -41,6 +45,8 @@ impl Display for Fault<'_> {
             Fault::CannotOpen(path) => write!(f, "cannot open {path}"),
             Fault::ThreadNotStarted => f.write_str("thread not started"),
             Fault::SeatLost => f.write_str("seat lost"),
+            Fault::CannotRecord(path) => write!(f, "cannot record to {path}"),
+            Fault::Record => f.write_str("record failed"),
         }
     }
 }

@@ -4,9 +4,12 @@
 mod bell;
 mod faults;
 mod kept;
+mod laws;
 mod limits;
 mod output;
 mod program;
+mod record_file;
+mod recorder;
 mod replay_job;
 mod reporter;
 mod round;
@@ -34,7 +37,8 @@ use std::time::Clock;
 
 fn main(rt: HostRuntime) -> ExitCode {
     let owned = own_words(&rt);
-    let status = answer(&rt, rt.alloc(), owned, rt.stdin(), rt.stdout(), rt.stderr());
+    let (input, out) = (rt.stdin(), rt.stdout());
+    let status = answer(&rt, rt.alloc(), owned, input, out, rt.stderr(), rt.stderr());
     ExitCode::from(status)
 }
 
@@ -43,8 +47,17 @@ fn answer<
     R: Threads + Wait + Clock + Files<File = File> + Sync,
     I: Read + Drop,
     O: Write + Send + Drop,
+    A: Write + Send + Drop,
     E: Write + Drop,
->(rt: &R, alloc: Global, owned: Result<Vec<String>, ErrorKind>, input: I, out: O, err: E) -> u8 {
+>(
+    rt: &R,
+    alloc: Global,
+    owned: Result<Vec<String>, ErrorKind>,
+    input: I,
+    out: O,
+    alarm: A,
+    err: E,
+) -> u8 {
     let mut err = StandardError::new(err);
     let owned = match owned {
         Ok(owned) => owned,
@@ -54,7 +67,7 @@ fn answer<
     let Ok(words) = borrowed(alloc, &owned) else {
         return tell(&mut err, Fault::NoMemory);
     };
-    program(rt, alloc, words.as_slice(), input, out, &mut err).status
+    program(rt, alloc, words.as_slice(), input, out, alarm, &mut err).status
 }
 
 fn not_text<E: Write>(err: &mut StandardError<E>) -> u8 {

@@ -28,21 +28,31 @@ use std::time::Clock;
 /// - 2 if the arguments are refused.
 ///
 /// Arguments that are accepted name the job that is done. If there is no memory to read them, only that is printed.
+/// `alarm` is a second standard error, for what is reported at once while the threads of a run work.
 pub fn program<
     R: Threads + Wait + Clock + Files<File = File> + Sync,
     I: Read + Drop,
     O: Write + Send + Drop,
+    A: Write + Send + Drop,
     E: Write,
->(rt: &R, alloc: Global, words: &[&str], input: I, out: O, err: &mut StandardError<E>) -> Ran<O>
+>(
+    rt: &R,
+    alloc: Global,
+    words: &[&str],
+    input: I,
+    out: O,
+    alarm: A,
+    err: &mut StandardError<E>,
+) -> Ran<O>
     ensures status { result.status ≤ 2 }
     ensures taken { takes station (map (λ w. w.now) words.now) ≡ true → result.status ≤ 1 }
     ensures done { takes station (map (λ w. w.now) words.now) ≡ true →
         IsAnswered (map (λ w. w.now) words.now) (I.remaining input) (O.Write.contents out)
-        (option_map (λ left. O.Write.contents left) result.out)
+        (option_map (λ left. O.Write.contents left) result.out) (A.Write.contents alarm)
         (told_of E.contents err.old) (told_of E.contents err.new) result.status }
 {
     match read_words(alloc, words) {
-        Ok(job) => do_job(rt, alloc, job, input, out, err),
+        Ok(job) => do_job(rt, alloc, job, input, out, alarm, err),
         Err(WordsFault::NoMemory) => without_output(err, Fault::NoMemory),
         Err(WordsFault::Clap(error)) => write_answer(&error, out, err),
     }
@@ -53,12 +63,13 @@ fn do_job<
     R: Threads + Wait + Clock + Files<File = File> + Sync,
     I: Read + Drop,
     O: Write + Send + Drop,
+    A: Write + Send + Drop,
     E: Write,
->(rt: &R, alloc: Global, job: Job, input: I, out: O, err: &mut StandardError<E>) -> Ran<O>
+>(rt: &R, alloc: Global, job: Job, input: I, out: O, alarm: A, err: &mut StandardError<E>) -> Ran<O>
     requires { IsInRange job }
     ensures most { result.status ≤ 1 }
     ensures done { IsDone job (I.remaining input) (O.Write.contents out)
-        (option_map (λ left. O.Write.contents left) result.out)
+        (option_map (λ left. O.Write.contents left) result.out) (A.Write.contents alarm)
         (told_of E.contents err.old) (told_of E.contents err.new) result.status }
 {
     match job {
@@ -67,14 +78,15 @@ fn do_job<
             every,
             rounds,
             paths,
-            record: _,
+            record,
         } => {
             let asked = Asked {
                 every,
                 rounds,
+                record: &record,
                 paths: &paths,
             };
-            run_paths(rt, alloc, asked, out, err)
+            run_paths(rt, alloc, asked, out, alarm, err)
         }
     }
 }

@@ -2,14 +2,17 @@
 ghost use Rattle.std.specs.Prelude.{◌≡◌, ℕ, List};
 ghost use Rattle.std.specs.Io.KnownBytes.{Appends};
 ghost use Rattle.station_main.specs.Output.{sink_of};
+ghost use Rattle.station_main.specs.Recorded.{PrintsAndRecords};
 ghost use Rattle.station_main.specs.Reporter.{Reports, ReportsByAClock};
-ghost use Rattle.station_main.specs.Tables.{PrintsAtMost, text_of};
+ghost use Rattle.station_main.specs.Tables.{text_of};
 ghost use Rattle.station_report.specs.Sink.{TakesAll};
 
 use crate::bell::Bell;
+use crate::recorder::{Recorder, record_look};
 use crate::schedule::{Act, Moments, Pace, Since, act_at};
 use station_report::{Sink, WriteFault, flush_after, table};
 use station_shared::{Look, Seat, Station, StationName};
+use std::io::Write;
 use std::snapshot::Snapshot;
 use std::sync::Wait;
 use std::thread::Promise;
@@ -17,34 +20,39 @@ use std::time::{Clock, Instant};
 
 /// What a reporter leaves.
 #[derive(Drop)]
-pub struct Reported<S, O> {
+pub struct Reported<S, O, K> {
     pub seat: S,
     pub out: O,
-    /// Whether a write failed.
+    pub recorder: K,
+    /// Whether a write of the output failed.
     pub has_failed: bool,
 }
 
 /// What a reporter starts from. Its promise is that it reports from there.
 #[derive(Drop)]
-pub struct Given<S, O> {
+pub struct Given<S, O, K> {
     pub pace: Pace,
     pub seat: Snapshot<S>,
     pub out: Snapshot<O>,
+    pub recorder: Snapshot<K>,
 }
 
-impl<const N: usize, L: StationName, S: Sink> Promise<Reported<Seat<N, L>, S>>
-    for Given<Seat<N, L>, S> {
+impl<const N: usize, L: StationName, S: Sink, T: Sink, A: Write> Promise<
+    Reported<Seat<N, L>, S, Option<Recorder<T, A>>>,
+> for Given<Seat<N, L>, S, Option<Recorder<T, A>>> {
     ghost use Rattle.station_main.specs.Output.{sink_of};
     ghost use Rattle.station_main.specs.Reporter.{ReportsByAClock};
 
     ghost kept_by = { λ given reported. ReportsByAClock L.start given.pace.every given.pace.last given.seat.value reported.seat
-        (sink_of S.taken S.failures given.out.value) (sink_of S.taken S.failures reported.out) reported.has_failed };
+        (sink_of S.taken S.failures given.out.value) (sink_of S.taken S.failures reported.out)
+        given.recorder.value reported.recorder
+        reported.has_failed };
 }
 
-/// Ticks and prints the table each time that the pace's interval has passed, in milliseconds since `start`. Ends when
-/// all receivers have ended or a write failed. Answers the seat, and the sink, which has taken the tables of its looks
-/// and nothing else.
-pub fn report<const N: usize, L: StationName, R: Wait + Clock, S: Sink>(
+/// Ticks, prints the table and records it each time that the pace's interval has passed, in milliseconds since `start`.
+/// Ends when all receivers have ended or a write of the output failed. Answers the seat, the sink, which has taken the
+/// tables of its looks and nothing else, and the record, which has gone on with what these looks saw.
+pub fn report<const N: usize, L: StationName, R: Wait + Clock, S: Sink, T: Sink, A: Write>(
     rt: &R,
     station: &Station<N, L>,
     ended: &Bell,
@@ -52,27 +60,39 @@ pub fn report<const N: usize, L: StationName, R: Wait + Clock, S: Sink>(
     pace: Pace,
     seat: Seat<N, L>,
     out: S,
-) -> Reported<Seat<N, L>, S>
+    recorder: Option<Recorder<T, A>>,
+) -> Reported<Seat<N, L>, S, Option<Recorder<T, A>>>
     ensures { ReportsByAClock L.start pace.every pace.last seat result.seat (sink_of S.taken S.failures out)
-        (sink_of S.taken S.failures result.out) result.has_failed }
+        (sink_of S.taken S.failures result.out) recorder
+        result.recorder result.has_failed }
 {
     let mut moments = Since { rt, start };
-    report_at(rt, station, ended, pace, seat, out, &mut moments)
+    report_at(rt, station, ended, pace, seat, out, recorder, &mut moments)
 }
 
 // `report` by any clock: a table at each of its times at which one is due, and at no other.
-fn report_at<const N: usize, L: StationName, R: Wait + Clock, S: Sink, M: Moments>(
+fn report_at<
+    const N: usize,
+    L: StationName,
+    R: Wait + Clock,
+    S: Sink,
+    T: Sink,
+    A: Write,
+    M: Moments,
+>(
     rt: &R,
     station: &Station<N, L>,
     ended: &Bell,
     pace: Pace,
     mut seat: Seat<N, L>,
     mut out: S,
+    mut recorder: Option<Recorder<T, A>>,
     moments: &mut M,
-) -> Reported<Seat<N, L>, S>
+) -> Reported<Seat<N, L>, S, Option<Recorder<T, A>>>
     ensures { (given : List ℕ) × Appends (M.given moments.old) (M.given moments.new) given
         × Reports L.start pace.every pace.last given seat result.seat (sink_of S.taken S.failures out)
-        (sink_of S.taken S.failures result.out) result.has_failed }
+        (sink_of S.taken S.failures result.out) recorder
+        result.recorder result.has_failed }
 {
     let mut has_failed = false;
     let mut due = pace.first_due();
@@ -84,7 +104,7 @@ fn report_at<const N: usize, L: StationName, R: Wait + Clock, S: Sink, M: Moment
             Act::Sleep(pause) => ended.rest(rt, pause),
             Act::Print { at, next_due } => {
                 let _ = station.tick(rt, &mut seat, at);
-                let (shown, written) = print_table(seat, &mut out);
+                let (shown, written) = print_and_record(rt, station, seat, &mut out, &mut recorder);
                 seat = shown;
                 has_failed = written.is_err();
                 due = next_due;
@@ -94,20 +114,31 @@ fn report_at<const N: usize, L: StationName, R: Wait + Clock, S: Sink, M: Moment
     Reported {
         seat,
         out,
+        recorder,
         has_failed,
     }
 }
 
-/// Prints the table as the seat sees it, and hands the seat back. A refused look prints nothing.
-pub fn print_table<const N: usize, L: StationName, S: Sink>(
+/// Prints the table as the seat sees it, and hands the seat back. Then it records what was seen, if there is a record. A
+/// refused look prints and records nothing.
+pub fn print_and_record<const N: usize, L: StationName, R: Wait, S: Sink, T: Sink, A: Write>(
+    rt: &R,
+    station: &Station<N, L>,
     seat: Seat<N, L>,
     out: &mut S,
+    recorder: &mut Option<Recorder<T, A>>,
 ) -> (Seat<N, L>, Result<(), WriteFault>)
-    ensures { PrintsAtMost L.start seat result.0 (sink_of S.taken S.failures out.old)
-        (sink_of S.taken S.failures out.new) result.1 }
+    ensures { PrintsAndRecords L.start seat result.0 (sink_of S.taken S.failures out.old)
+        (sink_of S.taken S.failures out.new) recorder.old
+        recorder.new result.1 }
 {
     match seat.look() {
-        Ok(look) => write_table(look, out),
+        Ok(look) => {
+            let count = look.entries();
+            let (seat, written) = write_table(look, out);
+            record_look(recorder, rt, station, &seat, count);
+            (seat, written)
+        }
         Err(seat) => (seat, Ok(())),
     }
 }

@@ -16,11 +16,13 @@ use crate::faults::Fault;
 use crate::kept::Kept;
 use crate::limits::AIRCRAFT;
 use crate::output::{Ran, Written, without_output};
+use crate::recorder::Recorder;
 use crate::round::ending::{finish, hand_on};
 use crate::round::opening::begin;
 use crate::schedule::Pace;
 use crate::standard_error::StandardError;
 use crate::threads::{Input, Output, Receiver, print_last, run_threads};
+use station_report::Sink;
 use station_shared::{Places, Seat, Station, StationName};
 use std::alloc::Global;
 use std::io::Write;
@@ -65,6 +67,8 @@ pub fn run_round<
     L: StationName + Send + Sync,
     R: Threads + Wait + Clock + Sync,
     O: Write + Send + Drop,
+    T: Sink + Send + Drop,
+    A: Write + Send + Drop,
     E: Write,
 >(
     rt: &R,
@@ -72,6 +76,7 @@ pub fn run_round<
     plan: Plan<O>,
     blank: Blank,
     places: Places<AIRCRAFT>,
+    recorder: &mut Option<Recorder<T, A>>,
     err: &mut StandardError<E>,
 ) -> Round<O>
     requires few { length plan.inputs.items ≤ 8 }
@@ -86,10 +91,11 @@ pub fn run_round<
     requires sound { IsSound program_limits plan.kept.recent.base (reverse plan.kept.recent.entries.items) }
     ensures { EndsRound O.contents (record { every = plan.every; inputs = length plan.inputs.items })
         (given_of plan.kept) (buffered_of O.contents plan.out).taken
+        recorder.old recorder.new
         (told_of E.contents err.old) (told_of E.contents err.new) result }
 {
-    match work::<L, _, _>(rt, alloc, plan, blank, places) {
-        Ok(worked) => hand_on(rt, alloc, worked, err),
+    match work::<L, _, _, _, _>(rt, alloc, plan, blank, places, recorder) {
+        Ok(worked) => hand_on(rt, alloc, worked, recorder, err),
         Err(fault) => Round::Over(without_output(err, fault)),
     }
 }
@@ -99,6 +105,8 @@ pub fn run_last<
     L: StationName + Send + Sync,
     R: Threads + Wait + Clock + Sync,
     O: Write + Send + Drop,
+    T: Sink + Send + Drop,
+    A: Write + Send + Drop,
     E: Write,
 >(
     rt: &R,
@@ -106,6 +114,7 @@ pub fn run_last<
     plan: Plan<O>,
     blank: Blank,
     places: Places<AIRCRAFT>,
+    recorder: &mut Option<Recorder<T, A>>,
     err: &mut StandardError<E>,
 ) -> Ran<O>
     requires few { length plan.inputs.items ≤ 8 }
@@ -122,21 +131,29 @@ pub fn run_last<
     ensures last { IsLast (record { every = plan.every; inputs = length plan.inputs.items })
         (given_of plan.kept) (buffered_of O.contents plan.out).taken
         (option_map (λ left. O.contents left) result.out)
+        recorder.old recorder.new
         (told_of E.contents err.old) (told_of E.contents err.new) result.status }
 {
-    match work::<L, _, _>(rt, alloc, plan, blank, places) {
+    match work::<L, _, _, _, _>(rt, alloc, plan, blank, places, recorder) {
         Ok(worked) => finish(rt, worked, err),
         Err(fault) => without_output(err, fault),
     }
 }
 
 // Starts a station, runs its threads to their ends, and prints the last table.
-fn work<L: StationName + Send + Sync, R: Threads + Wait + Clock + Sync, O: Write + Send + Drop>(
+fn work<
+    L: StationName + Send + Sync,
+    R: Threads + Wait + Clock + Sync,
+    O: Write + Send + Drop,
+    T: Sink + Send + Drop,
+    A: Write + Send + Drop,
+>(
     rt: &R,
     alloc: Global,
     plan: Plan<O>,
     blank: Blank,
     places: Places<AIRCRAFT>,
+    recorder: &mut Option<Recorder<T, A>>,
 ) -> Result<Worked<L, O>, Fault<'static>>
     requires few { length plan.inputs.items ≤ 8 }
     requires ledger { (blank.name ≡ L.name) × (blank.parts ≡ L.parts) }
@@ -155,7 +172,9 @@ fn work<L: StationName + Send + Sync, R: Threads + Wait + Clock + Sync, O: Write
         (λ r. r.seat) (λ r. r.source) (λ r. r.answer) plan.inputs.items worked.receivers.items) }
     ensures output { IfOk result (λ worked. Leaves L.start plan.every plan.kept.last_tick
         (newcomer plan.kept.recent.entries.items (length plan.inputs.items)) worked.reporter
-        (buffered_of O.contents plan.out).taken (O.contents worked.written.out) worked.written.has_failed) }
+        (buffered_of O.contents plan.out).taken (O.contents worked.written.out)
+        recorder.old recorder.new
+        worked.written.has_failed) }
 {
     let Plan {
         start,
@@ -173,12 +192,19 @@ fn work<L: StationName + Send + Sync, R: Threads + Wait + Clock + Sync, O: Write
         return Err(Fault::NoMemory);
     };
     let Some((receivers, reported)) = run_threads(
-        rt, &station, start, pace, receivers, reporter, out,
+        rt,
+        &station,
+        start,
+        pace,
+        receivers,
+        reporter,
+        out,
+        recorder.take(),
     ) else {
         station.end(rt);
         return Err(Fault::ThreadNotStarted);
     };
-    let (reporter, written) = print_last(reported);
+    let (reporter, written) = print_last(rt, &station, reported, recorder);
     Ok(Worked {
         station,
         receivers,

@@ -1,10 +1,10 @@
 //! The job `run`: its rounds, one after another.
-ghost use Rattle.std.specs.Prelude.{◌≡◌, ◌+◌, ◌-◌, ◌≤◌, ◌⊎◌, IfErr, IfOk, length, option_map, reverse};
+ghost use Rattle.std.specs.Prelude.{◌≡◌, ◌+◌, ◌-◌, ◌≤◌, ◌⊎◌, IfErr, IfOk, is_some, length, None, option_map, reverse};
 ghost use Rattle.station_journal.specs.Resume.{IsSound};
 ghost use Rattle.station_desk.specs.History.{base_of};
 ghost use Rattle.station_main.specs.Limits.{program_limits};
 ghost use Rattle.station_main.specs.Output.{buffered_of};
-ghost use Rattle.station_main.specs.Rounds.{EndsRound, IsLast, Runs, given_of, nothing};
+ghost use Rattle.station_main.specs.Rounds.{EndsRound, IsLast, Runs, RunsAsked, given_of, nothing};
 ghost use Rattle.station_main.specs.Run.{IsEarly};
 ghost use Rattle.station_main.specs.Telling.{told_of};
 
@@ -12,10 +12,12 @@ use crate::faults::Fault;
 use crate::kept::Kept;
 use crate::limits::{AIRCRAFT, TABLE_ROOM};
 use crate::output::{Ran, without_output};
+use crate::record_file::record_to;
+use crate::recorder::{Recorder, status_of};
 use crate::round::{Plan, Round, run_last, run_round};
 use crate::standard_error::StandardError;
-use crate::threads::Input;
-use station_report::ToWrite;
+use crate::threads::{Input, Output};
+use station_report::{Sink, ToWrite};
 use station_shared::{FromBuffer, PIECE, Places};
 use std::alloc::Global;
 use std::fs::File;
@@ -34,28 +36,72 @@ pub struct Asked<'a> {
     pub every: u32,
     /// 1 to 1,000.
     pub rounds: u16,
+    /// The file that the run is recorded to, if one is given.
+    pub record: &'a Option<String>,
     /// 1 to 8 files or pipes.
     pub paths: &'a Vec<String>,
 }
 
-/// Runs the rounds. Each round
+/// Runs the rounds, and records what is printed if that is asked. Each round
 ///
 /// - reads each path by a receiver of its own;
 /// - prints the table of them all every `every` milliseconds, and once when all have ended;
 /// - prints what each receiver counted, with its fault directly after it, and at last a failed write.
 ///
-/// Each round goes on from the last 70,000 ms of the one before. A fault ends the run after its round. Answers the
-/// output, unless nothing was read in the last round.
+/// Each round goes on from the last 70,000 ms of the one before. A fault ends the run after its round. A failed write of
+/// the record ends the record alone: it is reported to `alarm` at once, and the status is 1. Answers the output, unless
+/// nothing was read in the last round.
 pub fn run_paths<
     R: Threads + Wait + Clock + Files<File = File> + Sync,
     O: Write + Send + Drop,
+    A: Write + Send + Drop,
     E: Write,
->(rt: &R, alloc: Global, asked: Asked<'_>, out: O, err: &mut StandardError<E>) -> Ran<O>
+>(rt: &R, alloc: Global, asked: Asked<'_>, out: O, alarm: A, err: &mut StandardError<E>) -> Ran<O>
+    requires rounds { 1 ≤ asked.rounds }
+    requires paths { length asked.paths.now.items ≤ 8 }
+    ensures most { result.status ≤ 1 }
+    ensures runs { RunsAsked (is_some asked.entry.record.now)
+        (record { every = asked.entry.every; inputs = length asked.entry.paths.now.items })
+        (asked.entry.rounds - 1) (O.contents out) (option_map (λ left. O.contents left) result.out) (A.contents alarm)
+        (told_of E.contents err.old) (told_of E.contents err.new) result.status }
+{
+    let Some(path) = asked.record else {
+        let mut none: Option<Recorder<Output<File>, A>> = None;
+        return run_rounds(rt, alloc, asked, out, &mut none, err);
+    };
+    let recorder = match record_to(rt, alloc, path.as_str(), StandardError::new(alarm)) {
+        Ok(recorder) => recorder,
+        Err(fault) => return without_output(err, fault),
+    };
+    let mut recorder = Some(recorder);
+    let Ran { status, out } = run_rounds(rt, alloc, asked, out, &mut recorder, err);
+    Ran {
+        status: status.max(status_of(&recorder)),
+        out,
+    }
+}
+
+// Runs the rounds, with or without a record.
+fn run_rounds<
+    R: Threads + Wait + Clock + Files<File = File> + Sync,
+    O: Write + Send + Drop,
+    T: Sink + Send + Drop,
+    A: Write + Send + Drop,
+    E: Write,
+>(
+    rt: &R,
+    alloc: Global,
+    asked: Asked<'_>,
+    out: O,
+    recorder: &mut Option<Recorder<T, A>>,
+    err: &mut StandardError<E>,
+) -> Ran<O>
     requires rounds { 1 ≤ asked.rounds }
     requires paths { length asked.paths.now.items ≤ 8 }
     ensures most { result.status ≤ 1 }
     ensures runs { Runs (record { every = asked.entry.every; inputs = length asked.entry.paths.now.items })
         (asked.entry.rounds - 1) nothing (O.contents out) (option_map (λ left. O.contents left) result.out)
+        recorder.old recorder.new
         (told_of E.contents err.old) (told_of E.contents err.new) result.status }
 {
     let start = Instant::now(rt).ok();
@@ -63,7 +109,7 @@ pub fn run_paths<
     let mut out = out;
     let mut more = asked.rounds - 1;
     while more > 0 {
-        match one_round(rt, alloc, asked, start, kept, out, err) {
+        match one_round(rt, alloc, asked, start, kept, out, recorder, err) {
             Round::Over(ran) => return ran,
             Round::GoesOn {
                 out: left,
@@ -75,13 +121,15 @@ pub fn run_paths<
         }
         more -= 1;
     }
-    last_round(rt, alloc, asked, start, kept, out, err)
+    last_round(rt, alloc, asked, start, kept, out, recorder, err)
 }
 
 // Runs a round that is not the last.
 fn one_round<
     R: Threads + Wait + Clock + Files<File = File> + Sync,
     O: Write + Send + Drop,
+    T: Sink + Send + Drop,
+    A: Write + Send + Drop,
     E: Write,
 >(
     rt: &R,
@@ -90,17 +138,20 @@ fn one_round<
     start: Option<Instant>,
     kept: Kept,
     out: O,
+    recorder: &mut Option<Recorder<T, A>>,
     err: &mut StandardError<E>,
 ) -> Round<O>
     requires few { length asked.paths.now.items ≤ 8 }
     requires sound { IsSound program_limits kept.recent.base (reverse kept.recent.entries.items) }
     ensures { EndsRound O.contents (record { every = asked.entry.every; inputs = length asked.entry.paths.now.items })
-        (given_of kept) (O.contents out) (told_of E.contents err.old) (told_of E.contents err.new) result }
+        (given_of kept) (O.contents out)
+        recorder.old recorder.new
+        (told_of E.contents err.old) (told_of E.contents err.new) result }
 {
     match prepare(rt, alloc, asked, start, kept, out) {
         Ok((plan, places)) => {
             let blank = Blank::new(plan.inputs.len() as u64 + 1);
-            run_round::<Brand, _, _, _>(rt, alloc, plan, blank, places, err)
+            run_round::<Brand, _, _, _, _, _>(rt, alloc, plan, blank, places, recorder, err)
         }
         Err(fault) => Round::Over(without_output(err, fault)),
     }
@@ -110,6 +161,8 @@ fn one_round<
 fn last_round<
     R: Threads + Wait + Clock + Files<File = File> + Sync,
     O: Write + Send + Drop,
+    T: Sink + Send + Drop,
+    A: Write + Send + Drop,
     E: Write,
 >(
     rt: &R,
@@ -118,6 +171,7 @@ fn last_round<
     start: Option<Instant>,
     kept: Kept,
     out: O,
+    recorder: &mut Option<Recorder<T, A>>,
     err: &mut StandardError<E>,
 ) -> Ran<O>
     requires few { length asked.paths.now.items ≤ 8 }
@@ -125,12 +179,13 @@ fn last_round<
     ensures most { result.status ≤ 1 }
     ensures last { IsLast (record { every = asked.entry.every; inputs = length asked.entry.paths.now.items })
         (given_of kept) (O.contents out) (option_map (λ left. O.contents left) result.out)
+        recorder.old recorder.new
         (told_of E.contents err.old) (told_of E.contents err.new) result.status }
 {
     match prepare(rt, alloc, asked, start, kept, out) {
         Ok((plan, places)) => {
             let blank = Blank::new(plan.inputs.len() as u64 + 1);
-            run_last::<Brand, _, _, _>(rt, alloc, plan, blank, places, err)
+            run_last::<Brand, _, _, _, _, _>(rt, alloc, plan, blank, places, recorder, err)
         }
         Err(fault) => without_output(err, fault),
     }

@@ -1,5 +1,6 @@
 //! The program over words and streams of these tests.
 mod outputs;
+mod records;
 mod replies;
 mod rounds;
 mod run;
@@ -40,10 +41,11 @@ struct Ran {
     err: Vec<u8>,
 }
 
-// What the program leaves beside its output.
+// What the program leaves beside its output: what it reports at once and at the end.
 #[derive(Debug, Drop)]
 struct Told {
     status: u8,
+    alarm: Vec<u8>,
     err: Vec<u8>,
 }
 
@@ -62,7 +64,8 @@ fn status_of<
     O: Write + Send + Drop,
     E: Write + Drop,
 >(rt: &R, alloc: Global, words: &[&str], input: I, out: O, err: E) -> u8 {
-    program(rt, alloc, words, input, out, &mut StandardError::new(err)).status
+    let mut err = StandardError::new(err);
+    program(rt, alloc, words, input, out, Vec::new(alloc), &mut err).status
 }
 
 fn run_words<
@@ -105,9 +108,19 @@ fn run_line<R: Threads + Wait + Clock + Files<File = File> + Sync, O: Write + Se
     out: O,
 ) -> Result<Told, AllocError> {
     let words = words_of(alloc, line, paths)?;
-    let mut err = Vec::new(alloc);
-    let status = status_of(rt, alloc, words.as_slice(), NO_LINES, out, &mut err);
-    Ok(Told { status, err })
+    let (mut alarm, mut err) = (Vec::new(alloc), Vec::new(alloc));
+    let mut reports = StandardError::new(&mut err);
+    let ran = program(
+        rt,
+        alloc,
+        words.as_slice(),
+        NO_LINES,
+        out,
+        &mut alarm,
+        &mut reports,
+    );
+    let status = ran.status;
+    Ok(Told { status, alarm, err })
 }
 
 fn text(bytes: &Vec<u8>) -> &str {
@@ -277,8 +290,17 @@ impl Env for NotText {
 #[test]
 fn a_word_that_is_not_utf8_is_refused(rt: HostRuntime) {
     let words = own_words(&(NotText, rt.alloc()));
-    let (mut out, mut err) = (Vec::new(rt.alloc()), Vec::new(rt.alloc()));
-    let status = answer(&rt, rt.alloc(), words, NO_LINES, &mut out, &mut err);
+    let alloc = rt.alloc();
+    let (mut out, mut err) = (Vec::new(alloc), Vec::new(alloc));
+    let status = answer(
+        &rt,
+        alloc,
+        words,
+        NO_LINES,
+        &mut out,
+        Vec::new(alloc),
+        &mut err,
+    );
     assert!(rt; status == 2 && out.is_empty());
     assert_eq!(rt;
         text(&err),

@@ -7,7 +7,8 @@ ghost use Rattle.station_main.specs.Run.{HaveWorked, PrintsLast};
 use crate::bell::Bell;
 use crate::limits::{AIRCRAFT, TURNS};
 use crate::output::{Written, give_up, unbuffered};
-use crate::reporter::{Given, Reported, print_table, report};
+use crate::recorder::Recorder;
+use crate::reporter::{Given, Reported, print_and_record, report};
 use crate::schedule::Pace;
 use station_report::{Sink, ToWrite};
 use station_shared::{FromBuffer, Seat, Station, StationName, Worker, run_receivers};
@@ -28,7 +29,7 @@ pub type Output<O> = ToWrite<BufWriter<O>>;
 /// A receiver: its seat, its input and, once it has ended, its answer.
 pub type Receiver<L> = Worker<AIRCRAFT, Input, L>;
 
-type Ended<L, O> = Reported<Seat<AIRCRAFT, L>, Output<O>>;
+type Ended<L, O, K> = Reported<Seat<AIRCRAFT, L>, Output<O>, K>;
 
 /// Runs the receivers and the reporter to their ends, each in a thread of its own. Answers `None` if the reporter's
 /// thread can't be started, and then nothing is read.
@@ -36,6 +37,8 @@ pub fn run_threads<
     L: StationName + Send + Sync,
     R: Threads + Wait + Clock + Sync,
     S: Sink + Send + Drop,
+    T: Sink + Send + Drop,
+    A: Write + Send + Drop,
 >(
     rt: &R,
     station: &Station<AIRCRAFT, L>,
@@ -44,33 +47,49 @@ pub fn run_threads<
     mut receivers: Vec<Receiver<L>>,
     seat: Seat<AIRCRAFT, L>,
     out: S,
-) -> Option<(Vec<Receiver<L>>, Reported<Seat<AIRCRAFT, L>, S>)>
+    recorder: Option<Recorder<T, A>>,
+) -> Option<
+    (
+        Vec<Receiver<L>>,
+        Reported<Seat<AIRCRAFT, L>, S, Option<Recorder<T, A>>>,
+    ),
+>
     ensures answered { IfSome result (λ ended. All (λ r. is_some r.answer ≡ true) ended.0.items) }
     ensures receivers { IfSome result (λ ended. HaveWorked L.start (λ r. r.seat) (λ r. r.source) (λ r. r.answer)
         receivers.items ended.0.items) }
     ensures reporter { IfSome result (λ ended. ReportsByAClock L.start pace.every pace.last seat ended.1.seat
-        (sink_of S.taken S.failures out) (sink_of S.taken S.failures ended.1.out) ended.1.has_failed) }
+        (sink_of S.taken S.failures out) (sink_of S.taken S.failures ended.1.out)
+        recorder ended.1.recorder
+        ended.1.has_failed) }
 {
     let bell = Bell::new();
     let ended = &bell;
     thread::scope(
         thread::scope_env(),
         rt,
-        move |scope| -> Option<(Vec<Receiver<L>>, Reported<Seat<AIRCRAFT, L>, S>)>
+        move |scope| -> Option<
+            (
+                Vec<Receiver<L>>,
+                Reported<Seat<AIRCRAFT, L>, S, Option<Recorder<T, A>>>,
+            ),
+        >
             ensures answered { IfSome result (λ ended. All (λ r. is_some r.answer ≡ true) ended.0.items) }
             ensures receivers { IfSome result (λ ended. HaveWorked L.start (λ r. r.seat) (λ r. r.source) (λ r. r.answer)
                 receivers.items ended.0.items) }
             ensures reporter { IfSome result (λ ended. ReportsByAClock L.start pace.every pace.last seat ended.1.seat
-                (sink_of S.taken S.failures out) (sink_of S.taken S.failures ended.1.out) ended.1.has_failed) }
+                (sink_of S.taken S.failures out) (sink_of S.taken S.failures ended.1.out)
+                recorder ended.1.recorder
+                ended.1.has_failed) }
         {
             let given = Given {
                 pace,
                 seat: Snapshot::of(&seat),
                 out: Snapshot::of(&out),
+                recorder: Snapshot::of(&recorder),
             };
             match scope.spawn_with(
                 given,
-                move || report(rt, station, ended, start, pace, seat, out),
+                move || report(rt, station, ended, start, pace, seat, out, recorder),
             ) {
                 Ok(reporter) => {
                     run_receivers(rt, station, receivers.as_mut_slice(), TURNS);
@@ -83,22 +102,29 @@ pub fn run_threads<
     )
 }
 
-/// Prints the last table, unless a write failed before, and takes the output out of its buffer.
-pub fn print_last<L: StationName, O: Write + Drop>(
-    reported: Ended<L, O>,
+/// Prints the last table and records it, unless a write of the output failed before, and takes the output out of its
+/// buffer. The recorder is put back.
+pub fn print_last<L: StationName, R: Wait, O: Write + Drop, T: Sink + Drop, A: Write + Drop>(
+    rt: &R,
+    station: &Station<AIRCRAFT, L>,
+    reported: Ended<L, O, Option<Recorder<T, A>>>,
+    recorder: &mut Option<Recorder<T, A>>,
 ) -> (Seat<AIRCRAFT, L>, Written<O>)
     ensures { PrintsLast L.start reported.seat result.0 (buffered_of O.contents reported.out) reported.has_failed
-        (O.contents result.1.out) result.1.has_failed }
+        (O.contents result.1.out) reported.recorder
+        recorder.new result.1.has_failed }
 {
     let Reported {
         seat,
         mut out,
+        recorder: left,
         has_failed,
     } = reported;
+    *recorder = left;
     if has_failed {
         return (seat, give_up(out.into_inner()));
     }
-    let (seat, written) = print_table(seat, &mut out);
+    let (seat, written) = print_and_record(rt, station, seat, &mut out, recorder);
     match written {
         Ok(()) => (seat, unbuffered(out.into_inner())),
         Err(_) => (seat, give_up(out.into_inner())),

@@ -1,6 +1,7 @@
 //! How a round ends: it prints what was counted, and keeps the recent entries or drops them.
 ghost use Rattle.std.specs.Prelude.{◌≡◌, ◌≤◌, ◌∷◌, ℕ, List, Option, All, IfErr, IfOk, is_some, length, option_map, true};
 ghost use Rattle.station_shared.specs.Seats.{Seated, newcomer};
+ghost use Rattle.station_main.specs.Recorded.{Recording};
 ghost use Rattle.station_main.specs.Rounds.{Asked, EndsRound, Given, GoesOnFrom, IsBetween, KeepsRecent, IsLast, given_of};
 ghost use Rattle.station_main.specs.Run.{Leaves};
 ghost use Rattle.station_main.specs.Telling.{told_of};
@@ -9,11 +10,13 @@ use crate::faults::{Fault, tell};
 use crate::kept::Kept;
 use crate::limits::AIRCRAFT;
 use crate::output::{Ran, Written};
+use crate::recorder::{Recorder, record_rest};
 use crate::round::{Round, Worked};
 use crate::standard_error::StandardError;
 use crate::tallies::tell_end;
 use crate::threads::Receiver;
 use station_journal::NoMemory;
+use station_report::Sink;
 use station_shared::{Missing, Seat, Station, StationName, Worker};
 use std::alloc::Global;
 use std::io::Write;
@@ -27,11 +30,11 @@ pub(super) fn finish<L: StationName, R: Wait, O: Write + Drop, E: Write>(
 ) -> Ran<O>
     requires { All (λ r. is_some r.answer ≡ true) worked.receivers.items }
     ensures most { result.status ≤ 1 }
-    ensures last { (asked : Asked) (given : Given) (before : Option (List ℕ)) →
+    ensures last { (asked : Asked) (given : Given) (before : Option (List ℕ)) (was is : Option Recording) →
         length worked.receivers.items ≡ asked.inputs → GoesOnFrom given L.start →
         Leaves L.start asked.every given.last_tick (newcomer given.entries asked.inputs) worked.reporter
-        before (O.contents worked.written.out) worked.written.has_failed →
-        IsLast asked given before (option_map (λ left. O.contents left) result.out)
+        before (O.contents worked.written.out) was is worked.written.has_failed →
+        IsLast asked given before (option_map (λ left. O.contents left) result.out) was is
         (told_of E.contents err.old) (told_of E.contents err.new) result.status }
 {
     let Worked {
@@ -48,18 +51,21 @@ pub(super) fn finish<L: StationName, R: Wait, O: Write + Drop, E: Write>(
 }
 
 // Prints what was counted, and keeps the recent entries unless a fault was printed.
-pub(super) fn hand_on<L: StationName, R: Wait, O: Write + Drop, E: Write>(
+pub(super) fn hand_on<L: StationName, R: Wait, O: Write + Drop, T: Sink, A: Write, E: Write>(
     rt: &R,
     alloc: Global,
     worked: Worked<L, O>,
+    recorder: &mut Option<Recorder<T, A>>,
     err: &mut StandardError<E>,
 ) -> Round<O>
     requires { All (λ r. is_some r.answer ≡ true) worked.receivers.items }
-    ensures { (asked : Asked) (given : Given) (before : Option (List ℕ)) →
+    ensures { (asked : Asked) (given : Given) (before : Option (List ℕ)) (was : Option Recording) →
         length worked.receivers.items ≡ asked.inputs → GoesOnFrom given L.start →
         Leaves L.start asked.every given.last_tick (newcomer given.entries asked.inputs) worked.reporter
-        before (O.contents worked.written.out) worked.written.has_failed →
-        EndsRound O.contents asked given before (told_of E.contents err.old) (told_of E.contents err.new) result }
+        before (O.contents worked.written.out) was recorder.old
+        worked.written.has_failed →
+        EndsRound O.contents asked given before was recorder.new
+        (told_of E.contents err.old) (told_of E.contents err.new) result }
 {
     let Worked {
         station,
@@ -75,7 +81,7 @@ pub(super) fn hand_on<L: StationName, R: Wait, O: Write + Drop, E: Write>(
             out: Some(out),
         });
     }
-    match keep(rt, alloc, station, receivers, reporter) {
+    match keep(rt, alloc, station, receivers, reporter, recorder) {
         Ok(kept) => Round::GoesOn { out, kept },
         Err(fault) => Round::Over(Ran {
             status: tell(err, fault),
@@ -84,26 +90,36 @@ pub(super) fn hand_on<L: StationName, R: Wait, O: Write + Drop, E: Write>(
     }
 }
 
-// Closes the station, and keeps the recent entries of its journal.
-fn keep<L: StationName, R: Wait>(
+// Closes the station, keeps the recent entries of its journal, and records those that no look has seen.
+fn keep<L: StationName, R: Wait, T: Sink, A: Write>(
     rt: &R,
     alloc: Global,
     station: Station<AIRCRAFT, L>,
     receivers: Vec<Receiver<L>>,
     reporter: Seat<AIRCRAFT, L>,
+    recorder: &mut Option<Recorder<T, A>>,
 ) -> Result<Kept, Fault<'static>>
-    ensures kept { IfOk result (λ kept. KeepsRecent L.start reporter (given_of kept)) }
+    ensures kept { IfOk result (λ kept. KeepsRecent L.start reporter (given_of kept)
+        recorder.old recorder.new) }
     ensures between { IfErr result IsBetween }
+    ensures same { IfErr result (λ _. recorder.new ≡ recorder.old) }
 {
     let Ok(seats) = seats_of(alloc, reporter, receivers) else {
         station.end(rt);
         return Err(Fault::NoMemory);
     };
     match station.close(rt, seats) {
-        Ok(closed) => match Kept::of(alloc, &closed.journal) {
-            Ok(kept) => Ok(kept),
-            Err(_) => Err(Fault::NoMemory),
-        },
+        Ok(closed) => {
+            let Ok(kept) = Kept::of(alloc, &closed.journal) else {
+                return Err(Fault::NoMemory);
+            };
+            record_rest(
+                recorder,
+                closed.journal.entries(),
+                kept.recent.entries.len() as u64,
+            );
+            Ok(kept)
+        }
         Err(Missing { station, seats: _ }) => {
             station.end(rt);
             Err(Fault::SeatLost)

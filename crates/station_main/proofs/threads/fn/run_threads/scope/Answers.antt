@@ -12,5 +12,5 @@ returns-in-Ok g c =
     rw (whole_list c.captures.receivers.len ws items same len) (record {
       answered = λ k d h. let inside : k < length items = omega (arith, same) in ap is_some (worked k d inside).answered;
       receivers = record { many = same; each = λ i d h. (_, _, worked i d h) };
-      reporter = rw (c.in-Ok.ensures.ok, c.of.ensures, c.of-2.ensures) at c.join.ensures;
+      reporter = rw (c.in-Ok.ensures.ok, c.of.ensures, c.of-2.ensures, c.of-3.ensures) at c.join.ensures;
     })

@@ -1,9 +1,10 @@
 use Rattle.std.specs.Prelude.{ℕ, ◌-◌, List, Option, length, reverse}
 use Rattle.station_journal.specs.Resume.{IsSound}
 use Rattle.station_main.specs.Limits.{program_limits}
+use Rattle.station_main.specs.Recorded.{Recording}
 use Rattle.station_main.specs.Rounds.{Asked, Runs, given_of, nothing}
 use Rattle.station_main.specs.Telling.{Told, told_of}
-use Rattle.station_main.proofs.run_job.run_paths.Given as goal
+use Rattle.station_main.proofs.run_job.run_rounds.Given as goal
 
 -- all rounds leave what the rounds to come leave
 abbrev pub invariant-loop-more : goal.invariant-loop-more
@@ -13,9 +14,9 @@ invariant-loop-more g l =
     let told = told_of g.E.Write.contents in
     record {
       sound : IsSound program_limits l.kept.recent.base (reverse l.kept.recent.entries.items);
-      all : (after : Option (Option (List ℕ))) (err_new : Told) (status : ℕ) →
-          Runs asked l.more (given_of l.kept) (contents l.out) after (told l.err) err_new status →
-          Runs asked (l.fn.asked.rounds - 1) nothing (contents l.fn.out) after (told l.fn.err) err_new status;
+      all : (after : Option (Option (List ℕ))) (left : Option Recording) (err_new : Told) (status : ℕ) →
+          Runs asked l.more (given_of l.kept) (contents l.out) after l.recorder left (told l.err) err_new status →
+          Runs asked (l.fn.asked.rounds - 1) nothing (contents l.fn.out) after l.fn.recorder left (told l.fn.err) err_new status;
     }
 
 abbrev pub decreases-loop-more : goal.decreases-loop-more
