@@ -15,3 +15,4 @@ pub mod SoundLemmas
 pub mod StandsLemmas
 pub mod LegalJournalLemmas
 pub mod FollowLemmas
+pub mod MemoryLemmas
