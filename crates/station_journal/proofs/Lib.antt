@@ -13,5 +13,7 @@ pub mod ResumeLemmas
 pub mod AlikeLemmas
 pub mod SoundLemmas
 pub mod StandsLemmas
+pub mod UnlimitedLemmas
 pub mod LegalJournalLemmas
+pub mod ForgettingLemmas
 pub mod FollowLemmas
