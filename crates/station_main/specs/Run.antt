@@ -1,5 +1,5 @@
 -- What a round of the job `run` leaves.
-use Rattle.std.specs.Prelude.{◌≡◌, ℕ, ◌<◌, Bool, true, false, List, [], ◌∷◌, ◌++◌, Option, IfSome, Result, length, slice_index_or, is_err, fold, map, max, unwrap_or, ⊤}
+use Rattle.std.specs.Prelude.{◌≡◌, ℕ, ◌<◌, Bool, true, false, List, [], ◌∷◌, ◌++◌, Option, None, IfSome, Result, length, slice_index_or, is_err, fold, map, max, unwrap_or, ⊤}
 use Rattle.std.specs.List.{flat_map}
 use Rattle.station_journal.specs.declared.entry.Entry.{Entry}
 use Rattle.station_report.specs.declared.sinks.WriteFault.{WriteFault}
@@ -24,7 +24,7 @@ use Rattle.station_main.specs.declared.faults.Fault.TheVariants as fault
 
 -- the view of a source over a reader with these bytes left, if they are known
 abbrev pub drawn_from : {R : Type 0} → Option (List ℕ) → FromBuffer R → Drawn
-drawn_from left source = record { left = left; reads = source.reads; ends = source.ends; failures = source.failures }
+drawn_from left source = record { bytes = record { left = left; given = None }; reads = source.reads; ends = source.ends; failures = source.failures }
 
 -- each receiver has pumped its source through its seat to an answer
 pub record HaveWorked {W R : Type 0} (start : Start) (seat : W → Seated) (source : W → FromBuffer R) (answer : W → Option (Result Tally PumpFault)) (old new : List W) : Type 0 where
