@@ -1,8 +1,9 @@
-//! The text of the table of aircraft, and the sinks that take its bytes.
+//! The table of aircraft as text or as JSON, and the sinks that take its bytes.
 #![tactic(auto)]
 
 mod columns;
 mod decimals;
+mod formats;
 mod json;
 pub mod laws;
 mod lines;
@@ -10,6 +11,7 @@ mod motion;
 mod sinks;
 mod to_write;
 
+pub use formats::{Format, table_as};
 pub use json::table_json;
 pub use lines::table;
 pub use motion::{speed_tenths, track};
