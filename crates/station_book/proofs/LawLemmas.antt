@@ -5,19 +5,20 @@ use Rattle.std.proofs.lemmas.Bool.Decides.{nat_tests}
 use mathlib.Core.List.{reverse}
 use Rattle.std.proofs.lemmas.List.{length-reverse}
 use Rattle.station_journal.specs.declared.entry.Entry.{Entry}
-use Rattle.station_journal.specs.Log.{Log, IsLegal, table_of, clock_of, past_of, refusal_of, most_entries}
+use Rattle.station_journal.specs.Log.{Log, IsLegal, table_of, placed_of, clock_of, past_of, refusal_of, most_entries}
 use Rattle.station_journal.specs.Resume.{Sound}
 use Rattle.station_journal.proofs.SoundLemmas.{sound_legal}
 use Rattle.station_book.specs.Decoded.{decoded_of}
-use Rattle.station_book.specs.State.{BookState, applied, offered, rows, fits}
+use Rattle.station_book.specs.State.{BookState, applied, offered, rows, placed_rows, fits}
 use Rattle.station_book.specs.Matching.{MatchesPast, Matches, Shows, book_of_past, book_after}
 use Rattle.station_book.proofs.MatchingLemmas.{matches_starting, matches_applied, matches_push}
-use Rattle.station_book.proofs.TableLemmas.{rows_are_table}
+use Rattle.station_book.proofs.TableLemmas.{rows_are_table, placed_are_table}
 use Rattle.station_book.proofs.VerdictLemmas.{same_tick_refusal, same_refusal, fits_from_accepts, fits_from, fits_back}
 
 pub shows_from_match : (n base : ℕ) (book : BookState) (entries : List Entry) → Matches n base book entries → Shows n base book entries
 shows_from_match n base book entries m = record {
   table = rows_are_table n base (reverse entries) book m;
+  placed = placed_are_table n base (reverse entries) book m;
   moment = m.moment;
   count = m.entries ∙ length-reverse entries;
   tick = same_tick_refusal n base (reverse entries) book m;
@@ -50,7 +51,7 @@ pub matches_sound : (n base : ℕ) (past : List Entry) → Sound n base past →
 matches_sound n base [] sound = matches_starting n base
 matches_sound n base (entry ∷ past) sound = matches_applied n base past entry (book_of_past base past) sound.0 (matches_sound n base past sound.1)
 
-pub book_equals_search : (log : Log) → IsLegal log → (rows (book_after log.base log.entries) ≡ table_of log) × ((book_after log.base log.entries).moment ≡ clock_of log) × ((book_after log.base log.entries).entries ≡ length log.entries)
+pub book_equals_search : (log : Log) → IsLegal log → (rows (book_after log.base log.entries) ≡ table_of log) × ((book_after log.base log.entries).moment ≡ clock_of log) × ((book_after log.base log.entries).entries ≡ length log.entries) × (placed_rows (book_after log.base log.entries) ≡ placed_of log)
 book_equals_search log legal =
     let m = matches_sound log.limits.aircraft log.base (past_of log) (sound_legal log.limits log.base log.resumed (past_of log) legal) in
-    (rows_are_table log.limits.aircraft log.base (past_of log) (book_after log.base log.entries) m, m.moment, m.entries ∙ length-reverse log.entries)
+    (rows_are_table log.limits.aircraft log.base (past_of log) (book_after log.base log.entries) m, m.moment, m.entries ∙ length-reverse log.entries, placed_are_table log.limits.aircraft log.base (past_of log) (book_after log.base log.entries) m)

@@ -10,4 +10,5 @@ pub mod LawLemmas
 pub mod OfferLemmas
 pub mod DigestLemmas
 pub mod CatchingLemmas
+pub mod ForgettingLemmas
 pub mod RoomLemmas

@@ -2,11 +2,11 @@
 
 ghost use Rattle.std.specs.Prelude.{◌≡◌, ℕ, true, List, ◌∷◌, [], ◌++◌, ◌<◌, length, None, Some};
 ghost use Rattle.station_journal.specs.declared.entry.Entry.{Entry};
-ghost use Rattle.station_journal.specs.Log.{Log, IsLegal, table_of, clock_of, refusal_of, most_entries};
+ghost use Rattle.station_journal.specs.Log.{Log, IsLegal, table_of, placed_of, clock_of, refusal_of, most_entries};
 ghost use Rattle.station_book.specs.declared.decoded_entry.DecodedEntry.{DecodedEntry};
 ghost use Rattle.station_book.specs.declared.decoded_entry.Change.{Change};
 ghost use Rattle.station_book.specs.Decoded.{decoded_of, change_of};
-ghost use Rattle.station_book.specs.State.{BookState, starting, applied, applied_decoded, offered, fits, rows, caught_up, book_refusal};
+ghost use Rattle.station_book.specs.State.{BookState, starting, applied, applied_decoded, offered, fits, rows, placed_rows, caught_up, book_refusal};
 ghost use Rattle.station_book.specs.Matching.{Matches, Shows, book_after};
 
 /// A book without entries matches the list without entries, whatever the base of its clock.
@@ -51,12 +51,14 @@ pub fn an_offer_keeps_a_match()
         (log.entries ++ entry ∷ []) }
 {}
 
-/// After the entries of any legal journal the book shows the journal's table and clock, and counts its entries.
+/// After the entries of any legal journal the book shows the journal's table with the times of its positions and the
+/// journal's clock, and counts its entries.
 pub fn the_book_equals_the_search()
     ensures { (log : Log) → IsLegal log →
         (rows (book_after log.base log.entries) ≡ table_of log) ×
         ((book_after log.base log.entries).moment ≡ clock_of log) ×
-        ((book_after log.base log.entries).entries ≡ length log.entries) }
+        ((book_after log.base log.entries).entries ≡ length log.entries) ×
+        (placed_rows (book_after log.base log.entries) ≡ placed_of log) }
 {}
 
 /// A book that copies what an entry changed equals the one that applied the entry.

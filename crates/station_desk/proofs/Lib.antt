@@ -9,3 +9,6 @@ pub mod StartLemmas
 pub mod TurnLemmas
 pub mod WalkLemmas
 pub mod RoomLemmas
+pub mod ForgettingLemmas
+pub mod KeepingLemmas
+pub mod ForgettingWalkLemmas

@@ -4,5 +4,8 @@ pub mod DeskPump
 pub mod History
 pub mod Replay
 pub mod ReplayLaws
+pub mod Forgetting
+pub mod ForgettingReplay
+pub mod ForgettingLaws
 pub mod Published
 pub mod Start

@@ -18,8 +18,8 @@ fn pump_lent<const N: usize, S: Source, R: Wait>(
 ) -> Result<Tally, PumpFault>
     ensures same_desk { feed.new.desk.ghost_name ≡ feed.old.desk.ghost_name }
     ensures pumps { PumpsDesk feed.old.seat feed.old.desk.now.log feed.new.desk.now.log
-        (drawn_of S.left S.reads S.ends S.failures from.old)
-        (drawn_of S.left S.reads S.ends S.failures from.new) turns result }
+        (drawn_of S.left S.given S.reads S.ends S.failures from.old)
+        (drawn_of S.left S.given S.reads S.ends S.failures from.new) turns result }
 {
     pump(rt, feed, from, turns)
 }
@@ -36,8 +36,8 @@ pub fn pump_desk<const N: usize, S: Source, R: Wait>(
 ) -> Result<Tally, PumpFault>
     requires small { N ≤ most_aircraft }
     ensures { PumpsDesk seat desk.old.log desk.new.log
-        (drawn_of S.left S.reads S.ends S.failures from.old)
-        (drawn_of S.left S.reads S.ends S.failures from.new) turns result }
+        (drawn_of S.left S.given S.reads S.ends S.failures from.old)
+        (drawn_of S.left S.given S.reads S.ends S.failures from.new) turns result }
 {
     let mut feed = DeskFeed { desk, seat };
     pump_lent(rt, &mut feed, from, turns)

@@ -1,5 +1,6 @@
 //! Why a desk refuses an entry.
-ghost use Rattle.std.specs.Prelude.{◌≡◌, ◌<◌, OnOk, None, Some, MatchResult, length};
+ghost use Rattle.std.specs.Prelude.{◌≡◌, ◌≢◌, ◌<◌, IfErr, OnOk, None, Some, MatchResult, length};
+ghost use Rattle.station_journal.specs.declared.refusal.Refusal.TheVariants.{NoMemory};
 ghost use Rattle.station_journal.specs.Log.{refusal_of};
 ghost use Rattle.station_book.specs.Decoded.{decoded_of};
 ghost use Rattle.station_desk.specs.Desk.{HasMatchingBook, full_first};
@@ -20,6 +21,7 @@ pub(crate) fn verdict<const N: usize>(
     ensures verdict { MatchResult result (λ _. refusal_of journal.now.log entry.now ≡ None)
         (λ e. refusal_of journal.now.log entry.now ≡ Some e) }
     ensures few { OnOk result (length journal.now.log.entries < journal.now.log.limits.entries) }
+    ensures never { IfErr result (λ refusal. refusal ≢ NoMemory) }
 {
     let verdict = book.verdict_of(decoded);
     if journal.len() >= u64::from(journal.limits().entries) {

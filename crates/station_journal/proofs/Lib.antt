@@ -7,11 +7,15 @@ pub mod LegalPastLemmas
 pub mod NewestLemmas
 pub mod TableLemmas
 pub mod RowLemmas
+pub mod PlacedLemmas
 pub mod RecentLemmas
 pub mod RecentSoundLemmas
 pub mod ResumeLemmas
 pub mod AlikeLemmas
 pub mod SoundLemmas
 pub mod StandsLemmas
+pub mod UnlimitedLemmas
 pub mod LegalJournalLemmas
+pub mod ForgettingLemmas
 pub mod FollowLemmas
+pub mod MemoryLemmas

@@ -8,4 +8,6 @@ pub mod Found
 pub mod Looked
 pub mod Newest
 pub mod Resume
+pub mod Unlimited
+pub mod Forgetting
 pub mod Rising

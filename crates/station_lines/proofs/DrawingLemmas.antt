@@ -1,15 +1,26 @@
 -- Bytes of a source, one read after another.
-use Rattle.std.proofs.Common.{◌≡◌, ℕ, zero, suc, ◌+◌, ◌-◌, ◌≤◌, false, List, [], ◌∷◌, ◌++◌, length, take, drop, length-drop, Option, Result, Ok, Err, refl, sym, ap, ◌∙◌, subst, append_assoc, append-nil, map, arith}
+use Rattle.std.proofs.Common.{◌≡◌, ℕ, zero, suc, ◌+◌, ◌-◌, ◌≤◌, false, List, [], ◌∷◌, ◌++◌, length, take, drop, length-drop, Result, Ok, Err, refl, sym, ap, ◌∙◌, subst, append_assoc, append-nil, map, arith}
 use Rattle.std.specs.Option.{option_to_list}
-use Rattle.std.specs.Io.KnownBytes.{Consumes, Keeps, IsAtEnd}
-use Rattle.std.proofs.KnownBytes.{Consumes-nil, Consumes-trans, Consumes-kept}
+use Rattle.std.specs.Io.KnownBytes.{IsAtEnd}
+use Rattle.std.proofs.KnownBytes.{Consumes-nil, Consumes-trans, Consumes-kept, Appends-nil, Appends-trans, Appends-kept}
 use Rattle.std.proofs.lemmas.List.{map-append, take_all}
 use Rattle.std.proofs.Math.Seq.{take-add}
 use Rattle.modes_frame.specs.declared.cutter.Cut.{Cut}
 use Rattle.modes_frame.specs.Lines.{pieces, cut, cuts, last_line, pending, ended_cuts, told}
 use Rattle.modes_frame.proofs.LineLemmas.{ended-push}
 use Rattle.station_lines.specs.Source.{one_more, counted_up}
-use Rattle.station_lines.specs.Drawing.{Drawn, Ending, AtEnd, ReadFailed, TurnsOver, LineStopped, EndsAs, is_read_failed, TakesBytes, TakesLast, Taken, ending_as, stopped_as, ended_by}
+use Rattle.station_lines.specs.Drawing.{Bytes, Gives, GivesNone, Drawn, Ending, AtEnd, ReadFailed, TurnsOver, LineStopped, EndsAs, is_read_failed, TakesBytes, TakesLast, Taken, ending_as, stopped_as, ended_by}
+
+-- ---- bytes of a source
+
+pub Gives-nil : (a : Bytes) → Gives a a []
+Gives-nil a = (Consumes-nil a.left, Appends-nil a.given)
+
+pub Gives-trans : (a b c : Bytes) (bs cs : List ℕ) → Gives a b bs → Gives b c cs → Gives a c (bs ++ cs)
+Gives-trans a b c bs cs p q = (Consumes-trans a.left b.left c.left bs cs p.0 q.0, Appends-trans a.given b.given c.given bs cs p.1 q.1)
+
+pub Gives-kept : (a b c : Bytes) (bs : List ℕ) → Gives a b bs → GivesNone b c → Gives a c bs
+Gives-kept a b c bs p q = (Consumes-kept a.left b.left c.left bs p.0 q.0, Appends-kept a.given b.given c.given bs p.1 q.1)
 
 -- ---- lines of some bytes
 
@@ -107,17 +118,17 @@ TakesBytes-none Took before held x none h = record {
 -- ---- reads
 
 -- the bytes that the reads so far gave, and the lines taken of them
-pub record GivenSoFar {X E : Type 0} (Took : X → List Cut → Result (Unit {0}) E → X → Type 0) (left_old left_now : Option (List ℕ)) (held : Cut) (x y : X) : Type 0 where
+pub record GivenSoFar {X E : Type 0} (Took : X → List Cut → Result (Unit {0}) E → X → Type 0) (bytes_old bytes_now : Bytes) (held : Cut) (x y : X) : Type 0 where
   pub given : List ℕ
-  pub bytes : Consumes left_old left_now given
+  pub bytes : Gives bytes_old bytes_now given
   pub taken : TakesBytes Took [] given held x y (Ok tt)
 
-pub GivenSoFar-none : {X E : Type 0} (Took : X → List Cut → Result (Unit {0}) E → X → Type 0) (left : Option (List ℕ)) (held : Cut) (x : X) → Took x [] (Ok tt) x → held ≡ pending [] → GivenSoFar Took left left held x x
-GivenSoFar-none Took left held x none h = record { given = []; bytes = Consumes-nil left; taken = TakesBytes-none Took [] held x none h }
+pub GivenSoFar-none : {X E : Type 0} (Took : X → List Cut → Result (Unit {0}) E → X → Type 0) (bytes : Bytes) (held : Cut) (x : X) → Took x [] (Ok tt) x → held ≡ pending [] → GivenSoFar Took bytes bytes held x x
+GivenSoFar-none Took bytes held x none h = record { given = []; bytes = Gives-nil bytes; taken = TakesBytes-none Took [] held x none h }
 
 module _ {X E : Type 0} (Took : X → List Cut → Result (Unit {0}) E → X → Type 0)
     (joined : (x y z : X) (cs ds : List Cut) (r : Result (Unit {0}) E) → Took x cs (Ok tt) y → Took y ds r z → Took x (cs ++ ds) r z)
-    (old mid new : Drawn) (held : Cut) (x y : X) (so_far : GivenSoFar Took old.left mid.left held x y) where
+    (old mid new : Drawn) (held : Cut) (x y : X) (so_far : GivenSoFar Took old.bytes mid.bytes held x y) where
   taken_so_far : ended_cuts so_far.given ≡ so_far.taken.lines
   taken_so_far = so_far.taken.ended ∙ ap (λ ls. so_far.taken.lines ++ ls) so_far.taken.all_taken.0 ∙ append-nil so_far.taken.lines
 
@@ -125,14 +136,14 @@ module _ {X E : Type 0} (Took : X → List Cut → Result (Unit {0}) E → X →
   all_lines = cuts-ended so_far.given ∙ ap (λ ls. ls ++ map cut (last_line (pieces so_far.given).rest)) taken_so_far
 
   -- the lines taken of the next piece, and of all
-  module _ (piece : List ℕ) (held_now : Cut) (z : X) (read : Consumes mid.left new.left piece) where
+  module _ (piece : List ℕ) (held_now : Cut) (z : X) (read : Gives mid.bytes new.bytes piece) where
     with_piece : (r : Result (Unit {0}) E) (more : TakesBytes Took so_far.given piece held_now y z r) → ended_cuts (so_far.given ++ piece) ≡ (so_far.taken.lines ++ more.lines) ++ more.left_out
     with_piece r more = more.ended ∙ ap (λ ls. ls ++ (more.lines ++ more.left_out)) taken_so_far ∙ sym (append_assoc so_far.taken.lines more.lines more.left_out)
 
-    pub GivenSoFar-piece : TakesBytes Took so_far.given piece held_now y z (Ok tt) → GivenSoFar Took old.left new.left held_now x z
+    pub GivenSoFar-piece : TakesBytes Took so_far.given piece held_now y z (Ok tt) → GivenSoFar Took old.bytes new.bytes held_now x z
     GivenSoFar-piece more = record {
       given = so_far.given ++ piece;
-      bytes = Consumes-trans old.left mid.left new.left so_far.given piece so_far.bytes read;
+      bytes = Gives-trans old.bytes mid.bytes new.bytes so_far.given piece so_far.bytes read;
       taken = record {
         lines = so_far.taken.lines ++ more.lines;
         left_out = more.left_out;
@@ -153,7 +164,7 @@ module _ {X E : Type 0} (Took : X → List Cut → Result (Unit {0}) E → X →
           draws = record {
             given = given;
             left_out = more.left_out ++ others;
-            bytes = Consumes-trans old.left mid.left new.left so_far.given piece so_far.bytes read;
+            bytes = Gives-trans old.bytes mid.bytes new.bytes so_far.given piece so_far.bytes read;
             front = cuts-ended given ∙ ap (λ ls. ls ++ others) (with_piece (Err stop) more) ∙ append_assoc (so_far.taken.lines ++ more.lines) more.left_out others;
             ends = tt;
             failures = lost ∙ same_lost;
@@ -163,14 +174,14 @@ module _ {X E : Type 0} (Took : X → List Cut → Result (Unit {0}) E → X →
         }
 
   -- a read failed
-  pub Taken-read : (made turns : ℕ) → Keeps mid.left new.left → made ≤ turns → new.reads ≡ counted_up made old.reads → new.ends ≡ mid.ends → mid.ends ≡ old.ends → new.failures ≡ one_more mid.failures → mid.failures ≡ old.failures
+  pub Taken-read : (made turns : ℕ) → GivesNone mid.bytes new.bytes → made ≤ turns → new.reads ≡ counted_up made old.reads → new.ends ≡ mid.ends → mid.ends ≡ old.ends → new.failures ≡ one_more mid.failures → mid.failures ≡ old.failures
       → Taken Took old new turns ReadFailed x y (Ok tt)
   Taken-read made turns kept within reads ends same_ends lost same_lost = record {
     lines = so_far.taken.lines;
     draws = record {
       given = so_far.given;
       left_out = map cut (last_line (pieces so_far.given).rest);
-      bytes = Consumes-kept old.left mid.left new.left so_far.given so_far.bytes kept;
+      bytes = Gives-kept old.bytes mid.bytes new.bytes so_far.given so_far.bytes kept;
       front = all_lines;
       ends = (sym taken_so_far, ends ∙ same_ends);
       failures = lost ∙ ap (λ n. one_more n) same_lost;
@@ -182,7 +193,7 @@ module _ {X E : Type 0} (Took : X → List Cut → Result (Unit {0}) E → X →
 -- the end was found, and a last line may stop the call
 module _ {X E : Type 0} (Took : X → List Cut → Result (Unit {0}) E → X → Type 0)
     (joined : (x y z : X) (cs ds : List Cut) (r : Result (Unit {0}) E) → Took x cs (Ok tt) y → Took y ds r z → Took x (cs ++ ds) r z)
-    (old now : Drawn) (held : Cut) (x y : X) (so_far : GivenSoFar Took old.left now.left held x y) where
+    (old now : Drawn) (held : Cut) (x y : X) (so_far : GivenSoFar Took old.bytes now.bytes held x y) where
   Taken-over : (ending : Ending) (r : Result (Unit {0}) E) (made turns : ℕ) (z : X) → is_read_failed ending ≡ false → made ≤ turns → now.reads ≡ counted_up made old.reads → now.failures ≡ old.failures
       → (last : TakesLast Took so_far.given y z r) → EndsAs so_far.given (so_far.taken.lines ++ last.lines) [] turns old now ending → Taken Took old now turns ending x z r
   Taken-over ending r made turns z read_well within reads lost last ends = record {
@@ -200,23 +211,23 @@ module _ {X E : Type 0} (Took : X → List Cut → Result (Unit {0}) E → X →
   }
 
   pub Taken-close : (stopped : Result (Unit {0}) E) (made turns : ℕ) (z : X) → made ≤ turns → now.reads ≡ counted_up made old.reads → now.ends ≡ one_more old.ends → now.failures ≡ old.failures
-      → IsAtEnd now.left → TakesLast Took so_far.given y z stopped → Taken Took old now turns (ending_as (ended_by stopped)) x z (stopped_as (ended_by stopped))
+      → IsAtEnd now.bytes.left → TakesLast Took so_far.given y z stopped → Taken Took old now turns (ending_as (ended_by stopped)) x z (stopped_as (ended_by stopped))
   Taken-close (Ok done) made turns z within reads ends lost over last = Taken-over AtEnd (Ok tt) made turns z refl within reads lost last (refl, ends, over)
   Taken-close (Err stop) made turns z within reads ends lost over last = Taken-over LineStopped (Err stop) made turns z refl within reads lost last tt
 
 -- the end was found after a piece, and a last line may stop the call
 module _ {X E : Type 0} (Took : X → List Cut → Result (Unit {0}) E → X → Type 0)
     (joined : (x y z : X) (cs ds : List Cut) (r : Result (Unit {0}) E) → Took x cs (Ok tt) y → Took y ds r z → Took x (cs ++ ds) r z)
-    (old mid new : Drawn) (held : Cut) (x y : X) (so_far : GivenSoFar Took old.left mid.left held x y)
-    (piece : List ℕ) (held_now : Cut) (z : X) (read : Consumes mid.left new.left piece) (more : TakesBytes Took so_far.given piece held_now y z (Ok tt)) where
+    (old mid new : Drawn) (held : Cut) (x y : X) (so_far : GivenSoFar Took old.bytes mid.bytes held x y)
+    (piece : List ℕ) (held_now : Cut) (z : X) (read : Gives mid.bytes new.bytes piece) (more : TakesBytes Took so_far.given piece held_now y z (Ok tt)) where
   pub Taken-end : (stopped : Result (Unit {0}) E) (made turns : ℕ) (w : X) → made ≤ turns → new.reads ≡ counted_up made old.reads → new.ends ≡ one_more old.ends → new.failures ≡ old.failures
-      → IsAtEnd new.left → ((before : List ℕ) → held_now ≡ pending before → TakesLast Took before z w stopped) → Taken Took old new turns (ending_as (ended_by stopped)) x w (stopped_as (ended_by stopped))
+      → IsAtEnd new.bytes.left → ((before : List ℕ) → held_now ≡ pending before → TakesLast Took before z w stopped) → Taken Took old new turns (ending_as (ended_by stopped)) x w (stopped_as (ended_by stopped))
   Taken-end stopped made turns w within reads ends lost over last =
-      let all : GivenSoFar Took old.left new.left held_now x z = GivenSoFar-piece Took joined old mid new held x y so_far piece held_now z read more in
+      let all : GivenSoFar Took old.bytes new.bytes held_now x z = GivenSoFar-piece Took joined old mid new held x y so_far piece held_now z read more in
       Taken-close Took joined old new held_now x z all stopped made turns w within reads ends lost over (last all.given all.taken.all_taken.1)
 
 -- all turns were used
-pub Taken-turns : {X E : Type 0} (Took : X → List Cut → Result (Unit {0}) E → X → Type 0) (old now : Drawn) (held : Cut) (x y : X) → GivenSoFar Took old.left now.left held x y
+pub Taken-turns : {X E : Type 0} (Took : X → List Cut → Result (Unit {0}) E → X → Type 0) (old now : Drawn) (held : Cut) (x y : X) → GivenSoFar Took old.bytes now.bytes held x y
     → (turn turns : ℕ) → turn ≡ turns → now.reads ≡ counted_up turn old.reads → now.ends ≡ old.ends → now.failures ≡ old.failures → Taken Took old now turns TurnsOver x y (Ok tt)
 Taken-turns Took old now held x y so_far turn turns over reads ends lost =
     let all = so_far.taken.ended ∙ ap (λ ls. so_far.taken.lines ++ ls) so_far.taken.all_taken.0 ∙ append-nil so_far.taken.lines in

@@ -59,11 +59,11 @@ impl Piece {
     fn read_more<S: Source>(&mut self, from: &mut S) -> Result<usize, Failed>
         requires room { self.old.count + 512 ≤ longest_piece }
         ensures ok { IfOk result (λ n. ReadsMore
-            (drawn_of S.left S.reads S.ends S.failures from.old)
-            (drawn_of S.left S.reads S.ends S.failures from.new) (held self.old) (held self.new) n) }
+            (drawn_of S.left S.given S.reads S.ends S.failures from.old)
+            (drawn_of S.left S.given S.reads S.ends S.failures from.new) (held self.old) (held self.new) n) }
         ensures err { OnErr result (FailsOnce
-            (drawn_of S.left S.reads S.ends S.failures from.old)
-            (drawn_of S.left S.reads S.ends S.failures from.new)) }
+            (drawn_of S.left S.given S.reads S.ends S.failures from.old)
+            (drawn_of S.left S.given S.reads S.ends S.failures from.new)) }
         ensures at_hand { S.at_hand from.old ≡ true → is_ok result ≡ true }
     {
         let held = self.count;
@@ -77,11 +77,11 @@ impl Piece {
     pub(crate) fn gather<S: Source>(&mut self, from: &mut S, turns: u32) -> Result<Gathered, Failed>
         requires { 0 < turns }
         ensures ok { IfOk result (λ g. Gathers
-            (drawn_of S.left S.reads S.ends S.failures from.old)
-            (drawn_of S.left S.reads S.ends S.failures from.new) turns (held self.new) g.reads g.is_over) }
+            (drawn_of S.left S.given S.reads S.ends S.failures from.old)
+            (drawn_of S.left S.given S.reads S.ends S.failures from.new) turns (held self.new) g.reads g.is_over) }
         ensures err { OnErr result (FailsOnce
-            (drawn_of S.left S.reads S.ends S.failures from.old)
-            (drawn_of S.left S.reads S.ends S.failures from.new)) }
+            (drawn_of S.left S.given S.reads S.ends S.failures from.old)
+            (drawn_of S.left S.given S.reads S.ends S.failures from.new)) }
     {
         self.count = 0;
         let mut count = self.read_more(from)?;

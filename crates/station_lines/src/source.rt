@@ -1,6 +1,6 @@
 //! Sources of bytes.
-ghost use Rattle.std.specs.Prelude.{◌≡◌, ◌≤◌, ℕ, Bool, true, false, List, Option, IfOk, is_ok, not, length};
-ghost use Rattle.std.specs.Io.KnownBytes.{ReadConsumes};
+ghost use Rattle.std.specs.Prelude.{◌≡◌, ◌≤◌, ℕ, Bool, true, false, List, Option, None, IfOk, is_ok, not, length};
+ghost use Rattle.std.specs.Io.KnownBytes.{ReadConsumes, WriteAppends};
 ghost use Rattle.station_report.specs.Sink.{counted};
 ghost use Rattle.station_lines.specs.Source.{is_end, one_more};
 
@@ -10,6 +10,9 @@ use station_report::Failed;
 pub trait Source {
     /// The bytes still to come, where they are known.
     ghost left: { Self → Option (List ℕ) };
+
+    /// The bytes given so far, where the source reports them.
+    ghost given: { Self → Option (List ℕ) } = { λ _. None };
 
     /// How many reads there were so far.
     ghost reads: { Self → ℕ };
@@ -35,6 +38,7 @@ pub trait Source {
     fn read(&mut self, buffer: &mut [u8]) -> Result<usize, Failed>
         ensures within { IfOk result (λ n. n ≤ length buffer.new) }
         ensures bytes { ReadConsumes (left self.old) (left self.new) result buffer.new }
+        ensures given { WriteAppends (given self.old) (given self.new) result buffer.new }
         ensures reads { reads self.new ≡ one_more (reads self.old) }
         ensures ends { ends self.new
             ≡ counted (not (is_end result (length buffer.new))) (ends self.old) }

@@ -159,8 +159,8 @@ pub fn take_lines<T: PieceTaker, S: Source, R: Wait>(
 ) -> Ended<T::Stop>
     requires new { T.counted taker.old ≡ 0 }
     ensures { Taken T.took
-        (drawn_of S.left S.reads S.ends S.failures from.old)
-        (drawn_of S.left S.reads S.ends S.failures from.new)
+        (drawn_of S.left S.given S.reads S.ends S.failures from.old)
+        (drawn_of S.left S.given S.reads S.ends S.failures from.new)
         turns (ending_as result) taker.old taker.new (stopped_as result) }
 {
     let mut cutter = Cutter::new();

@@ -1,7 +1,7 @@
 -- Showings of the reporter, one more at the end.
 use Rattle.std.proofs.Common.{rules, ◌≡◌, ◌∙◌, ◌⊎◌, inl, inr, ℕ, ◌≤◌, ◌<◌, Bool, true, false, List, [], ◌∷◌, ◌++◌, Option, Some, None, Result, Ok, Err, IfSome, refl, sym, ap, subst, append_assoc, append-nil, cond, map}
-use Rattle.std.proofs.lemmas.Bool.{lt-ltb, le-ltb}
-use Rattle.std.specs.Prelude.{is_err, IfOk, IfErr, nat_lt}
+use Rattle.std.proofs.lemmas.Bool.{lt-leb, le-leb}
+use Rattle.std.specs.Prelude.{is_err, IfOk, IfErr, nat_le}
 use Rattle.std.specs.Io.KnownBytes.{Appends}
 use Rattle.std.proofs.KnownBytes.{Appends-nil, Appends-trans}
 use Rattle.station_journal.specs.declared.entry.Entry.TheVariants.{Tick}
@@ -12,32 +12,85 @@ use Rattle.station_desk.specs.Start.{Start}
 use Rattle.station_shared.specs.Seats.{Seated, Accepted, Refused, Looks}
 use Rattle.station_desk.specs.History.{Known}
 use Rattle.station_main.specs.Output.{Printed}
-use Rattle.station_main.specs.Reporter.{IsShowing, Reports, Showing, Showings, Ticks, due_moments, looks_of, next_moment, seat_after}
+use Rattle.station_main.specs.Reporter.{Acting, IsShowing, Reports, Showing, Showings, Ticks, after_table, after_tick, due_moments, has_come, looks_of, seat_after}
 use Rattle.station_main.specs.Recorded.{IfRecording, PrintsAndRecords, Recording, Records, seen_by}
+use Rattle.station_main.specs.declared.schedule.Due.{Due}
+use Rattle.station_main.specs.declared.schedule.Pace.{Pace}
 use Rattle.station_main.specs.Tables.{Prints, PassesOver, TakesTexts, shown, texts, failures_after}
 use Rattle.station_main.proofs.RecordedLemmas.{no-more-records, no-records, one-more-look}
 
 -- ---- times
 
--- when the next table is due, after these times
-abbrev pub due_after : (every due : ℕ) → List ℕ → ℕ
-due_after every due [] = due
-due_after every due (now ∷ moments) = cond (nat_lt now due) (due_after every due moments) (due_after every (next_moment every now) moments)
+-- what is due next, after these times
+abbrev pub due_after : Pace → Due → List ℕ → Due
+due_after pace due [] = due
+due_after pace due (now ∷ moments) =
+    cond (nat_le due.table now) (due_after pace (after_table pace now) moments)
+    (cond (has_come due.tick now) (due_after pace (after_tick pace due now) moments) (due_after pace due moments))
 
-due_moments-append : (every due : ℕ) (moments more : List ℕ) → due_moments every due (moments ++ more) ≡ due_moments every due moments ++ due_moments every (due_after every due moments) more
-due_moments-append every due [] more = refl
-due_moments-append every due (now ∷ moments) more =
-    elim (nat_lt now due) as (λ early. cond early (due_moments every due (moments ++ more)) (now ∷ due_moments every (next_moment every now) (moments ++ more))
-    ≡ cond early (due_moments every due moments) (now ∷ due_moments every (next_moment every now) moments)
-    ++ due_moments every (cond early (due_after every due moments) (due_after every (next_moment every now) moments)) more)
-    [ true ↦ due_moments-append every due moments more | false ↦ ap (λ ms. now ∷ ms) (due_moments-append every (next_moment every now) moments more) ]
+append-by : (table tick : Bool) (later : Due → List Acting) (t u : Acting) (a b c : Due) (of_a of_b of_c all_a all_b all_c : List Acting)
+    → all_a ≡ of_a ++ later a → all_b ≡ of_b ++ later b → all_c ≡ of_c ++ later c
+    → cond table (t ∷ all_a) (cond tick (u ∷ all_b) all_c) ≡ cond table (t ∷ of_a) (cond tick (u ∷ of_b) of_c) ++ later (cond table a (cond tick b c))
+append-by true tick later t u a b c of_a of_b of_c all_a all_b all_c p q r = ap (λ (ms : List Acting). t ∷ ms) p
+append-by false true later t u a b c of_a of_b of_c all_a all_b all_c p q r = ap (λ (ms : List Acting). u ∷ ms) q
+append-by false false later t u a b c of_a of_b of_c all_a all_b all_c p q r = r
 
-due_after-append : (every due : ℕ) (moments more : List ℕ) → due_after every due (moments ++ more) ≡ due_after every (due_after every due moments) more
-due_after-append every due [] more = refl
-due_after-append every due (now ∷ moments) more =
-    elim (nat_lt now due) as (λ early. cond early (due_after every due (moments ++ more)) (due_after every (next_moment every now) (moments ++ more))
-    ≡ due_after every (cond early (due_after every due moments) (due_after every (next_moment every now) moments)) more)
-    [ true ↦ due_after-append every due moments more | false ↦ due_after-append every (next_moment every now) moments more ]
+due_moments-append : (pace : Pace) (due : Due) (moments more : List ℕ) → due_moments pace due (moments ++ more) ≡ due_moments pace due moments ++ due_moments pace (due_after pace due moments) more
+due_moments-append pace due [] more = refl
+due_moments-append pace due (now ∷ moments) more =
+    append-by (nat_le due.table now) (has_come due.tick now) (λ (d : Due). due_moments pace d more) (record { at = now; has_table = true }) (record { at = now; has_table = false })
+    (due_after pace (after_table pace now) moments) (due_after pace (after_tick pace due now) moments) (due_after pace due moments)
+    (due_moments pace (after_table pace now) moments) (due_moments pace (after_tick pace due now) moments) (due_moments pace due moments)
+    (due_moments pace (after_table pace now) (moments ++ more)) (due_moments pace (after_tick pace due now) (moments ++ more)) (due_moments pace due (moments ++ more))
+    (due_moments-append pace (after_table pace now) moments more) (due_moments-append pace (after_tick pace due now) moments more) (due_moments-append pace due moments more)
+
+after-by : (table tick : Bool) (later : Due → Due) (a b c all_a all_b all_c : Due) → all_a ≡ later a → all_b ≡ later b → all_c ≡ later c
+    → cond table all_a (cond tick all_b all_c) ≡ later (cond table a (cond tick b c))
+after-by true tick later a b c all_a all_b all_c p q r = p
+after-by false true later a b c all_a all_b all_c p q r = q
+after-by false false later a b c all_a all_b all_c p q r = r
+
+due_after-append : (pace : Pace) (due : Due) (moments more : List ℕ) → due_after pace due (moments ++ more) ≡ due_after pace (due_after pace due moments) more
+due_after-append pace due [] more = refl
+due_after-append pace due (now ∷ moments) more =
+    after-by (nat_le due.table now) (has_come due.tick now) (λ (d : Due). due_after pace d more)
+    (due_after pace (after_table pace now) moments) (due_after pace (after_tick pace due now) moments) (due_after pace due moments)
+    (due_after pace (after_table pace now) (moments ++ more)) (due_after pace (after_tick pace due now) (moments ++ more)) (due_after pace due (moments ++ more))
+    (due_after-append pace (after_table pace now) moments more) (due_after-append pace (after_tick pace due now) moments more) (due_after-append pace due moments more)
+
+first-case : {X : Type 0} (table : Bool) (x y : X) → table ≡ true → cond table x y ≡ x
+first-case true x y p = refl
+first-case false x y p = absurd (search rules)
+
+second-case : {X : Type 0} (table tick : Bool) (x y z : X) → table ≡ false → tick ≡ true → cond table x (cond tick y z) ≡ y
+second-case true tick x y z p q = absurd (search rules)
+second-case false true x y z p q = refl
+second-case false false x y z p q = absurd (search rules)
+
+third-case : {X : Type 0} (table tick : Bool) (x y z : X) → table ≡ false → tick ≡ false → cond table x (cond tick y z) ≡ z
+third-case true tick x y z p q = absurd (search rules)
+third-case false true x y z p q = absurd (search rules)
+third-case false false x y z p q = refl
+
+-- one more time, at which these are the acts and this is due next
+record OneMore (pace : Pace) (due next : Due) (now : ℕ) (acts : List Acting) : Type 0 where
+  moments : due_moments pace due (now ∷ []) ≡ acts
+  after : due_after pace due (now ∷ []) ≡ next
+
+nothing-due : (pace : Pace) (due : Due) (now : ℕ) → now < due.table → has_come due.tick now ≡ false → OneMore pace due due now []
+nothing-due pace due now early none =
+    let before = lt-leb due.table now early in
+    record { moments = third-case (nat_le due.table now) (has_come due.tick now) _ _ _ before none; after = third-case (nat_le due.table now) (has_come due.tick now) _ _ _ before none }
+
+tick-due : (pace : Pace) (due : Due) (now : ℕ) → now < due.table → has_come due.tick now ≡ true → OneMore pace due (after_tick pace due now) now (record { at = now; has_table = false } ∷ [])
+tick-due pace due now early come =
+    let before = lt-leb due.table now early in
+    record { moments = second-case (nat_le due.table now) (has_come due.tick now) _ _ _ before come; after = second-case (nat_le due.table now) (has_come due.tick now) _ _ _ before come }
+
+table-due : (pace : Pace) (due : Due) (now : ℕ) → due.table ≤ now → OneMore pace due (after_table pace now) now (record { at = now; has_table = true } ∷ [])
+table-due pace due now late =
+    let come = le-leb due.table now late in
+    record { moments = first-case (nat_le due.table now) _ _ come; after = first-case (nat_le due.table now) _ _ come }
 
 -- ---- showings
 
@@ -46,9 +99,9 @@ Showings_snoc : (station : Start) (old mid : Seated) (showings : List Showing) (
 Showings_snoc station old mid [] showing walk is = (subst (λ s. IsShowing station s showing) walk is, refl)
 Showings_snoc station old mid (r ∷ rs) showing walk is = (walk.0, Showings_snoc station (seat_after r) mid rs showing walk.1 is)
 
-moments_snoc : (showings : List Showing) (showing : Showing) → map (λ (r : Showing). r.at) (showings ++ showing ∷ []) ≡ map (λ (r : Showing). r.at) showings ++ showing.at ∷ []
-moments_snoc [] showing = refl
-moments_snoc (r ∷ rs) showing = ap (λ (ms : List ℕ). r.at ∷ ms) (moments_snoc rs showing)
+acts_snoc : (showings : List Showing) (showing : Showing) → map (λ (r : Showing). r.acting) (showings ++ showing ∷ []) ≡ map (λ (r : Showing). r.acting) showings ++ showing.acting ∷ []
+acts_snoc [] showing = refl
+acts_snoc (r ∷ rs) showing = ap (λ (acts : List Acting). r.acting ∷ acts) (acts_snoc rs showing)
 
 looks_snoc : (showings : List Showing) (showing : Showing) → looks_of (showings ++ showing ∷ []) ≡ looks_of showings ++ showing.look ∷ []
 looks_snoc [] showing = refl
@@ -111,32 +164,42 @@ pub printed_at_most : (station : Start) (looks : List (Option Seated)) (old new 
 printed_at_most station looks old new start before after was is result so_far same (inl prints) = printed station looks old new start before after was is result so_far same prints.0 prints.1
 printed_at_most station looks old new start before after was is result so_far same (inr passes) = passed station looks old new start before after was is result so_far same passes.0 passes.1
 
--- the showings so far, by the times that a clock gave after the first ones; a table is due at `due`
-pub record ReportsTo (station : Start) (every last moment : ℕ) (given given_now : Option (List ℕ)) (old new : Seated) (before after : Printed) (was is : Option Recording) (has_failed : Bool) : Type 0 where
+-- the showings so far, by the times that a clock gave after the first ones, and what is due next
+pub record ReportsTo (station : Start) (pace : Pace) (last : ℕ) (due : Due) (given given_now : Option (List ℕ)) (old new : Seated) (before after : Printed) (was is : Option Recording) (has_failed : Bool) : Type 0 where
   pub moments : List ℕ
   pub are_given : Appends given given_now moments
-  pub due : moment ≡ due_after every (next_moment every last) moments
-  pub reports : Reports station every last moments old new before after was is has_failed
+  pub due_is : due ≡ due_after pace (after_table pace last) moments
+  pub reports : Reports station pace last moments old new before after was is has_failed
 
-pub no_moment : (station : Start) (every last : ℕ) (seat : Seated) (sink : Printed) (was : Option Recording) → Reports station every last [] seat seat sink sink was was false
-no_moment station every last seat sink was = record { showings = []; keeps = record { due = refl; walk = refl }; takes = Appends-nil sink.taken; failures = refl; records = no-records was }
+pub no_moment : (station : Start) (pace : Pace) (last : ℕ) (seat : Seated) (sink : Printed) (was : Option Recording) → Reports station pace last [] seat seat sink sink was was false
+no_moment station pace last seat sink was = record { showings = []; keeps = record { due = refl; walk = refl }; takes = Appends-nil sink.taken; failures = refl; records = no-records was }
 
--- nothing is done at a time at which no table is due
-pub one_more_sleep : (station : Start) (every last moment now : ℕ) (given given_before given_now : Option (List ℕ)) (old new : Seated) (before after : Printed) (was is : Option Recording) (has_failed : Bool)
-    → ReportsTo station every last moment given given_before old new before after was is has_failed → Appends given_before given_now (now ∷ []) → now < moment
-    → ReportsTo station every last moment given given_now old new before after was is has_failed
-one_more_sleep station every last moment now given given_before given_now old new before after was is has_failed so_far gives early =
-    let is_early : nat_lt now (due_after every (next_moment every last) so_far.moments) ≡ true = subst (λ m. nat_lt now m ≡ true) so_far.due (lt-ltb now moment early) in
+-- the acts up to one more time
+acts-then : (pace : Pace) (last : ℕ) (due next : Due) (now : ℕ) (moments : List ℕ) (acts : List Acting) → due ≡ due_after pace (after_table pace last) moments → OneMore pace due next now acts
+    → due_moments pace (after_table pace last) (moments ++ now ∷ []) ≡ due_moments pace (after_table pace last) moments ++ acts
+acts-then pace last due next now moments acts is more =
+    due_moments-append pace (after_table pace last) moments (now ∷ []) ∙ ap (λ (d : Due). due_moments pace (after_table pace last) moments ++ due_moments pace d (now ∷ [])) (sym is)
+    ∙ ap (λ (acts : List Acting). due_moments pace (after_table pace last) moments ++ acts) more.moments
+
+due-then : (pace : Pace) (last : ℕ) (due next : Due) (now : ℕ) (moments : List ℕ) (acts : List Acting) → due ≡ due_after pace (after_table pace last) moments → OneMore pace due next now acts
+    → next ≡ due_after pace (after_table pace last) (moments ++ now ∷ [])
+due-then pace last due next now moments acts is more =
+    sym (due_after-append pace (after_table pace last) moments (now ∷ []) ∙ ap (λ (d : Due). due_after pace d (now ∷ [])) (sym is) ∙ more.after)
+
+-- nothing is done at a time at which nothing is due
+pub one_more_sleep : (station : Start) (pace : Pace) (last : ℕ) (due : Due) (now : ℕ) (given given_before given_now : Option (List ℕ)) (old new : Seated) (before after : Printed) (was is : Option Recording) (has_failed : Bool)
+    → ReportsTo station pace last due given given_before old new before after was is has_failed → Appends given_before given_now (now ∷ []) → now < due.table → has_come due.tick now ≡ false
+    → ReportsTo station pace last due given given_now old new before after was is has_failed
+one_more_sleep station pace last due now given given_before given_now old new before after was is has_failed so_far gives early none =
+    let more = nothing-due pace due now early none in
     record {
       moments = so_far.moments ++ now ∷ [];
       are_given = Appends-trans given given_before given_now _ _ so_far.are_given gives;
-      due = so_far.due ∙ sym (due_after-append every (next_moment every last) so_far.moments (now ∷ []) ∙ ap (λ b. cond b (due_after every (next_moment every last) so_far.moments) (next_moment every now)) is_early);
+      due_is = due-then pace last due due now so_far.moments [] so_far.due_is more;
       reports = record {
         showings = so_far.reports.showings;
         keeps = record {
-          due = so_far.reports.keeps.due ∙ sym (due_moments-append every (next_moment every last) so_far.moments (now ∷ [])
-              ∙ ap (λ b. due_moments every (next_moment every last) so_far.moments ++ cond b [] (now ∷ [])) is_early
-              ∙ append-nil (due_moments every (next_moment every last) so_far.moments));
+          due = so_far.reports.keeps.due ∙ sym (acts-then pace last due due now so_far.moments [] so_far.due_is more ∙ append-nil (due_moments pace (after_table pace last) so_far.moments));
           walk = so_far.reports.keeps.walk;
         };
         takes = so_far.reports.takes;
@@ -145,8 +208,37 @@ one_more_sleep station every last moment now given given_before given_now old ne
       };
     }
 
+-- a tick alone, at a time at which only that is due
+pub one_more_tick : (station : Start) (pace : Pace) (last : ℕ) (due : Due) (now : ℕ) (given given_before given_now : Option (List ℕ)) (old mid new : Seated) (start before : Printed) (first was : Option Recording)
+    → ReportsTo station pace last due given given_before old mid start before first was false → Appends given_before given_now (now ∷ []) → now < due.table → has_come due.tick now ≡ true
+    → Ticks station mid now new
+    → ReportsTo station pace last (after_tick pace due now) given given_now old new start before first was false
+one_more_tick station pace last due now given given_before given_now old mid new start before first was so_far gives early come ticks =
+    let more = tick-due pace due now early come in
+    let showings = so_far.reports.showings in
+    let showing : Showing = record { acting = record { at = now; has_table = false }; ticked = new; look = None } in
+    let shows : IsShowing station mid showing = record { ticks = ticks; looks = tt; alone = λ _. refl } in
+    record {
+      moments = so_far.moments ++ now ∷ [];
+      are_given = Appends-trans given given_before given_now _ _ so_far.are_given gives;
+      due_is = due-then pace last due (after_tick pace due now) now so_far.moments _ so_far.due_is more;
+      reports = record {
+        showings = showings ++ showing ∷ [];
+        keeps = record {
+          due = acts_snoc showings showing ∙ ap (λ (acts : List Acting). acts ++ showing.acting ∷ []) so_far.reports.keeps.due
+              ∙ sym (acts-then pace last due (after_tick pace due now) now so_far.moments _ so_far.due_is more);
+          walk = Showings_snoc station old mid showings showing so_far.reports.keeps.walk shows;
+        };
+        takes = subst (λ ls. TakesTexts station ls start.taken before.taken false) (sym (looks_snoc showings showing))
+            (subst (Appends start.taken before.taken) (sym (texts_snoc station (looks_of showings) None ∙ append-nil (texts station (looks_of showings)))) so_far.reports.takes);
+        failures = so_far.reports.failures;
+        records = subst (λ (ls : List (Option Seated)). IfRecording (Records (seen_by ls)) first was) (sym (looks_snoc showings showing))
+            (one-more-look (looks_of showings) None first was was so_far.reports.records (no-more-records was was refl));
+      };
+    }
+
 end_of : (station : Start) (ticked new : Seated) (at : ℕ) (look : Option Seated) → (look ≡ None) × (new ≡ ticked) ⊎ (look ≡ Some new) × Looks station ticked new
-    → seat_after (record { at = at; ticked = ticked; look = look }) ≡ new
+    → seat_after (record { acting = record { at = at; has_table = true }; ticked = ticked; look = look }) ≡ new
 end_of station ticked new at None (inl p) = sym p.1
 end_of station ticked new at None (inr p) = absurd (search rules)
 end_of station ticked new at (Some look) (inl p) = absurd (search rules)
@@ -163,30 +255,31 @@ pub ticks_of : {N : Type 0} (station : Start) (old new : Seated) (at : ℕ) (nam
 ticks_of station old new at name n (Ok receipt) accepted refused = inl (receipt, accepted.1)
 ticks_of station old new at name n (Err refusal) accepted refused = inr (refusal, refused)
 
-pub one_more_showing : (station : Start) (every last moment now : ℕ) (given given_before given_now : Option (List ℕ)) (old mid ticked new : Seated) (start before after : Printed) (first was is : Option Recording) (result : Result (Unit {0}) WriteFault)
-    → ReportsTo station every last moment given given_before old mid start before first was false → Appends given_before given_now (now ∷ []) → moment ≤ now
+pub one_more_showing : (station : Start) (pace : Pace) (last : ℕ) (due : Due) (now : ℕ) (given given_before given_now : Option (List ℕ)) (old mid ticked new : Seated) (start before after : Printed) (first was is : Option Recording) (result : Result (Unit {0}) WriteFault)
+    → ReportsTo station pace last due given given_before old mid start before first was false → Appends given_before given_now (now ∷ []) → due.table ≤ now
     → Ticks station mid now ticked → PrintsAndRecords station ticked new before after was is result
-    → ReportsTo station every last (next_moment every now) given given_now old new start after first is (is_err result)
-one_more_showing station every last moment now given given_before given_now old mid ticked new start before after first was is result so_far gives late ticks prints =
-    let is_late : nat_lt now (due_after every (next_moment every last) so_far.moments) ≡ false = subst (λ m. nat_lt now m ≡ false) so_far.due (le-ltb now moment late) in
-    let p = printed_at_most station (looks_of so_far.reports.showings) ticked new start before after was is result so_far.reports.takes so_far.reports.failures prints in
-    let showing : Showing = record { at = now; ticked = ticked; look = p.look } in
-    let shows : IsShowing station mid showing = record { ticks = ticks; looks = looked_is station ticked new p.look p.looked } in
+    → ReportsTo station pace last (after_table pace now) given given_now old new start after first is (is_err result)
+one_more_showing station pace last due now given given_before given_now old mid ticked new start before after first was is result so_far gives late ticks prints =
+    let more = table-due pace due now late in
+    let showings = so_far.reports.showings in
+    let p = printed_at_most station (looks_of showings) ticked new start before after was is result so_far.reports.takes so_far.reports.failures prints in
+    let showing : Showing = record { acting = record { at = now; has_table = true }; ticked = ticked; look = p.look } in
+    let shows : IsShowing station mid showing = record { ticks = ticks; looks = looked_is station ticked new p.look p.looked; alone = λ (e : true ≡ false). absurd (search rules) } in
     record {
       moments = so_far.moments ++ now ∷ [];
       are_given = Appends-trans given given_before given_now _ _ so_far.are_given gives;
-      due = sym (due_after-append every (next_moment every last) so_far.moments (now ∷ []) ∙ ap (λ b. cond b (due_after every (next_moment every last) so_far.moments) (next_moment every now)) is_late);
+      due_is = due-then pace last due (after_table pace now) now so_far.moments _ so_far.due_is more;
       reports = record {
-        showings = so_far.reports.showings ++ showing ∷ [];
+        showings = showings ++ showing ∷ [];
         keeps = record {
-          due = moments_snoc so_far.reports.showings showing ∙ ap (λ ms. ms ++ now ∷ []) so_far.reports.keeps.due
-              ∙ sym (due_moments-append every (next_moment every last) so_far.moments (now ∷ []) ∙ ap (λ b. due_moments every (next_moment every last) so_far.moments ++ cond b [] (now ∷ [])) is_late);
-          walk = subst (Showings station old (so_far.reports.showings ++ showing ∷ [])) (end_of station ticked new now p.look p.looked)
-              (Showings_snoc station old mid so_far.reports.showings showing so_far.reports.keeps.walk shows);
+          due = acts_snoc showings showing ∙ ap (λ (acts : List Acting). acts ++ showing.acting ∷ []) so_far.reports.keeps.due
+              ∙ sym (acts-then pace last due (after_table pace now) now so_far.moments _ so_far.due_is more);
+          walk = subst (Showings station old (showings ++ showing ∷ [])) (end_of station ticked new now p.look p.looked)
+              (Showings_snoc station old mid showings showing so_far.reports.keeps.walk shows);
         };
-        takes = subst (λ ls. TakesTexts station ls start.taken after.taken (is_err result)) (sym (looks_snoc so_far.reports.showings showing)) p.takes;
+        takes = subst (λ ls. TakesTexts station ls start.taken after.taken (is_err result)) (sym (looks_snoc showings showing)) p.takes;
         failures = p.failures;
-        records = subst (λ (ls : List (Option Seated)). IfRecording (Records (seen_by ls)) first is) (sym (looks_snoc so_far.reports.showings showing))
-            (one-more-look (looks_of so_far.reports.showings) p.look first was is so_far.reports.records p.records);
+        records = subst (λ (ls : List (Option Seated)). IfRecording (Records (seen_by ls)) first is) (sym (looks_snoc showings showing))
+            (one-more-look (looks_of showings) p.look first was is so_far.reports.records p.records);
       };
     }

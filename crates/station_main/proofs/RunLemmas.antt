@@ -1,6 +1,6 @@
 -- What an accepted command line gives `run`.
 use Rattle.std.proofs.Common.{rules, ◌≡◌, ◌∙◌, ◌≤◌, ◌⊎◌, inl, inr, ℕ, Bool, true, false, zero, suc, List, [], ◌∷◌, ◌++◌, Option, Some, None, refl, sym, ap, ap₂, subst, ◌==◌, length, codes, drop, arith, pos}
-use Rattle.std.specs.Prelude.{⊤, nat_lt, int_le, unwrap_or, slice_get, option_and_then, neg_ℤ, find, is_some, not, ◌&&◌, ◌||◌, cond, fold, option_map, if◌then◌else◌}
+use Rattle.std.specs.Prelude.{⊤, nat_lt, int_le, unwrap_or, slice_get, option_and_then, neg_ℤ, find, is_some, not, ◌&&◌, ◌||◌, cond, fold, option_map, if◌then◌else◌, IfSome}
 use Rattle.std.specs.Option.{option_map_or}
 use Rattle.std.specs.Str.{bytes_eq}
 use Rattle.clap.specs.Faults.{entered_fault, fault_of, level_fault, use_fault, set_fault, repeat_fault, values_fault, check_fault, walk_fault, settle_fault, defaults_fault}
@@ -26,7 +26,7 @@ use Rattle.clap.specs.declared.builder.value_parser.ValueParser.TheVariants.{Sig
 use Rattle.clap.specs.declared.parser.matches.ValueSource.{ValueSource}
 use Rattle.clap.specs.declared.parser.matches.ValueSource.TheVariants.{CommandLine, DefaultValue}
 use Rattle.clap.proofs.OnLiterals.{clap_on_literals}
-use Rattle.station_main.specs.Command.{IsGiven, every, number, path, record_file, replay, rounds, run, station}
+use Rattle.station_main.specs.Command.{IsGiven, IsNumberUpTo, every, number, path, record_file, replay, rounds, run, station, tick}
 use Rattle.station_main.proofs.WalkedLemmas.{Keeps, both_none, not_none, settles, walks}
 
 -- ---- rows
@@ -35,12 +35,13 @@ use Rattle.station_main.proofs.WalkedLemmas.{Keeps, both_none, not_none, settles
 abbrev pub IsNumber : Text → ℕ → Row → Type 0
 IsNumber id most r = (r.id ≡ id) × (r.reading ≡ WithoutMinus) × ((v : Text) × (r.values ≡ v ∷ []) × (is_signed_in (pos 1) (pos most) v ≡ true))
 
--- the row of `--every`, `--rounds`, PATH or `--record` after an accepted use or a default
+-- the row of `--every`, `--tick`, `--rounds`, PATH or `--record` after an accepted use or a default
 abbrev pub Good : Row → Type 0
 Good r = IsNumber (codes "every") 3600000 r
+    ⊎ (IsNumber (codes "tick") 60000 r
     ⊎ (IsNumber (codes "rounds") 1000 r
     ⊎ (((r.id ≡ codes "path") × (1 ≤ length r.values) × (length r.values ≤ 8))
-    ⊎ (r.id ≡ codes "record")))
+    ⊎ (r.id ≡ codes "record"))))
 
 abbrev pub Fine : List Row → Type 0
 Fine [] = ⊤
@@ -104,6 +105,9 @@ accepted false k e = absurd (not_none _ _ e)
 abbrev pub every_rule : Rule
 every_rule = with_index 1 (filled every)
 
+abbrev pub tick_rule : Rule
+tick_rule = with_index 1 (filled tick)
+
 abbrev pub rounds_rule : Rule
 rounds_rule = with_index 1 (filled rounds)
 
@@ -145,9 +149,13 @@ keeps_every : (values : List Text) (rows : List Row) → use_fault false every_r
 keeps_every [] rows e f = absurd (not_none _ _ e)
 keeps_every (v ∷ vs) rows e f = keeps_number (codes "every") 3600000 (λ r number. inl number) v vs rows e f
 
+keeps_tick : (values : List Text) (rows : List Row) → use_fault false tick_rule values rows ≡ [] → Fine rows → Fine (used tick_rule values rows)
+keeps_tick [] rows e f = absurd (not_none _ _ e)
+keeps_tick (v ∷ vs) rows e f = keeps_number (codes "tick") 60000 (λ r number. inr (inl number)) v vs rows e f
+
 keeps_rounds : (values : List Text) (rows : List Row) → use_fault false rounds_rule values rows ≡ [] → Fine rows → Fine (used rounds_rule values rows)
 keeps_rounds [] rows e f = absurd (not_none _ _ e)
-keeps_rounds (v ∷ vs) rows e f = keeps_number (codes "rounds") 1000 (λ r number. inr (inl number)) v vs rows e f
+keeps_rounds (v ∷ vs) rows e f = keeps_number (codes "rounds") 1000 (λ r number. inr (inr (inl number))) v vs rows e f
 
 at_most : (b : Bool) (n : ℕ) → nat_lt 8 n ≡ b → (if b then kind.TooManyValues ∷ [] else []) ≡ [] → n ≤ 8
 at_most true n is e = absurd (not_none _ _ e)
@@ -170,7 +178,7 @@ keeps_path (v ∷ vs) rows e f =
     let few = at_most_eight (length (v ∷ vs)) counted.0 in
     let parts = both_none (repeat_fault false (codes "path") rows) (values_fault path_rule (v ∷ vs)) counted.1 in
     let none = not_repeated (has_row (codes "path") rows) parts.0 in
-    subst Fine (sym (set_adds (codes "path") AsWritten (v ∷ vs) rows none)) (fine_snoc rows (row_for CommandLine (codes "path") AsWritten (v ∷ vs)) f (inr (inr (inl (refl, omega arith, few)))))
+    subst Fine (sym (set_adds (codes "path") AsWritten (v ∷ vs) rows none)) (fine_snoc rows (row_for CommandLine (codes "path") AsWritten (v ∷ vs)) f (inr (inr (inr (inl (refl, omega arith, few))))))
 
 keeps_record : (values : List Text) (rows : List Row) → use_fault false record_rule values rows ≡ [] → Fine rows → Fine (used record_rule values rows)
 unfolding row_for
@@ -179,7 +187,7 @@ keeps_record (v ∷ vs) rows e f =
     let counted = both_none (range_kinds 1 1 (length (v ∷ vs))) (set_fault false record_rule (v ∷ vs) rows) e in
     let parts = both_none (repeat_fault false (codes "record") rows) (values_fault record_rule (v ∷ vs)) counted.1 in
     let none = not_repeated (has_row (codes "record") rows) parts.0 in
-    subst Fine (sym (set_adds (codes "record") AsWritten (v ∷ vs) rows none)) (fine_snoc rows (row_for CommandLine (codes "record") AsWritten (v ∷ vs)) f (inr (inr (inr refl))))
+    subst Fine (sym (set_adds (codes "record") AsWritten (v ∷ vs) rows none)) (fine_snoc rows (row_for CommandLine (codes "record") AsWritten (v ∷ vs)) f (inr (inr (inr (inr refl)))))
 
 keeps_help : (values : List Text) (rows : List Row) → use_fault false help_flag values rows ≡ [] → Fine rows → Fine (used help_flag values rows)
 keeps_help values rows e f = absurd (not_none _ _ (both_none (range_kinds 0 0 (length values)) (kind.DisplayHelp ∷ []) e).1)
@@ -197,15 +205,16 @@ among test [] a e = absurd (none_some a e)
 among test (x ∷ xs) a e = among_step (test x) x (find test xs) xs a e (among test xs a)
 
 abbrev run_rules : List Rule
-run_rules = every_rule ∷ rounds_rule ∷ record_rule ∷ path_rule ∷ help_flag ∷ []
+run_rules = every_rule ∷ tick_rule ∷ rounds_rule ∷ record_rule ∷ path_rule ∷ help_flag ∷ []
 
 keeps_among : (a : Rule) (values : List Text) (rows : List Row) → Among a run_rules → use_fault false a values rows ≡ [] → Fine rows → Fine (used a values rows)
 keeps_among a values rows (inl same) e f = subst (λ b. Fine (used b values rows)) same (keeps_every values rows (subst (λ b. use_fault false b values rows ≡ []) (sym same) e) f)
-keeps_among a values rows (inr (inl same)) e f = subst (λ b. Fine (used b values rows)) same (keeps_rounds values rows (subst (λ b. use_fault false b values rows ≡ []) (sym same) e) f)
-keeps_among a values rows (inr (inr (inl same))) e f = subst (λ b. Fine (used b values rows)) same (keeps_record values rows (subst (λ b. use_fault false b values rows ≡ []) (sym same) e) f)
-keeps_among a values rows (inr (inr (inr (inl same)))) e f = subst (λ b. Fine (used b values rows)) same (keeps_path values rows (subst (λ b. use_fault false b values rows ≡ []) (sym same) e) f)
-keeps_among a values rows (inr (inr (inr (inr (inl same))))) e f = subst (λ b. Fine (used b values rows)) same (keeps_help values rows (subst (λ b. use_fault false b values rows ≡ []) (sym same) e) f)
-keeps_among a values rows (inr (inr (inr (inr (inr none))))) e f = absurd none
+keeps_among a values rows (inr (inl same)) e f = subst (λ b. Fine (used b values rows)) same (keeps_tick values rows (subst (λ b. use_fault false b values rows ≡ []) (sym same) e) f)
+keeps_among a values rows (inr (inr (inl same))) e f = subst (λ b. Fine (used b values rows)) same (keeps_rounds values rows (subst (λ b. use_fault false b values rows ≡ []) (sym same) e) f)
+keeps_among a values rows (inr (inr (inr (inl same)))) e f = subst (λ b. Fine (used b values rows)) same (keeps_record values rows (subst (λ b. use_fault false b values rows ≡ []) (sym same) e) f)
+keeps_among a values rows (inr (inr (inr (inr (inl same))))) e f = subst (λ b. Fine (used b values rows)) same (keeps_path values rows (subst (λ b. use_fault false b values rows ≡ []) (sym same) e) f)
+keeps_among a values rows (inr (inr (inr (inr (inr (inl same)))))) e f = subst (λ b. Fine (used b values rows)) same (keeps_help values rows (subst (λ b. use_fault false b values rows ≡ []) (sym same) e) f)
+keeps_among a values rows (inr (inr (inr (inr (inr (inr none)))))) e f = absurd none
 
 -- ---- the command line of `run`
 
@@ -236,17 +245,20 @@ rounds_default true rows is f = (f, is)
 rounds_default false rows is f =
     let row = row_for DefaultValue (codes "rounds") WithoutMinus (codes "1" ∷ []) in
     let added = absent (codes "rounds") (more_values DefaultValue (codes "1" ∷ [])) (row ∷ []) rows is in
-    (subst Fine (sym added) (fine_snoc rows row f (inr (inl (refl, refl, (codes "1", refl, refl))))), ap (has_row (codes "rounds")) added ∙ has_last (codes "rounds") rows row refl)
+    (subst Fine (sym added) (fine_snoc rows row f (inr (inr (inl (refl, refl, (codes "1", refl, refl)))))), ap (has_row (codes "rounds")) added ∙ has_last (codes "rounds") rows row refl)
 
 finished_is : (rows : List Row) → fold with_default rows run_rules ≡ with_default rows rounds_rule
 finished_is rows =
     let after = with_default rows rounds_rule in
-    let first = either_way (has_row (codes "every") rows) rows in
-    let third = either_way (has_row (codes "record") after) after in
-    let fourth = either_way (has_row (codes "path") after) after in
-    let last = either_way (has_row (codes "help") after) after in
-    ap (λ t. fold with_default t (rounds_rule ∷ record_rule ∷ path_rule ∷ help_flag ∷ [])) first ∙ ap (λ t. fold with_default t (path_rule ∷ help_flag ∷ [])) third
-    ∙ ap (λ t. fold with_default t (help_flag ∷ [])) fourth ∙ last
+    let of_every = either_way (has_row (codes "every") rows) rows in
+    let of_tick = either_way (has_row (codes "tick") rows) rows in
+    let of_record = either_way (has_row (codes "record") after) after in
+    let of_path = either_way (has_row (codes "path") after) after in
+    let of_help = either_way (has_row (codes "help") after) after in
+    ap (λ t. fold with_default t (tick_rule ∷ rounds_rule ∷ record_rule ∷ path_rule ∷ help_flag ∷ [])) of_every
+    ∙ ap (λ t. fold with_default t (rounds_rule ∷ record_rule ∷ path_rule ∷ help_flag ∷ [])) of_tick
+    ∙ ap (λ t. fold with_default t (path_rule ∷ help_flag ∷ [])) of_record
+    ∙ ap (λ t. fold with_default t (help_flag ∷ [])) of_path ∙ of_help
 
 both_given : (b c : Bool) (k : ErrorKind) → (if not b || (not c || false) then k ∷ [] else []) ≡ [] → (b ≡ true) × (c ≡ true)
 both_given true true k e = (refl, refl)
@@ -356,22 +368,32 @@ every_row : (r : Row) → Good r → bytes_eq r.id (codes "every") ≡ true → 
 every_row r (inl h) e = h
 every_row r (inr (inl h)) e = let bad : false ≡ true = ap (λ t. bytes_eq t (codes "every")) (sym h.0) ∙ e in absurd (search rules)
 every_row r (inr (inr (inl h))) e = let bad : false ≡ true = ap (λ t. bytes_eq t (codes "every")) (sym h.0) ∙ e in absurd (search rules)
-every_row r (inr (inr (inr h))) e = let bad : false ≡ true = ap (λ t. bytes_eq t (codes "every")) (sym h) ∙ e in absurd (search rules)
+every_row r (inr (inr (inr (inl h)))) e = let bad : false ≡ true = ap (λ t. bytes_eq t (codes "every")) (sym h.0) ∙ e in absurd (search rules)
+every_row r (inr (inr (inr (inr h)))) e = let bad : false ≡ true = ap (λ t. bytes_eq t (codes "every")) (sym h) ∙ e in absurd (search rules)
+
+tick_row : (r : Row) → Good r → bytes_eq r.id (codes "tick") ≡ true → IsNumber (codes "tick") 60000 r
+tick_row r (inl h) e = let bad : false ≡ true = ap (λ t. bytes_eq t (codes "tick")) (sym h.0) ∙ e in absurd (search rules)
+tick_row r (inr (inl h)) e = h
+tick_row r (inr (inr (inl h))) e = let bad : false ≡ true = ap (λ t. bytes_eq t (codes "tick")) (sym h.0) ∙ e in absurd (search rules)
+tick_row r (inr (inr (inr (inl h)))) e = let bad : false ≡ true = ap (λ t. bytes_eq t (codes "tick")) (sym h.0) ∙ e in absurd (search rules)
+tick_row r (inr (inr (inr (inr h)))) e = let bad : false ≡ true = ap (λ t. bytes_eq t (codes "tick")) (sym h) ∙ e in absurd (search rules)
 
 rounds_row : (r : Row) → Good r → bytes_eq r.id (codes "rounds") ≡ true → IsNumber (codes "rounds") 1000 r
 rounds_row r (inl h) e = let bad : false ≡ true = ap (λ t. bytes_eq t (codes "rounds")) (sym h.0) ∙ e in absurd (search rules)
-rounds_row r (inr (inl h)) e = h
-rounds_row r (inr (inr (inl h))) e = let bad : false ≡ true = ap (λ t. bytes_eq t (codes "rounds")) (sym h.0) ∙ e in absurd (search rules)
-rounds_row r (inr (inr (inr h))) e = let bad : false ≡ true = ap (λ t. bytes_eq t (codes "rounds")) (sym h) ∙ e in absurd (search rules)
+rounds_row r (inr (inl h)) e = let bad : false ≡ true = ap (λ t. bytes_eq t (codes "rounds")) (sym h.0) ∙ e in absurd (search rules)
+rounds_row r (inr (inr (inl h))) e = h
+rounds_row r (inr (inr (inr (inl h)))) e = let bad : false ≡ true = ap (λ t. bytes_eq t (codes "rounds")) (sym h.0) ∙ e in absurd (search rules)
+rounds_row r (inr (inr (inr (inr h)))) e = let bad : false ≡ true = ap (λ t. bytes_eq t (codes "rounds")) (sym h) ∙ e in absurd (search rules)
 
 path_values : (r : Row) → Good r → bytes_eq r.id (codes "path") ≡ true → (1 ≤ length r.values) × (length r.values ≤ 8)
 path_values r (inl h) e = let bad : false ≡ true = ap (λ t. bytes_eq t (codes "path")) (sym h.0) ∙ e in absurd (search rules)
 path_values r (inr (inl h)) e = let bad : false ≡ true = ap (λ t. bytes_eq t (codes "path")) (sym h.0) ∙ e in absurd (search rules)
-path_values r (inr (inr (inl h))) e = (h.1, h.2)
-path_values r (inr (inr (inr h))) e = let bad : false ≡ true = ap (λ t. bytes_eq t (codes "path")) (sym h) ∙ e in absurd (search rules)
+path_values r (inr (inr (inl h))) e = let bad : false ≡ true = ap (λ t. bytes_eq t (codes "path")) (sym h.0) ∙ e in absurd (search rules)
+path_values r (inr (inr (inr (inl h)))) e = (h.1, h.2)
+path_values r (inr (inr (inr (inr h)))) e = let bad : false ≡ true = ap (λ t. bytes_eq t (codes "path")) (sym h) ∙ e in absurd (search rules)
 
 abbrev GivesNumber : Text → ℕ → List Row → Type 0
-GivesNumber id most rows = (v : Text) × (one_of id rows ≡ Some v) × IsNumeral 10 (without_leading_plus v) × (1 ≤ number v) × (number v ≤ most)
+GivesNumber id most rows = (v : Text) × (one_of id rows ≡ Some v) × IsNumberUpTo most v
 
 number_given : (id : Text) (most : ℕ) (r : Row) (rows : List Row) → find (λ r. bytes_eq r.id id) rows ≡ Some r → IsNumber id most r → GivesNumber id most rows
 number_given id most r rows found h =
@@ -379,7 +401,14 @@ number_given id most r rows found h =
     let read : row_text r ≡ Some (without_minus v) = ap₂ {C = Option Text} (λ how vs. option_map (read_as how) (slice_get vs 0)) h.1 h.2.1 in
     let facts = signed_facts (starts_with_minus v) most v h.2.2 in
     let numeral = subst (λ b. IsNumeral 10 (cond b (drop 1 v) (without_leading_plus v))) facts.0 (accepts-Accepts false (Signed (pos 1) (pos most)) v h.2.2).0 in
-    (v, ap (option_and_then row_text) found ∙ read ∙ ap (λ t. Some t) (no_minus v facts.0), numeral, facts.1, facts.2)
+    (v, ap (option_and_then row_text) found ∙ read ∙ ap (λ t. Some t) (no_minus v facts.0), record { numeral = numeral; least = facts.1; most = facts.2 })
+
+tick_if_given : (o : Option Row) (rows : List Row) → find (λ r. bytes_eq r.id (codes "tick")) rows ≡ o → Fine rows → IfSome (one_of (codes "tick") rows) (IsNumberUpTo 60000)
+tick_if_given None rows found f = subst (λ o. IfSome (option_and_then row_text o) (IsNumberUpTo 60000)) (sym found) tt
+tick_if_given (Some r) rows found f =
+    let good = fine_found rows (λ r. bytes_eq r.id (codes "tick")) r found f in
+    let given = number_given (codes "tick") 60000 r rows found (tick_row r good.0 good.1) in
+    subst (λ o. IfSome o (IsNumberUpTo 60000)) (sym given.1) given.2
 
 given_values : (rows : List Row) → HasAll rows → IsGiven rows
 given_values rows h =
@@ -395,14 +424,11 @@ given_values rows h =
     record {
       text = milliseconds.0;
       every = milliseconds.1;
-      numeral = milliseconds.2;
-      least = milliseconds.3;
-      most = milliseconds.4;
+      every_fits = milliseconds.2;
+      tick_fits = tick_if_given (find (λ r. bytes_eq r.id (codes "tick")) rows) rows refl h.0;
       rounds_text = times.0;
       rounds = times.1;
-      rounds_numeral = times.2;
-      rounds_least = times.3;
-      rounds_most = times.4;
+      rounds_fits = times.2;
       paths = met_path.0.values;
       paths_are = ap (option_map (λ r. r.values)) met_path.1;
       some = counts.0;

@@ -1,5 +1,5 @@
 -- From what `clap` ensures of its getters to the job.
-use Rattle.std.proofs.Common.{inl, inr, ◌≡◌, ◌∙◌, ℕ, List, Option, Some, None, Result, Ok, true, map, option_map, refl, sym, ap, ap₂, length, codes}
+use Rattle.std.proofs.Common.{inl, inr, ◌≡◌, ◌∙◌, ℕ, ◌≤◌, ◌<◌, ◌^◌, List, Option, Some, None, IfSome, Result, Ok, Err, true, arith, map, option_map, refl, sym, ap, ap₂, length, codes}
 use Rattle.std.specs.Prelude.{unwrap_or}
 use Rattle.std.specs.Box.{box_value}
 use Rattle.clap.specs.declared.parser.matches.ArgMatches.{ArgMatches}
@@ -13,7 +13,7 @@ use Rattle.clap.specs.Words.{ReadsOne, Row, Text, found_of, is_simple, rows_of, 
 use Rattle.clap.specs.Faults.{is_simple_and_free}
 use Rattle.station_main.proofs.JobLemmas.{NamesJobOf}
 use Rattle.clap.proofs.OnLiterals.{clap_on_literals}
-use Rattle.station_main.specs.Command.{GivesJob, NamesJob, number, station}
+use Rattle.station_main.specs.Command.{GivesJob, IsNumberUpTo, NamesJob, number, number_if_given, station}
 
 pub is_simple-station : is_simple station ≡ true
 unfolding clap_on_literals
@@ -31,6 +31,20 @@ pub reads_number : {E : Type 0} (k : ℕ) (G : List ℕ → Result ℕ E → Typ
     → (text : List ℕ) × (one ≡ Some text) × (every ≡ number text)
 reads_number k G None every parses none value = absurd (none-some every (sym (none refl)))
 reads_number k G (Some t) every parses none value = (t, refl, (parses t (Ok every) (value t refl)).1)
+
+-- what `get_one` read of an option that may be missing is its number
+pub reads_if_given : {E : Type 0} (k most : ℕ) (G : List ℕ → Result ℕ E → Type 0) (one : Option (List ℕ)) (got : Option ℕ) → most < 2 ^ k → IfSome one (IsNumberUpTo most)
+    → ((t : List ℕ) (r : Result ℕ E) → G t r → ParsesUnsigned k 10 t r)
+    → (one ≡ None → got ≡ None)
+    → ((t : List ℕ) → one ≡ Some t → ReadsOne G t got)
+    → got ≡ number_if_given one
+reads_if_given k most G None got few fits parses none value = none refl
+reads_if_given k most G (Some t) None few fits parses none value = let failed = value t refl in absurd (parses t (Err failed.0) failed.1 (fits.numeral, omega (arith, few, fits.most)))
+reads_if_given k most G (Some t) (Some n) few fits parses none value = ap Some (parses t (Ok n) (value t refl)).1
+
+pub fits_if_given : (most : ℕ) (one : Option (List ℕ)) → IfSome one (IsNumberUpTo most) → IfSome (number_if_given one) (λ n. (1 ≤ n) × (n ≤ most))
+fits_if_given most None fits = tt
+fits_if_given most (Some t) fits = (fits.least, fits.most)
 
 -- a `map` keeps the number of its items
 pub same_length : {A B C : Type 0} (f : A → C) (g : B → C) (xs : List A) (ys : List B) → map f xs ≡ map g ys → length xs ≡ length ys
@@ -55,7 +69,7 @@ known_rows m name rows n r =
 pub names_run : (words : List Text) (rows : List Row) → subcommand_of station words ≡ Some (codes "run", rows)
     → (job : Job) → GivesJob rows job → NamesJob words job
 names_run words rows is Replay given = absurd given
-names_run words rows is (Run milliseconds times paths file) given = (rows, is, given)
+names_run words rows is (Run pace times paths file) given = (rows, is, given)
 
 name_first : {B : Type 0} (f : B → Text) (g : B → List Row) (o : Option B) → option_map {T = Text × List Row} (λ p. p.0) (option_map {U = Text × List Row} (λ b. (f b, g b)) o) ≡ option_map f o
 name_first f g None = refl

@@ -1,5 +1,5 @@
 -- The command line as `clap` reads it, and the job that it names.
-use Rattle.std.specs.Prelude.{◌≡◌, ◌≤◌, ℕ, List, [], ◌∷◌, Option, Some, codes, true, false, pos, map, length, option_map, ⊤}
+use Rattle.std.specs.Prelude.{◌≡◌, ◌≤◌, ℕ, List, [], ◌∷◌, Option, IfSome, Some, codes, true, false, pos, map, length, option_map, ⊤}
 use Rattle.std.specs.String.{string_bytes}
 use Rattle.std.specs.Str.Parse.{IsNumeral, digits_value, without_leading_plus}
 use Rattle.clap.specs.Words.{App, Row, Rule, Text, all_of, first_of, new_app, new_rule, one_of, subcommand_of}
@@ -11,6 +11,7 @@ use Rattle.clap.specs.declared.builder.action.ArgAction.TheVariants.{Set}
 use Rattle.clap.specs.declared.builder.value_parser.ValueParser.TheVariants.{Signed}
 use Rattle.station_main.specs.declared.words.Job.{Job}
 use Rattle.station_main.specs.declared.words.Job.TheVariants.{Replay, Run}
+use Rattle.station_main.specs.declared.schedule.Pace.{Pace}
 
 -- `--every MS`: required, a whole number of milliseconds from 1 to 3,600,000
 abbrev pub every : Rule
@@ -19,6 +20,14 @@ every = record (new_rule (codes "every")) {
   value_names = 1;
   required = true;
   parser = Some (Signed (pos 1) (pos 3600000));
+}
+
+-- `--tick MS`: a whole number of milliseconds from 1 to 60,000, and not required
+abbrev pub tick : Rule
+tick = record (new_rule (codes "tick")) {
+  long = Some (codes "tick");
+  value_names = 1;
+  parser = Some (Signed (pos 1) (pos 60000));
 }
 
 -- `--rounds R`: a whole number from 1 to 1,000, or 1 if it isn't given
@@ -49,19 +58,23 @@ path = record (new_rule (codes "path")) {
 abbrev pub replay : App
 replay = new_app (codes "replay")
 
--- `run` with its options, and then with PATH too
+-- `run` with its times, with all its options, and then with PATH too
+abbrev pub run_times : App
+run_times = with_rule (with_rule (new_app (codes "run")) every) tick
+
 abbrev pub run_options : App
-run_options = with_rule (with_rule (with_rule (new_app (codes "run")) every) rounds) record_file
+run_options = with_rule (with_rule run_times rounds) record_file
 
 abbrev pub run : App
 run = with_rule run_options path
 
-abbrev pub wants_subcommand : App → App
-wants_subcommand a = record a { top = record a.top { subcommand_required = true } }
+-- the whole command line needs a subcommand, and has `--version`
+abbrev pub with_version : App → App
+with_version a = record a { top = record a.top { has_version = true; subcommand_required = true } }
 
 -- the whole command line: one of the two subcommands
 abbrev pub station : App
-station = with_subcommand (with_subcommand (wants_subcommand (new_app (codes "groundstation"))) replay.top) run.top
+station = with_subcommand (with_subcommand (with_version (new_app (codes "groundstation"))) replay.top) run.top
 
 -- the argument has this rule, and is not global
 abbrev pub IsArg : Rule → Arg → Type 0
@@ -75,30 +88,38 @@ IsMade app c = (app_of c ≡ app) × ((out-Command c).has_globals ≡ false)
 abbrev pub number : Text → ℕ
 number text = digits_value 10 (without_leading_plus text)
 
--- the values of `--every`, `--rounds`, PATH and `--record` in a command line of `run`: the paths in their order, and the
--- file only if it is given
-pub record GivesRun (rows : List Row) (milliseconds times : ℕ) (paths : List Text) (file : Option Text) : Type 0 where
+-- the number of each text of an option that may be missing
+abbrev pub number_if_given : Option Text → Option ℕ
+number_if_given given = option_map number given
+
+-- the values of `--every`, `--tick`, `--rounds`, PATH and `--record` in a command line of `run`: the paths in their order,
+-- and a tick and a file only if they are given
+pub record GivesRun (rows : List Row) (pace : Pace) (times : ℕ) (paths : List Text) (file : Option Text) : Type 0 where
   pub text : Text
   pub every : one_of (codes "every") rows ≡ Some text
-  pub every_is : milliseconds ≡ number text
+  pub every_is : pace.every ≡ number text
+  pub tick_is : pace.tick ≡ number_if_given (one_of (codes "tick") rows)
   pub rounds_text : Text
   pub rounds : one_of (codes "rounds") rows ≡ Some rounds_text
   pub rounds_is : times ≡ number rounds_text
   pub paths_are : all_of (codes "path") rows ≡ Some paths
   pub file_is : file ≡ first_of (codes "record") rows
 
+-- a decimal number from 1 up to a limit
+pub record IsNumberUpTo (limit : ℕ) (text : Text) : Type 0 where
+  pub numeral : IsNumeral 10 (without_leading_plus text)
+  pub least : 1 ≤ number text
+  pub most : number text ≤ limit
+
 -- what a command line of `run` gives if nothing in it is refused
 pub record IsGiven (rows : List Row) : Type 0 where
   pub text : Text
   pub every : one_of (codes "every") rows ≡ Some text
-  pub numeral : IsNumeral 10 (without_leading_plus text)
-  pub least : 1 ≤ number text
-  pub most : number text ≤ 3600000
+  pub every_fits : IsNumberUpTo 3600000 text
+  pub tick_fits : IfSome (one_of (codes "tick") rows) (IsNumberUpTo 60000)
   pub rounds_text : Text
   pub rounds : one_of (codes "rounds") rows ≡ Some rounds_text
-  pub rounds_numeral : IsNumeral 10 (without_leading_plus rounds_text)
-  pub rounds_least : 1 ≤ number rounds_text
-  pub rounds_most : number rounds_text ≤ 1000
+  pub rounds_fits : IsNumberUpTo 1000 rounds_text
   pub paths : List Text
   pub paths_are : all_of (codes "path") rows ≡ Some paths
   pub some : 1 ≤ length paths
@@ -106,18 +127,24 @@ pub record IsGiven (rows : List Row) : Type 0 where
 
 abbrev pub GivesJob : List Row → Job → Type 0
 GivesJob rows Replay = ⊥
-GivesJob rows (Run milliseconds times paths file) =
-    GivesRun rows milliseconds times (map string_bytes paths.items) (option_map string_bytes file)
+GivesJob rows (Run pace times paths file) =
+    GivesRun rows pace times (map string_bytes paths.items) (option_map string_bytes file)
 
 -- the job is the one that the command line names
 abbrev pub NamesJob : List Text → Job → Type 0
 NamesJob words Replay = option_map (λ p. p.0) (subcommand_of station words) ≡ Some (codes "replay")
-NamesJob words (Run milliseconds times paths file) =
+NamesJob words (Run pace times paths file) =
     (rows : List Row) × (subcommand_of station words ≡ Some (codes "run", rows))
-    × GivesRun rows milliseconds times (map string_bytes paths.items) (option_map string_bytes file)
+    × GivesRun rows pace times (map string_bytes paths.items) (option_map string_bytes file)
 
--- 1 to 3,600,000 milliseconds, 1 to 1,000 rounds, and 1 to 8 paths
+-- a table every 1 to 3,600,000 milliseconds, and a tick, if any, every 1 to 60,000
+pub record IsPace (pace : Pace) : Type 0 where
+  pub every_least : 1 ≤ pace.every
+  pub every_most : pace.every ≤ 3600000
+  pub tick_fits : IfSome pace.tick (λ tick. (1 ≤ tick) × (tick ≤ 60000))
+
+-- such a pace, 1 to 1,000 rounds, and 1 to 8 paths
 abbrev pub IsInRange : Job → Type 0
 IsInRange Replay = ⊤
-IsInRange (Run milliseconds times paths file) = (1 ≤ milliseconds) × (milliseconds ≤ 3600000) × (1 ≤ times) × (times ≤ 1000)
+IsInRange (Run pace times paths file) = IsPace pace × (1 ≤ times) × (times ≤ 1000)
     × (1 ≤ length paths.items) × (length paths.items ≤ 8)

@@ -15,8 +15,8 @@ use Rattle.station_main.specs.declared.words.Job.TheVariants.{Replay, Run}
 abbrev pub IsDone : Job → Option (List ℕ) → Option (List ℕ) → Option (Option (List ℕ)) → Option (List ℕ) → Told → Told → ℕ → Type 0
 IsDone Replay input before None alarm err_old err_new status = EndsEarly err_old err_new status
 IsDone Replay input before (Some after) alarm err_old err_new status = EndsReplay program_limits input before after err_old err_new status
-IsDone (Run every rounds paths file) input before after alarm err_old err_new status =
-    RunsAsked (is_some file) (record { every = every; inputs = length paths.items }) (rounds - 1) before after alarm err_old err_new status
+IsDone (Run pace rounds paths file) input before after alarm err_old err_new status =
+    RunsAsked (is_some file) (record { pace = pace; inputs = length paths.items }) (rounds - 1) before after alarm err_old err_new status
 
 -- the job that the command line names is done
 pub record DoesJob (words : List Text) (input before : Option (List ℕ)) (after : Option (Option (List ℕ))) (alarm : Option (List ℕ)) (err_old err_new : Told) (status : ℕ) : Type 0 where

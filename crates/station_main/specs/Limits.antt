@@ -10,3 +10,11 @@ program_limits = record { entries = most_entries; aircraft = 512 }
 -- the most reads of one input
 abbrev pub most_reads : ℕ
 most_reads = 2 ^ 32 - 1
+
+-- a replay forgets at a tick once it has 12,582,912 entries
+abbrev pub forget_at : ℕ
+forget_at = 12582912
+
+-- as many entries as the journal has room for beside these
+abbrev pub most_between_ticks : ℕ
+most_between_ticks = 4194304

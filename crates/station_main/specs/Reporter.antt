@@ -1,5 +1,6 @@
 -- When the reporter acts, and what it prints.
-use Rattle.std.specs.Prelude.{◌≡◌, ℕ, ◌+◌, ◌-◌, ◌*◌, ◌^◌, ◌≤◌, ◌<◌, ◌⊎◌, Bool, List, [], ◌∷◌, Option, IfSome, map, min, nat_lt, unwrap_or, if◌then◌else◌}
+use Rattle.std.specs.Prelude.{◌≡◌, ℕ, ◌+◌, ◌-◌, ◌*◌, ◌^◌, ◌≤◌, ◌<◌, ◌⊎◌, Bool, true, false, List, [], ◌∷◌, Option, Some, None, IfSome, map, min, nat_le, unwrap_or, if◌then◌else◌}
+use Rattle.std.specs.Option.{option_map_or}
 use Rattle.std.specs.Duration.{as_nanos}
 use Rattle.station_journal.specs.declared.entry.Entry.TheVariants.{Tick}
 use Rattle.station_journal.specs.declared.refusal.Refusal.{Refusal}
@@ -10,7 +11,9 @@ use Rattle.station_main.specs.Output.{Printed}
 use Rattle.station_main.specs.Recorded.{IfRecording, Recording, Records, seen_by}
 use Rattle.station_main.specs.Tables.{TakesTexts, failures_after}
 use Rattle.station_main.specs.declared.schedule.Act.{Act}
-use Rattle.station_main.specs.declared.schedule.Act.TheVariants.{Sleep, Print}
+use Rattle.station_main.specs.declared.schedule.Act.TheVariants as act
+use Rattle.station_main.specs.declared.schedule.Due.{Due}
+use Rattle.station_main.specs.declared.schedule.Pace.{Pace}
 
 -- ---- when it acts, in milliseconds since its start
 
@@ -18,23 +21,53 @@ use Rattle.station_main.specs.declared.schedule.Act.TheVariants.{Sleep, Print}
 abbrev pub next_moment : ℕ → ℕ → ℕ
 next_moment every at = min (at + every) (2 ^ 64 - 1)
 
--- before a table is due it sleeps up to then, for at most 50 ms; from then on it prints a table, and the next is due one
--- interval later
-abbrev pub IsActAt : (every due now : ℕ) → Act → Type 0
-IsActAt every due now (Sleep pause) = (now < due) × (as_nanos pause ≡ min (due - now) 50 * 1000000)
-IsActAt every due now (Print at next) = (due ≤ now) × (at ≡ now) × (next ≡ next_moment every now)
+-- when a tick is due after one at this time: never, unless the pace has ticks
+abbrev pub next_tick : Option ℕ → ℕ → Option ℕ
+next_tick None at = None
+next_tick (Some interval) at = Some (next_moment interval at)
 
--- of the times that a clock gave, those at which a table was due
-abbrev pub due_moments : (every due : ℕ) → List ℕ → List ℕ
-due_moments every due [] = []
-due_moments every due (now ∷ moments) =
-    if nat_lt now due then due_moments every due moments else (now ∷ due_moments every (next_moment every now) moments)
+-- after a table at this time, or the last tick before the start: the next table, and a tick before it if the pace has ticks
+abbrev pub after_table : Pace → ℕ → Due
+after_table pace at = record { table = next_moment pace.every at; tick = next_tick pace.tick at }
+
+-- after a tick alone at this time: the table is due where it was
+abbrev pub after_tick : Pace → Due → ℕ → Due
+after_tick pace due at = record { table = due.table; tick = next_tick pace.tick at }
+
+-- a time that may never come has come by now
+abbrev pub has_come : Option ℕ → ℕ → Bool
+has_come None now = false
+has_come (Some moment) now = nat_le moment now
+
+-- the time of what is due first
+abbrev pub first_of : Due → ℕ
+first_of due = option_map_or (λ tick. min due.table tick) due.tick due.table
+
+-- before anything is due it sleeps up to what is due first, for at most 50 ms; where a table is due it ticks and prints the
+-- table; else, where a tick is due, it ticks alone
+abbrev pub IsActAt : Pace → (due : Due) → (now : ℕ) → Act → Type 0
+IsActAt pace due now (act.Sleep pause) = (now < due.table) × (has_come due.tick now ≡ false) × (as_nanos pause ≡ min (first_of due - now) 50 * 1000000)
+IsActAt pace due now (act.Tick at next) = (now < due.table) × (has_come due.tick now ≡ true) × (at ≡ now) × (next ≡ after_tick pace due now)
+IsActAt pace due now (act.Print at next) = (due.table ≤ now) × (at ≡ now) × (next ≡ after_table pace now)
+
+-- a time at which it acts: it ticks and prints a table, or ticks alone
+pub record Acting : Type 0 where
+  pub at : ℕ
+  pub has_table : Bool
+
+-- of the times that a clock gave, those at which a table or else a tick was due
+abbrev pub due_moments : Pace → (due : Due) → List ℕ → List Acting
+due_moments pace due [] = []
+due_moments pace due (now ∷ moments) =
+    if nat_le due.table now then (record { at = now; has_table = true } ∷ due_moments pace (after_table pace now) moments)
+    else (if has_come due.tick now then (record { at = now; has_table = false } ∷ due_moments pace (after_tick pace due now) moments)
+    else due_moments pace due moments)
 
 -- ---- what it prints
 
--- a showing: the time of its tick, the seat after the tick, and the seat after the look, unless the look was refused
+-- a tick alone or with a table: its time, the seat after the tick, and the seat after the look, unless that was refused
 pub record Showing : Type 0 where
-  pub at : ℕ
+  pub acting : Acting
   pub ticked : Seated
   pub look : Option Seated
 
@@ -49,30 +82,31 @@ abbrev pub Ticks : Start → Seated → ℕ → Seated → Type 0
 Ticks start old at new =
     ((receipt : Known) × Accepted start old new (Tick old.number at) receipt) ⊎ ((refusal : Refusal) × Refused start old new (Tick old.number at) refusal)
 
--- the seat ticks, and then looks
+-- the seat ticks, and then looks; it doesn't look after a tick alone
 pub record IsShowing (start : Start) (old : Seated) (showing : Showing) : Type 0 where
-  pub ticks : Ticks start old showing.at showing.ticked
+  pub ticks : Ticks start old showing.acting.at showing.ticked
   pub looks : IfSome showing.look (λ look. Looks start showing.ticked look)
+  pub alone : showing.acting.has_table ≡ false → showing.look ≡ None
 
 -- showings from one seat to another, each from where the one before ended
 abbrev pub Showings : Start → Seated → List Showing → Seated → Type 0
 Showings start old [] new = new ≡ old
 Showings start old (showing ∷ showings) new = IsShowing start old showing × Showings start (seat_after showing) showings new
 
--- showings at just those times of the clock at which a table is due, the first one interval after the last tick
-pub record KeepsTime (start : Start) (every last : ℕ) (moments : List ℕ) (old : Seated) (showings : List Showing) (new : Seated) : Type 0 where
-  pub due : map (λ (showing : Showing). showing.at) showings ≡ due_moments every (next_moment every last) moments
+-- tables and ticks alone at just those times of the clock at which they are due, the first one interval after the last tick
+pub record KeepsTime (start : Start) (pace : Pace) (last : ℕ) (moments : List ℕ) (old : Seated) (showings : List Showing) (new : Seated) : Type 0 where
+  pub due : map (λ (showing : Showing). showing.acting) showings ≡ due_moments pace (after_table pace last) moments
   pub walk : Showings start old showings new
 
 -- a reporter whose clock gave these times, from one seat to another; the record goes on with what its looks have seen
-pub record Reports (start : Start) (every last : ℕ) (moments : List ℕ) (old new : Seated) (before after : Printed) (was is : Option Recording) (has_failed : Bool) : Type 0 where
+pub record Reports (start : Start) (pace : Pace) (last : ℕ) (moments : List ℕ) (old new : Seated) (before after : Printed) (was is : Option Recording) (has_failed : Bool) : Type 0 where
   pub showings : List Showing
-  pub keeps : KeepsTime start every last moments old showings new
+  pub keeps : KeepsTime start pace last moments old showings new
   pub takes : TakesTexts start (looks_of showings) before.taken after.taken has_failed
   pub failures : after.failures ≡ failures_after has_failed before.failures
   pub records : IfRecording (Records (seen_by (looks_of showings))) was is
 
 -- a reporter by some clock
-abbrev pub ReportsByAClock : Start → ℕ → ℕ → Seated → Seated → Printed → Printed → Option Recording → Option Recording → Bool → Type 0
-ReportsByAClock start every last old new before after was is has_failed =
-    (moments : List ℕ) × Reports start every last moments old new before after was is has_failed
+abbrev pub ReportsByAClock : Start → Pace → ℕ → Seated → Seated → Printed → Printed → Option Recording → Option Recording → Bool → Type 0
+ReportsByAClock start pace last old new before after was is has_failed =
+    (moments : List ℕ) × Reports start pace last moments old new before after was is has_failed

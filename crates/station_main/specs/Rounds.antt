@@ -17,6 +17,7 @@ use Rattle.station_main.specs.declared.faults.Fault.TheVariants as fault
 use Rattle.station_main.specs.declared.kept.Kept.{Kept}
 use Rattle.station_main.specs.declared.round.Round.{Round}
 use Rattle.station_main.specs.declared.round.Round.TheVariants.{Over, GoesOn}
+use Rattle.station_main.specs.declared.schedule.Pace.{Pace}
 
 -- what a round goes on from: entries with the base of their clock, and the time of the last tick before it
 pub record Given : Type 0 where
@@ -36,13 +37,13 @@ pub record GoesOnFrom (given : Given) (start : Start) : Type 0 where
 
 -- what was asked of a run
 pub record Asked : Type 0 where
-  pub every : ℕ
+  pub pace : Pace
   pub inputs : ℕ
 
 -- a round of a station: its reporter's seat, which comes after the inputs' seats, has seen what the round goes on from
 pub record IsRound (asked : Asked) (given : Given) (start : Start) (closing : Seated) (before after : Option (List ℕ)) (was is : Option Recording) (err_old err_new : Told) (status : ℕ) : Type 0 where
   pub goes_on : GoesOnFrom given start
-  pub ends : Ends start asked.every given.last_tick asked.inputs (newcomer given.entries asked.inputs) closing before after was is err_old err_new status
+  pub ends : Ends start asked.pace given.last_tick asked.inputs (newcomer given.entries asked.inputs) closing before after was is err_old err_new status
 
 -- what is kept of a closed station's journal: its recent entries; the journal begins with all that a seat has seen; the record
 -- goes on with the rest of it

@@ -1,5 +1,5 @@
 -- What a round of the job `run` leaves.
-use Rattle.std.specs.Prelude.{◌≡◌, ℕ, ◌<◌, Bool, true, false, List, [], ◌∷◌, ◌++◌, Option, IfSome, Result, length, slice_index_or, is_err, fold, map, max, unwrap_or, ⊤}
+use Rattle.std.specs.Prelude.{◌≡◌, ℕ, ◌<◌, Bool, true, false, List, [], ◌∷◌, ◌++◌, Option, None, IfSome, Result, length, slice_index_or, is_err, fold, map, max, unwrap_or, ⊤}
 use Rattle.std.specs.List.{flat_map}
 use Rattle.station_journal.specs.declared.entry.Entry.{Entry}
 use Rattle.station_report.specs.declared.sinks.WriteFault.{WriteFault}
@@ -19,12 +19,13 @@ use Rattle.station_main.specs.Tables.{TakesTexts}
 use Rattle.station_main.specs.Telling.{Tells, Told, answer_lines, fault_line, output_lines}
 use Rattle.station_main.specs.declared.faults.Fault.{Fault}
 use Rattle.station_main.specs.declared.faults.Fault.TheVariants as fault
+use Rattle.station_main.specs.declared.schedule.Pace.{Pace}
 
 -- ---- the receivers
 
 -- the view of a source over a reader with these bytes left, if they are known
 abbrev pub drawn_from : {R : Type 0} → Option (List ℕ) → FromBuffer R → Drawn
-drawn_from left source = record { left = left; reads = source.reads; ends = source.ends; failures = source.failures }
+drawn_from left source = record { bytes = record { left = left; given = None }; reads = source.reads; ends = source.ends; failures = source.failures }
 
 -- each receiver has pumped its source through its seat to an answer
 pub record HaveWorked {W R : Type 0} (start : Start) (seat : W → Seated) (source : W → FromBuffer R) (answer : W → Option (Result Tally PumpFault)) (old new : List W) : Type 0 where
@@ -64,11 +65,11 @@ LastLook start old new true looks = (looks ≡ []) × (new ≡ old)
 
 -- what a round leaves of its output, whose reporter's seat goes from `first` to `closing`: the texts of its looks and of one
 -- look after them, and nothing else, or a front of that if a write failed; the record goes on with what these looks have seen
-pub record Leaves (start : Start) (every last_tick : ℕ) (first closing : Seated) (before after : Option (List ℕ)) (was is : Option Recording) (has_failed : Bool) : Type 0 where
+pub record Leaves (start : Start) (pace : Pace) (last_tick : ℕ) (first closing : Seated) (before after : Option (List ℕ)) (was is : Option Recording) (has_failed : Bool) : Type 0 where
   pub mid : Seated
   pub moments : List ℕ
   pub showings : List Showing
-  pub keeps : KeepsTime start every last_tick moments first showings mid
+  pub keeps : KeepsTime start pace last_tick moments first showings mid
   pub failed_before : Bool
   pub last : List (Option Seated)
   pub looks : LastLook start mid closing failed_before last
@@ -80,9 +81,9 @@ pub record Leaves (start : Start) (every last_tick : ℕ) (first closing : Seate
   pub told : write_failed ≡ true → has_failed ≡ true
 
 -- it prints the answers, one for each input in their order, and at last a failed write; the status is the worst of these
-pub record Ends (start : Start) (every last_tick inputs : ℕ) (first closing : Seated) (before after : Option (List ℕ)) (was is : Option Recording) (err_old err_new : Told) (status : ℕ) : Type 0 where
+pub record Ends (start : Start) (pace : Pace) (last_tick inputs : ℕ) (first closing : Seated) (before after : Option (List ℕ)) (was is : Option Recording) (err_old err_new : Told) (status : ℕ) : Type 0 where
   pub has_failed : Bool
-  pub output : Leaves start every last_tick first closing before after was is has_failed
+  pub output : Leaves start pace last_tick first closing before after was is has_failed
   pub answers : List (Option (Result Tally PumpFault))
   pub many : length answers ≡ inputs
   pub told : Tells err_old err_new (flat_map answer_lines answers ++ output_lines has_failed)

@@ -2,6 +2,7 @@
 #![tactic(auto)]
 
 mod bell;
+mod commands;
 mod faults;
 mod kept;
 mod laws;

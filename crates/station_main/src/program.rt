@@ -23,7 +23,7 @@ use std::time::Clock;
 /// Runs a command line, which begins with the program's name. Answers the output, unless nothing was read, and the exit
 /// status:
 ///
-/// - 0 after the job, even if lines were refused, and after help;
+/// - 0 after the job, even if lines were refused, and after help or the version;
 /// - 1 after a fault;
 /// - 2 if the arguments are refused.
 ///
@@ -75,13 +75,13 @@ fn do_job<
     match job {
         Job::Replay => replay_input(rt, alloc, input, out, err),
         Job::Run {
-            every,
+            pace,
             rounds,
             paths,
             record,
         } => {
             let asked = Asked {
-                every,
+                pace,
                 rounds,
                 record: &record,
                 paths: &paths,
@@ -91,7 +91,7 @@ fn do_job<
     }
 }
 
-// Writes help to standard output with status 0, and any other answer of `clap` to standard error with status 2.
+// Writes help or the version to standard output with status 0, and any other answer of `clap` to standard error with status 2.
 fn write_answer<O: Write + Drop, E: Write>(
     error: &clap::Error,
     mut out: O,
@@ -99,6 +99,7 @@ fn write_answer<O: Write + Drop, E: Write>(
 ) -> Ran<O>
     ensures most { result.status ≤ 2 }
     ensures help { kind_of error.now ≡ DisplayHelp → result.status ≡ 0 }
+    ensures version { kind_of error.now ≡ DisplayVersion → result.status ≡ 0 }
     ensures fault { kind_of error.now ≢ DisplayHelp → kind_of error.now ≢ DisplayVersion → result.status ≡ 2 }
 {
     let status = if error.use_stderr() {

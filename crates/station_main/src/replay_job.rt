@@ -9,11 +9,12 @@ ghost use Rattle.station_main.specs.Status.{fault_status, status_of};
 ghost use Rattle.station_main.specs.Telling.{Tells, replay_lines, told_of};
 
 use crate::faults::{Fault, tell_after, write_tally};
-use crate::limits::{AIRCRAFT, LIMITS, TURNS};
+use crate::limits::{AIRCRAFT, FORGET_AT, LIMITS, TURNS};
 use crate::output::{Ran, Written, give_up, unbuffered, without_output};
 use crate::standard_error::StandardError;
-use station_report::ToWrite;
-use station_shared::{Desk, FromRead, ReplayFault, Tally, replay};
+use station_desk::replay_forgetting;
+use station_report::{Format, ToWrite};
+use station_shared::{Desk, FromRead, ReplayFault, Tally};
 use std::alloc::Global;
 use std::io::{BufReader, BufWriter, Read, Write};
 use std::sync::Wait;
@@ -42,7 +43,15 @@ pub fn replay_input<R: Wait, I: Read + Drop, O: Write + Drop, E: Write>(
     };
     let mut from = FromRead::new(input);
     let mut to = ToWrite::new(output);
-    let answer = replay(rt, &mut desk, &mut from, &mut to, TURNS);
+    let answer = replay_forgetting(
+        rt,
+        FORGET_AT,
+        &mut desk,
+        &mut from,
+        &mut to,
+        Format::Text,
+        TURNS,
+    );
     desk.end(rt);
     let Written { out, has_failed } = take_out(to.into_inner(), &answer);
     Ran {

@@ -32,6 +32,8 @@ pub struct Reported<S, O, K> {
 #[derive(Drop)]
 pub struct Given<S, O, K> {
     pub pace: Pace,
+    /// The time of the last tick before.
+    pub last: u64,
     pub seat: Snapshot<S>,
     pub out: Snapshot<O>,
     pub recorder: Snapshot<K>,
@@ -43,14 +45,14 @@ impl<const N: usize, L: StationName, S: Sink, T: Sink, A: Write> Promise<
     ghost use Rattle.station_main.specs.Output.{sink_of};
     ghost use Rattle.station_main.specs.Reporter.{ReportsByAClock};
 
-    ghost kept_by = { λ given reported. ReportsByAClock L.start given.pace.every given.pace.last given.seat.value reported.seat
+    ghost kept_by = { λ given reported. ReportsByAClock L.start given.pace given.last given.seat.value reported.seat
         (sink_of S.taken S.failures given.out.value) (sink_of S.taken S.failures reported.out)
         given.recorder.value reported.recorder
         reported.has_failed };
 }
 
 /// Ticks, prints the table and records it each time that the pace's interval has passed, in milliseconds since `start`.
-/// Ends when all receivers have ended or a write of the output failed. Answers the seat, the sink, which has taken the
+/// Between tables it ticks alone, if the pace has ticks. `last` is the time of the last tick before it. Ends when all receivers have ended or a write of the output failed. Answers the seat, the sink, which has taken the
 /// tables of its looks and nothing else, and the record, which has gone on with what these looks saw.
 pub fn report<const N: usize, L: StationName, R: Wait + Clock, S: Sink, T: Sink, A: Write>(
     rt: &R,
@@ -58,19 +60,30 @@ pub fn report<const N: usize, L: StationName, R: Wait + Clock, S: Sink, T: Sink,
     ended: &Bell,
     start: Option<Instant>,
     pace: Pace,
+    last: u64,
     seat: Seat<N, L>,
     out: S,
     recorder: Option<Recorder<T, A>>,
 ) -> Reported<Seat<N, L>, S, Option<Recorder<T, A>>>
-    ensures { ReportsByAClock L.start pace.every pace.last seat result.seat (sink_of S.taken S.failures out)
+    ensures { ReportsByAClock L.start pace last seat result.seat (sink_of S.taken S.failures out)
         (sink_of S.taken S.failures result.out) recorder
         result.recorder result.has_failed }
 {
     let mut moments = Since { rt, start };
-    report_at(rt, station, ended, pace, seat, out, recorder, &mut moments)
+    report_at(
+        rt,
+        station,
+        ended,
+        pace,
+        last,
+        seat,
+        out,
+        recorder,
+        &mut moments,
+    )
 }
 
-// `report` by any clock: a table at each of its times at which one is due, and at no other.
+// `report` by any clock: a table at each of its times at which one is due, and a tick alone where only that is due.
 fn report_at<
     const N: usize,
     L: StationName,
@@ -84,24 +97,29 @@ fn report_at<
     station: &Station<N, L>,
     ended: &Bell,
     pace: Pace,
+    last: u64,
     mut seat: Seat<N, L>,
     mut out: S,
     mut recorder: Option<Recorder<T, A>>,
     moments: &mut M,
 ) -> Reported<Seat<N, L>, S, Option<Recorder<T, A>>>
     ensures { (given : List ℕ) × Appends (M.given moments.old) (M.given moments.new) given
-        × Reports L.start pace.every pace.last given seat result.seat (sink_of S.taken S.failures out)
+        × Reports L.start pace last given seat result.seat (sink_of S.taken S.failures out)
         (sink_of S.taken S.failures result.out) recorder
         result.recorder result.has_failed }
 {
     let mut has_failed = false;
-    let mut due = pace.first_due();
+    let mut due = pace.after_table(last);
     for _ in rt.forever() {
         if has_failed || ended.has_rung() {
             break;
         }
-        match act_at(moments.now(), due, pace.every) {
+        match act_at(moments.now(), due, pace) {
             Act::Sleep(pause) => ended.rest(rt, pause),
+            Act::Tick { at, next_due } => {
+                let _ = station.tick(rt, &mut seat, at);
+                due = next_due;
+            }
             Act::Print { at, next_due } => {
                 let _ = station.tick(rt, &mut seat, at);
                 let (shown, written) = print_and_record(rt, station, seat, &mut out, &mut recorder);

@@ -36,8 +36,8 @@ use std::time::{Clock, Instant};
 pub struct Plan<O: Write + Drop> {
     /// The start of the program, if the clock could be read.
     pub start: Option<Instant>,
-    /// Milliseconds from one table to the next.
-    pub every: u32,
+    /// How often the reporter acts.
+    pub pace: Pace,
     /// What the round goes on from.
     pub kept: Kept,
     /// At most 8.
@@ -89,7 +89,7 @@ pub fn run_round<
     requires base { base_of places.history ≡ plan.kept.recent.base }
     requires limits { L.start.limits ≡ program_limits }
     requires sound { IsSound program_limits plan.kept.recent.base (reverse plan.kept.recent.entries.items) }
-    ensures { EndsRound O.contents (record { every = plan.every; inputs = length plan.inputs.items })
+    ensures { EndsRound O.contents (record { pace = plan.pace; inputs = length plan.inputs.items })
         (given_of plan.kept) (buffered_of O.contents plan.out).taken
         recorder.old recorder.new
         (told_of E.contents err.old) (told_of E.contents err.new) result }
@@ -128,7 +128,7 @@ pub fn run_last<
     requires limits { L.start.limits ≡ program_limits }
     requires sound { IsSound program_limits plan.kept.recent.base (reverse plan.kept.recent.entries.items) }
     ensures most { result.status ≤ 1 }
-    ensures last { IsLast (record { every = plan.every; inputs = length plan.inputs.items })
+    ensures last { IsLast (record { pace = plan.pace; inputs = length plan.inputs.items })
         (given_of plan.kept) (buffered_of O.contents plan.out).taken
         (option_map (λ left. O.contents left) result.out)
         recorder.old recorder.new
@@ -170,7 +170,7 @@ fn work<
     ensures many { IfOk result (λ worked. length worked.receivers.items ≡ length plan.inputs.items) }
     ensures pumped { IfOk result (λ worked. HavePumped L.start plan.kept.recent.entries.items
         (λ r. r.seat) (λ r. r.source) (λ r. r.answer) plan.inputs.items worked.receivers.items) }
-    ensures output { IfOk result (λ worked. Leaves L.start plan.every plan.kept.last_tick
+    ensures output { IfOk result (λ worked. Leaves L.start plan.pace plan.kept.last_tick
         (newcomer plan.kept.recent.entries.items (length plan.inputs.items)) worked.reporter
         (buffered_of O.contents plan.out).taken (O.contents worked.written.out)
         recorder.old recorder.new
@@ -178,15 +178,12 @@ fn work<
 {
     let Plan {
         start,
-        every,
+        pace,
         kept,
         inputs,
         out,
     } = plan;
-    let pace = Pace {
-        every,
-        last: kept.last_tick,
-    };
+    let last = kept.last_tick;
     let Ok((station, receivers, reporter)) = begin::<L, _>(rt, alloc, kept, inputs, blank, places)
     else {
         return Err(Fault::NoMemory);
@@ -196,6 +193,7 @@ fn work<
         &station,
         start,
         pace,
+        last,
         receivers,
         reporter,
         out,

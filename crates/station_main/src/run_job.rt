@@ -15,6 +15,7 @@ use crate::output::{Ran, without_output};
 use crate::record_file::record_to;
 use crate::recorder::{Recorder, status_of};
 use crate::round::{Plan, Round, run_last, run_round};
+use crate::schedule::Pace;
 use crate::standard_error::StandardError;
 use crate::threads::{Input, Output};
 use station_report::{Sink, ToWrite};
@@ -32,8 +33,8 @@ use std::time::{Clock, Instant};
 /// The options of a run.
 #[derive(Clone, Copy)]
 pub struct Asked<'a> {
-    /// Milliseconds from one table to the next, 1 to 3,600,000.
-    pub every: u32,
+    /// When tables and ticks are due.
+    pub pace: Pace,
     /// 1 to 1,000.
     pub rounds: u16,
     /// The file that the run is recorded to, if one is given.
@@ -45,7 +46,7 @@ pub struct Asked<'a> {
 /// Runs the rounds, and records what is printed if that is asked. Each round
 ///
 /// - reads each path by a receiver of its own;
-/// - prints the table of them all every `every` milliseconds, and once when all have ended;
+/// - prints the table of them all at the pace that is asked for, and once when all have ended;
 /// - prints what each receiver counted, with its fault directly after it, and at last a failed write.
 ///
 /// Each round goes on from the last 70,000 ms of the one before. A fault ends the run after its round. A failed write of
@@ -61,7 +62,7 @@ pub fn run_paths<
     requires paths { length asked.paths.now.items ≤ 8 }
     ensures most { result.status ≤ 1 }
     ensures runs { RunsAsked (is_some asked.entry.record.now)
-        (record { every = asked.entry.every; inputs = length asked.entry.paths.now.items })
+        (record { pace = asked.entry.pace; inputs = length asked.entry.paths.now.items })
         (asked.entry.rounds - 1) (O.contents out) (option_map (λ left. O.contents left) result.out) (A.contents alarm)
         (told_of E.contents err.old) (told_of E.contents err.new) result.status }
 {
@@ -99,7 +100,7 @@ fn run_rounds<
     requires rounds { 1 ≤ asked.rounds }
     requires paths { length asked.paths.now.items ≤ 8 }
     ensures most { result.status ≤ 1 }
-    ensures runs { Runs (record { every = asked.entry.every; inputs = length asked.entry.paths.now.items })
+    ensures runs { Runs (record { pace = asked.entry.pace; inputs = length asked.entry.paths.now.items })
         (asked.entry.rounds - 1) nothing (O.contents out) (option_map (λ left. O.contents left) result.out)
         recorder.old recorder.new
         (told_of E.contents err.old) (told_of E.contents err.new) result.status }
@@ -143,7 +144,7 @@ fn one_round<
 ) -> Round<O>
     requires few { length asked.paths.now.items ≤ 8 }
     requires sound { IsSound program_limits kept.recent.base (reverse kept.recent.entries.items) }
-    ensures { EndsRound O.contents (record { every = asked.entry.every; inputs = length asked.entry.paths.now.items })
+    ensures { EndsRound O.contents (record { pace = asked.entry.pace; inputs = length asked.entry.paths.now.items })
         (given_of kept) (O.contents out)
         recorder.old recorder.new
         (told_of E.contents err.old) (told_of E.contents err.new) result }
@@ -177,7 +178,7 @@ fn last_round<
     requires few { length asked.paths.now.items ≤ 8 }
     requires sound { IsSound program_limits kept.recent.base (reverse kept.recent.entries.items) }
     ensures most { result.status ≤ 1 }
-    ensures last { IsLast (record { every = asked.entry.every; inputs = length asked.entry.paths.now.items })
+    ensures last { IsLast (record { pace = asked.entry.pace; inputs = length asked.entry.paths.now.items })
         (given_of kept) (O.contents out) (option_map (λ left. O.contents left) result.out)
         recorder.old recorder.new
         (told_of E.contents err.old) (told_of E.contents err.new) result.status }
@@ -203,7 +204,7 @@ fn prepare<'a, R: Wait + Files<File = File>, O: Write + Drop>(
 ) -> Result<(Plan<O>, Places<AIRCRAFT>), Fault<'a>>
     requires { length asked.paths.now.items ≤ 8 }
     ensures early { IfErr result IsEarly }
-    ensures every { IfOk result (λ made. made.0.every ≡ asked.entry.every) }
+    ensures pace { IfOk result (λ made. made.0.pace ≡ asked.entry.pace) }
     ensures kept { IfOk result (λ made. made.0.kept ≡ kept) }
     ensures inputs { IfOk result (λ made. length made.0.inputs.items ≡ length asked.entry.paths.now.items) }
     ensures out { IfOk result (λ made. buffered_of O.contents made.0.out
@@ -220,7 +221,7 @@ fn prepare<'a, R: Wait + Files<File = File>, O: Write + Drop>(
     };
     let plan = Plan {
         start,
-        every: asked.every,
+        pace: asked.pace,
         kept,
         inputs,
         out: ToWrite::new(buffered),

@@ -2,26 +2,77 @@
 ghost use Rattle.std.specs.Prelude.{◌≡◌, ◌-◌, ◌^◌, ◌/◌, ℕ, List, [], ◌∷◌, Option, None, min};
 ghost use Rattle.std.specs.Duration.{as_nanos};
 ghost use Rattle.std.specs.Io.KnownBytes.{Appends};
-ghost use Rattle.station_main.specs.Reporter.{IsActAt, next_moment};
+ghost use Rattle.station_main.specs.Reporter.{IsActAt, after_table, first_of, has_come, next_moment, next_tick};
 
 use std::time::{Clock, Duration, Instant};
 
 /// The pace of a reporter, in milliseconds.
 #[derive(Clone, Copy, Debug, PartialEq, Eq)]
 pub struct Pace {
-    /// The interval from one table to the next.
+    /// The interval from one table to the next, 1 to 3,600,000.
     pub every: u32,
-    /// The time of the last tick before. The first table is due one interval later.
-    pub last: u64,
+    /// The interval from one tick to the next between two tables, 1 to 60,000. Without it there are no such ticks.
+    pub tick: Option<u32>,
+}
+
+/// When the reporter acts next, in milliseconds since the start of the program.
+#[derive(Clone, Copy, Debug, PartialEq, Eq)]
+pub struct Due {
+    /// The next table, with its tick.
+    pub table: u64,
+    /// The next tick, if it comes before the table.
+    pub tick: Option<u64>,
 }
 
 impl Pace {
-    /// When the first table is due, up to 2^64 - 1.
-    pub fn first_due(self) -> u64
-        ensures { result ≡ next_moment self.every self.last }
+    /// What is due after a table at this time, or after the last tick before the reporter's start.
+    pub fn after_table(self, at: u64) -> Due
+        ensures { result ≡ after_table self at }
     {
-        self.last.saturating_add(u64::from(self.every))
+        Due {
+            table: later(at, self.every),
+            tick: self.next_tick(at),
+        }
     }
+
+    // When a tick is due after one at this time.
+    fn next_tick(self, at: u64) -> Option<u64>
+        ensures { result ≡ next_tick self.tick at }
+    {
+        match self.tick {
+            Some(tick) => Some(later(at, tick)),
+            None => None,
+        }
+    }
+}
+
+impl Due {
+    // Whether a tick is due by now.
+    fn is_tick_due(self, now: u64) -> bool
+        ensures { result ≡ has_come self.tick now }
+    {
+        match self.tick {
+            Some(tick) => tick <= now,
+            None => false,
+        }
+    }
+
+    // The time of what is due first.
+    fn first(self) -> u64
+        ensures { result ≡ first_of self }
+    {
+        match self.tick {
+            Some(tick) => self.table.min(tick),
+            None => self.table,
+        }
+    }
+}
+
+// The time one interval later, up to 2^64 - 1.
+fn later(at: u64, interval: u32) -> u64
+    ensures { result ≡ next_moment interval at }
+{
+    at.saturating_add(u64::from(interval))
 }
 
 // The longest sleep, in milliseconds.
@@ -30,30 +81,44 @@ const LONGEST_SLEEP: u64 = 50;
 /// What the reporter does at one time.
 #[derive(Clone, Copy, Debug, PartialEq, Eq)]
 pub enum Act {
-    /// Sleep, since no table is due yet.
+    /// Sleep, since nothing is due yet.
     Sleep(Duration),
+    /// Tick, and print nothing.
+    Tick {
+        /// The time of the tick.
+        at: u64,
+        next_due: Due,
+    },
     /// Tick and print the table.
     Print {
         /// The time of the tick.
         at: u64,
-        /// When the next table is due.
-        next_due: u64,
+        next_due: Due,
     },
 }
 
-/// What the reporter does at `now` if a table is due at `due`, both in milliseconds. Before that it sleeps up to `due`,
-/// but at most 50 ms. From then on it prints a table, and the next is due at `now + every`, at most 2^64 - 1.
-pub fn act_at(now: u64, due: u64, every: u32) -> Act
-    ensures { IsActAt every due now result }
+/// What the reporter does at `now`, in milliseconds, by what is due. Where a table is due it ticks and prints the table.
+/// Else, where a tick is due, it ticks alone. Else it sleeps up to what is due first, but at most 50 ms.
+pub fn act_at(now: u64, due: Due, pace: Pace) -> Act
+    ensures { IsActAt pace due now result }
 {
-    if now < due {
-        let pause = (due - now).min(LONGEST_SLEEP);
-        return Act::Sleep(Duration::from_millis(pause));
+    if due.table <= now {
+        return Act::Print {
+            at: now,
+            next_due: pace.after_table(now),
+        };
     }
-    Act::Print {
-        at: now,
-        next_due: now.saturating_add(u64::from(every)),
+    if due.is_tick_due(now) {
+        return Act::Tick {
+            at: now,
+            next_due: Due {
+                table: due.table,
+                tick: pace.next_tick(now),
+            },
+        };
     }
+    let pause = (due.first() - now).min(LONGEST_SLEEP);
+    Act::Sleep(Duration::from_millis(pause))
 }
 
 /// A clock, in milliseconds.

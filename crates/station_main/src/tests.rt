@@ -7,6 +7,7 @@ mod run;
 mod sleeps;
 mod staged;
 mod through_time;
+mod ticks;
 mod words;
 
 use crate::program::program;

@@ -44,6 +44,7 @@ pub fn run_threads<
     station: &Station<AIRCRAFT, L>,
     start: Option<Instant>,
     pace: Pace,
+    last: u64,
     mut receivers: Vec<Receiver<L>>,
     seat: Seat<AIRCRAFT, L>,
     out: S,
@@ -57,7 +58,7 @@ pub fn run_threads<
     ensures answered { IfSome result (λ ended. All (λ r. is_some r.answer ≡ true) ended.0.items) }
     ensures receivers { IfSome result (λ ended. HaveWorked L.start (λ r. r.seat) (λ r. r.source) (λ r. r.answer)
         receivers.items ended.0.items) }
-    ensures reporter { IfSome result (λ ended. ReportsByAClock L.start pace.every pace.last seat ended.1.seat
+    ensures reporter { IfSome result (λ ended. ReportsByAClock L.start pace last seat ended.1.seat
         (sink_of S.taken S.failures out) (sink_of S.taken S.failures ended.1.out)
         recorder ended.1.recorder
         ended.1.has_failed) }
@@ -76,20 +77,21 @@ pub fn run_threads<
             ensures answered { IfSome result (λ ended. All (λ r. is_some r.answer ≡ true) ended.0.items) }
             ensures receivers { IfSome result (λ ended. HaveWorked L.start (λ r. r.seat) (λ r. r.source) (λ r. r.answer)
                 receivers.items ended.0.items) }
-            ensures reporter { IfSome result (λ ended. ReportsByAClock L.start pace.every pace.last seat ended.1.seat
+            ensures reporter { IfSome result (λ ended. ReportsByAClock L.start pace last seat ended.1.seat
                 (sink_of S.taken S.failures out) (sink_of S.taken S.failures ended.1.out)
                 recorder ended.1.recorder
                 ended.1.has_failed) }
         {
             let given = Given {
                 pace,
+                last,
                 seat: Snapshot::of(&seat),
                 out: Snapshot::of(&out),
                 recorder: Snapshot::of(&recorder),
             };
             match scope.spawn_with(
                 given,
-                move || report(rt, station, ended, start, pace, seat, out, recorder),
+                move || report(rt, station, ended, start, pace, last, seat, out, recorder),
             ) {
                 Ok(reporter) => {
                     run_receivers(rt, station, receivers.as_mut_slice(), TURNS);

@@ -49,8 +49,8 @@ fn pump_lent<const N: usize, L: StationName, S: Source, R: Wait>(
 ) -> Result<Tally, PumpFault>
     ensures same_seat { feed.new.seat.ghost_name ≡ feed.old.seat.ghost_name }
     ensures works { Works L.start feed.old.seat.now feed.new.seat.now
-        (drawn_of S.left S.reads S.ends S.failures from.old)
-        (drawn_of S.left S.reads S.ends S.failures from.new) turns result }
+        (drawn_of S.left S.given S.reads S.ends S.failures from.old)
+        (drawn_of S.left S.given S.reads S.ends S.failures from.new) turns result }
 {
     pump(rt, feed, from, turns)
 }
@@ -64,8 +64,8 @@ pub fn pump_seat<const N: usize, L: StationName, S: Source, R: Wait>(
     turns: u32,
 ) -> Result<Tally, PumpFault>
     ensures { Works L.start seat.old seat.new
-        (drawn_of S.left S.reads S.ends S.failures from.old)
-        (drawn_of S.left S.reads S.ends S.failures from.new) turns result }
+        (drawn_of S.left S.given S.reads S.ends S.failures from.old)
+        (drawn_of S.left S.given S.reads S.ends S.failures from.new) turns result }
 {
     let mut feed = SeatFeed { station, seat };
     pump_lent(rt, &mut feed, from, turns)

@@ -37,8 +37,8 @@ fn run_part<const N: usize, S: Source, L: StationName, R: Wait>(
         let old = slice_index_or part.old 0 d in
         let new = slice_index_or part.new 0 d in
         Worked L.start old.seat new.seat
-        (drawn_of S.left S.reads S.ends S.failures old.source)
-        (drawn_of S.left S.reads S.ends S.failures new.source) turns new.answer }
+        (drawn_of S.left S.given S.reads S.ends S.failures old.source)
+        (drawn_of S.left S.given S.reads S.ends S.failures new.source) turns new.answer }
 {
     let worker = &mut part[0];
     let answer = pump_held(rt, station, &mut worker.seat, &mut worker.source, turns);
@@ -59,8 +59,8 @@ pub fn run_receivers<
         let old = slice_index_or workers.old i d in
         let new = slice_index_or workers.new i d in
         Worked L.start old.seat new.seat
-        (drawn_of S.left S.reads S.ends S.failures old.source)
-        (drawn_of S.left S.reads S.ends S.failures new.source) turns new.answer }
+        (drawn_of S.left S.given S.reads S.ends S.failures old.source)
+        (drawn_of S.left S.given S.reads S.ends S.failures new.source) turns new.answer }
 {
     thread::for_each_chunk_mut(
         rt,
@@ -72,8 +72,8 @@ pub fn run_receivers<
                 let old = slice_index_or part.old 0 d in
                 let new = slice_index_or part.new 0 d in
                 Worked L.start old.seat new.seat
-                (drawn_of S.left S.reads S.ends S.failures old.source)
-                (drawn_of S.left S.reads S.ends S.failures new.source) turns new.answer }
+                (drawn_of S.left S.given S.reads S.ends S.failures old.source)
+                (drawn_of S.left S.given S.reads S.ends S.failures new.source) turns new.answer }
         { run_part(rt, station, part, turns) },
     );
 }

@@ -1,6 +1,7 @@
 //! Known frames, given to a journal and to a book. Both answer and show the same after each.
 
 mod lists;
+mod placed;
 mod positions;
 mod repeats;
 
@@ -8,7 +9,7 @@ use crate::calls::Call::{self, Hear, Tick};
 use crate::calls::{entry, frame, once};
 use crate::known::{ALL_CALL, IDENTIFICATION, SHORT_AIR};
 use station_book::{Book, DecodedEntry};
-use station_journal::{Aircraft, Entry, Journal, Limits, Refusal, Rows};
+use station_journal::{Aircraft, Entry, Journal, Limits, PlacedRows, Refusal, Rows};
 use std::alloc::Global;
 use std::process::Abort;
 use std::test::Fail;
@@ -20,6 +21,13 @@ fn same_rows<const N: usize>(rt: &impl Abort, rows: &[Aircraft], book: &Book<N>)
             assert_eq!(rt; book.row(i), *row);
             assert_eq!(rt; book.get(row.address), Some(*row));
         }
+    }
+}
+
+// The book has the time of each row's position that a search of the journal finds.
+fn same_times<const N: usize>(rt: &impl Abort, journal: &Journal, book: &Book<N>) {
+    for i in 0..book.len() {
+        assert_eq!(rt; book.placed(i), journal.placed(book.row(i).address));
     }
 }
 
@@ -74,6 +82,7 @@ fn compare<const N: usize>(
         let _answer = give(rt, &mut journal, &mut book, &entry(*call)?);
         let rows = journal.all(alloc)?;
         same_rows(rt, rows.as_slice(), &book);
+        same_times(rt, &journal, &book);
         assert_eq!(rt; book.now(), journal.now());
     }
     Ok(book)

@@ -32,7 +32,7 @@ pub(super) fn finish<L: StationName, R: Wait, O: Write + Drop, E: Write>(
     ensures most { result.status ≤ 1 }
     ensures last { (asked : Asked) (given : Given) (before : Option (List ℕ)) (was is : Option Recording) →
         length worked.receivers.items ≡ asked.inputs → GoesOnFrom given L.start →
-        Leaves L.start asked.every given.last_tick (newcomer given.entries asked.inputs) worked.reporter
+        Leaves L.start asked.pace given.last_tick (newcomer given.entries asked.inputs) worked.reporter
         before (O.contents worked.written.out) was is worked.written.has_failed →
         IsLast asked given before (option_map (λ left. O.contents left) result.out) was is
         (told_of E.contents err.old) (told_of E.contents err.new) result.status }
@@ -61,7 +61,7 @@ pub(super) fn hand_on<L: StationName, R: Wait, O: Write + Drop, T: Sink, A: Writ
     requires { All (λ r. is_some r.answer ≡ true) worked.receivers.items }
     ensures { (asked : Asked) (given : Given) (before : Option (List ℕ)) (was : Option Recording) →
         length worked.receivers.items ≡ asked.inputs → GoesOnFrom given L.start →
-        Leaves L.start asked.every given.last_tick (newcomer given.entries asked.inputs) worked.reporter
+        Leaves L.start asked.pace given.last_tick (newcomer given.entries asked.inputs) worked.reporter
         before (O.contents worked.written.out) was recorder.old
         worked.written.has_failed →
         EndsRound O.contents asked given before was recorder.new

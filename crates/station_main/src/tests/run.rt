@@ -51,7 +51,7 @@ const SECOND_WITHOUT_MEMORY: &str = concat!(
     "groundstation: no memory\n",
 );
 
-const TABLE_OF_FIRST: &str = concat!(
+pub const TABLE_OF_FIRST: &str = concat!(
     "now 0 aircraft 1\n",
     "  ADDR CALLSIGN    ALT SQWK     VELOCITY   VERT        LAT        LON AGE\n",
     "4840D6 KLM1023       -    -            -      -          -          -   0\n",

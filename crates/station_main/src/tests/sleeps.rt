@@ -2,7 +2,7 @@
 use super::NO_LINES;
 use super::staged::{Feed, Staged, run_lasting};
 use crate::bell::Bell;
-use crate::schedule::{Act, act_at};
+use crate::schedule::{Act, Due, Pace, act_at};
 use std::sync::atomic::AtomicBool;
 use std::test::*;
 use std::time::{Duration, Instant};
@@ -11,8 +11,28 @@ fn sleep(milliseconds: u64) -> Act {
     Act::Sleep(Duration::from_millis(milliseconds))
 }
 
-fn print(at: u64, next_due: u64) -> Act {
+// A table each 500 ms.
+const TABLES: Pace = Pace {
+    every: 500,
+    tick: None,
+};
+
+// A table each 500 ms, and a tick each 80 ms between two tables.
+const TABLES_AND_TICKS: Pace = Pace {
+    every: 500,
+    tick: Some(80),
+};
+
+fn at(table: u64, tick: Option<u64>) -> Due {
+    Due { table, tick }
+}
+
+fn print(at: u64, next_due: Due) -> Act {
     Act::Print { at, next_due }
+}
+
+fn tick(at: u64, next_due: Due) -> Act {
+    Act::Tick { at, next_due }
 }
 
 #[test]
@@ -25,12 +45,37 @@ fn a_sleep_lasts_until_a_table_is_due_or_is_the_longest(rt: HostRuntime) {
         (950, 1_000, sleep(50)),
         (951, 1_000, sleep(49)),
         (999, 1_000, sleep(1)),
-        (1_000, 1_000, print(1_000, 1_500)),
-        (1_007, 1_000, print(1_007, 1_507)),
-        (u64::MAX, 1_000, print(u64::MAX, u64::MAX)),
+        (1_000, 1_000, print(1_000, at(1_500, None))),
+        (1_007, 1_000, print(1_007, at(1_507, None))),
+        (u64::MAX, 1_000, print(u64::MAX, at(u64::MAX, None))),
     ];
-    for (now, due, act) in acts {
-        assert_eq!(rt; act_at(now, due, 500), act);
+    for (now, table, act) in acts {
+        assert_eq!(rt; act_at(now, at(table, None), TABLES), act);
+    }
+}
+
+#[test]
+fn a_tick_comes_alone_where_no_table_is_due(rt: HostRuntime) {
+    // The time now, when a table and when a tick is due, in milliseconds.
+    let acts = [
+        (0, 1_000, 980, sleep(50)),
+        (940, 1_000, 980, sleep(40)),
+        (979, 1_000, 980, sleep(1)),
+        (980, 1_000, 980, tick(980, at(1_000, Some(1_060)))),
+        (999, 1_000, 980, tick(999, at(1_000, Some(1_079)))),
+        (999, 1_000, 1_060, sleep(1)),
+        (1_000, 1_000, 980, print(1_000, at(1_500, Some(1_080)))),
+        (1_001, 1_000, 1_060, print(1_001, at(1_501, Some(1_081)))),
+        (
+            u64::MAX,
+            1_000,
+            980,
+            print(u64::MAX, at(u64::MAX, Some(u64::MAX))),
+        ),
+    ];
+    for (now, table, first_tick, act) in acts {
+        let due = at(table, Some(first_tick));
+        assert_eq!(rt; act_at(now, due, TABLES_AND_TICKS), act);
     }
 }
 

@@ -1,5 +1,6 @@
 //! Command lines that are refused, or that ask for help.
 use super::{NO_LINES, run_words, text, words_of};
+use crate::schedule::Pace;
 use crate::words::{Job, WordsFault, read_words};
 use std::alloc::{AllocError, Global};
 
@@ -39,6 +40,14 @@ fn words_are_refused(rt: HostRuntime) -> Result<(), AllocError> {
         (
             "groundstation run --every 5 --rounds x x",
             "error: invalid value 'x' for '--rounds <R>': invalid digit found in string\n",
+        ),
+        (
+            "groundstation run --every 5 --tick 0 x",
+            "error: invalid value '0' for '--tick <MS>': 0 is not in 1..=60000\n",
+        ),
+        (
+            "groundstation run --every 5 --tick 60001 x",
+            "error: invalid value '60001' for '--tick <MS>': 60001 is not in 1..=60000\n",
         ),
         (
             "groundstation run --every 5 --record f --record g x",
@@ -83,6 +92,37 @@ fn rounds_are_1_where_they_are_not_given(rt: HostRuntime) -> Result<(), WordsFau
         ("groundstation run x --rounds=1 --every=5", 1),
     ] {
         assert_eq!(rt; rounds_of(rt.alloc(), line)?, rounds, "{line}");
+    }
+    Ok(())
+}
+
+// The pace that a line asks for, if it is one of `run`.
+fn pace_of(alloc: Global, line: &str) -> Result<Option<Pace>, WordsFault> {
+    let words = words_of(alloc, line, [].as_slice())?;
+    match read_words(alloc, words.as_slice())? {
+        Job::Run { pace, .. } => Ok(Some(pace)),
+        Job::Replay => Ok(None),
+    }
+}
+
+#[test]
+fn ticks_are_only_where_they_are_given(rt: HostRuntime) -> Result<(), WordsFault> {
+    for (line, every, tick) in [
+        ("groundstation run --every 5 x", 5, None),
+        (
+            "groundstation run --tick 1 --every 3600000 x",
+            3_600_000,
+            Some(1),
+        ),
+        (
+            "groundstation run x --every=7 --tick=60000",
+            7,
+            Some(60_000),
+        ),
+        ("groundstation run --every 5 -- x --tick 6", 5, None),
+    ] {
+        let pace = Pace { every, tick };
+        assert_eq!(rt; pace_of(rt.alloc(), line)?, Some(pace), "{line}");
     }
     Ok(())
 }
@@ -134,7 +174,8 @@ const HELP: &str = concat!(
     "  run     Reads 1 to 8 paths side by side, and writes one table every MS\n",
     "  help    Print this message or the help of the given subcommand(s)\n\n",
     "Options:\n",
-    "  -h, --help  Print help\n\n",
+    "  -h, --help     Print help\n",
+    "  -V, --version  Print version\n\n",
     "Examples:\n",
     "  groundstation replay < examples/klm1023.avr\n",
     "  groundstation run --every 1000 <(nc 127.0.0.1 30002 < /dev/null)\n\n",
@@ -149,6 +190,7 @@ const RUN_HELP: &str = concat!(
     "  <PATH>...  1 to 8 files or named pipes, each read by a receiver of its own\n\n",
     "Options:\n",
     "      --every <MS>     Milliseconds from one table to the next, 1 to 3600000\n",
+    "      --tick <MS>      Milliseconds between ticks without a table, 1 to 60000\n",
     "      --rounds <R>     How many times to read the paths, 1 to 1000 [default: 1]\n",
     "      --record <FILE>  File to record the run to, for replay\n",
     "  -h, --help           Print help\n\n",
@@ -158,8 +200,9 @@ const RUN_HELP: &str = concat!(
 const REPLAY_HELP: &str = "Reads standard input, and writes the table at each line that is ?\n\n";
 
 const REPLAY_HELP_END: &str = concat!(
-    "\nThere is room for 16777216 accepted frames and + lines. When it is full, all\n",
-    "that comes is refused, and 'now' stands still.\n",
+    "\nAt a + line, once there are 12582912 accepted frames and + lines, those that\n",
+    "are more than 70 s old are forgotten. There is room for 16777216. When it is\n",
+    "full, all that comes is refused, and 'now' stands still.\n",
     "Formats: docs/FORMATS.md.\n",
 );
 
@@ -190,6 +233,17 @@ fn help_is_written_to_standard_output(rt: HostRuntime) -> Result<(), AllocError>
             rest.ends_with(end) && rest.is_empty() == end.is_empty(),
             "{line}"
         );
+    }
+    Ok(())
+}
+
+#[test]
+fn the_version_is_written_to_standard_output(rt: HostRuntime) -> Result<(), AllocError> {
+    for line in ["groundstation --version", "groundstation -V"] {
+        let words = words_of(rt.alloc(), line, [].as_slice())?;
+        let told = run_words(&rt, words.as_slice(), NO_LINES);
+        assert_eq!(rt; text(&told.out), "groundstation 1.0.0\n", "{line}");
+        assert!(rt; told.err.is_empty() && told.status == 0, "{line}");
     }
     Ok(())
 }

@@ -2,20 +2,11 @@
 
 use crate::book::compare;
 use crate::calls::Call::{self, Hear, Tick};
-use crate::known::EVEN;
+use crate::known::{EVEN, FAR, ODD};
 use modes_cpr::{Degrees, Position};
 use station_book::Book;
 use station_journal::{Aircraft, Rows};
 use std::test::Fail;
-
-const ODD: &[u8] = &[
-    0x8D, 0x40, 0x62, 0x1D, 0x58, 0xC3, 0x86, 0x43, 0x5C, 0xC4, 0x12, 0x69, 0x2A, 0xD6,
-];
-
-// An even place far off, which gives no position with the odd one.
-const FAR: &[u8] = &[
-    0x8D, 0x40, 0x62, 0x1D, 0x58, 0xC3, 0x80, 0x00, 0x00, 0x00, 0x00, 0x53, 0x36, 0x8B,
-];
 
 fn hundred_thousandths(degrees: Degrees) -> i128 {
     let den = degrees.den as i128;

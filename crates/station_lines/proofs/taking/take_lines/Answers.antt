@@ -1,8 +1,7 @@
 use Rattle.std.proofs.Common.{◌≡◌, refl, ◌-◌, ap, ◌∙◌, sym, subst, false, not, arith}
-use Rattle.std.specs.Io.KnownBytes.{Consumes}
 use Rattle.station_report.specs.Sink.{counted}
 use Rattle.station_lines.specs.Source.{counted_up}
-use Rattle.station_lines.specs.Drawing.{drawn_of}
+use Rattle.station_lines.specs.Drawing.{Gives, drawn_of}
 use Rattle.station_lines.proofs.DrawingLemmas.{GivenSoFar-none, GivenSoFar-piece, reads_left, Taken-read, Taken-turns, Taken-stop, Taken-end}
 use Rattle.station_lines.proofs.taking.take_lines.Goals as goal
 
@@ -21,9 +20,9 @@ loop-left-init g c =
 pub returns-in-Err : goal.returns-in-Err
 returns-in-Err g c =
     let S = g.S.Source in
-    let old = drawn_of S.left S.reads S.ends S.failures c.args.from.now in
-    let mid = drawn_of S.left S.reads S.ends S.failures c.loop-left.from in
-    let new = drawn_of S.left S.reads S.ends S.failures c.gather.new.from in
+    let old = drawn_of S.left S.given S.reads S.ends S.failures c.args.from.now in
+    let mid = drawn_of S.left S.given S.reads S.ends S.failures c.loop-left.from in
+    let new = drawn_of S.left S.given S.reads S.ends S.failures c.gather.new.from in
     let inv = c.loop-left.invariant in
     let failed = c.in-Err.ensures.err in
     let left = c.loop-left.left in
@@ -33,26 +32,26 @@ returns-in-Err g c =
 pub returns-in-Err-take_piece : goal.returns-in-Err-take_piece
 returns-in-Err-take_piece g c =
     let S = g.S.Source in
-    let old = drawn_of S.left S.reads S.ends S.failures c.args.from.now in
-    let mid = drawn_of S.left S.reads S.ends S.failures c.loop-left.from in
-    let new = drawn_of S.left S.reads S.ends S.failures c.gather.new.from in
+    let old = drawn_of S.left S.given S.reads S.ends S.failures c.args.from.now in
+    let mid = drawn_of S.left S.given S.reads S.ends S.failures c.loop-left.from in
+    let new = drawn_of S.left S.given S.reads S.ends S.failures c.gather.new.from in
     let inv = c.loop-left.invariant in
     let read = c.in-Ok.ensures.ok in
     let left = c.loop-left.left in
-    Taken-stop g.T.LineTaker.took g.met.T.LineTaker.then old mid new _ _ _ inv.so_far _ _ _ (subst (Consumes mid.left new.left) (sym c.as_slice.ensures.value) read.given) _ c.args.turns _ (omega arith)
+    Taken-stop g.T.LineTaker.took g.met.T.LineTaker.then old mid new _ _ _ inv.so_far _ _ _ (subst (Gives mid.bytes new.bytes) (sym c.as_slice.ensures.value) read.given) _ c.args.turns _ (omega arith)
     (reads_left c.args.turns left c.in-Ok.read.reads old.reads mid.reads new.reads inv.within read.few inv.reads read.reads) read.failures inv.failures
     (c.in-Err-take_piece.ensures.taken inv.so_far.given inv.so_far.taken.all_taken.1)
 
 pub returns-then-read : goal.returns-then-read
 returns-then-read g c =
     let S = g.S.Source in
-    let old = drawn_of S.left S.reads S.ends S.failures c.args.from.now in
-    let mid = drawn_of S.left S.reads S.ends S.failures c.loop-left.from in
-    let new = drawn_of S.left S.reads S.ends S.failures c.gather.new.from in
+    let old = drawn_of S.left S.given S.reads S.ends S.failures c.args.from.now in
+    let mid = drawn_of S.left S.given S.reads S.ends S.failures c.loop-left.from in
+    let new = drawn_of S.left S.given S.reads S.ends S.failures c.gather.new.from in
     let inv = c.loop-left.invariant in
     let read = c.in-Ok.ensures.ok in
     let left = c.loop-left.left in
-    rw c.after_the_last.ensures (Taken-end g.T.LineTaker.took g.met.T.LineTaker.then old mid new _ _ _ inv.so_far _ _ _ (subst (Consumes mid.left new.left) (sym c.as_slice.ensures.value) read.given)
+    rw c.after_the_last.ensures (Taken-end g.T.LineTaker.took g.met.T.LineTaker.then old mid new _ _ _ inv.so_far _ _ _ (subst (Gives mid.bytes new.bytes) (sym c.as_slice.ensures.value) read.given)
     (c.in-Ok-take_piece.ensures.taken inv.so_far.given inv.so_far.taken.all_taken.1) c.take_last.result _ c.args.turns _ (omega arith)
     (reads_left c.args.turns left c.in-Ok.read.reads old.reads mid.reads new.reads inv.within read.few inv.reads read.reads)
     (read.ends ∙ ap (λ b. counted (not b) mid.ends) c.if-read.true ∙ ap (λ i. counted false i) inv.ends) (read.failures ∙ inv.failures) (read.over c.if-read.true)
@@ -61,16 +60,16 @@ returns-then-read g c =
 pub loop-left-preserved : goal.loop-left-preserved
 loop-left-preserved g c =
     let S = g.S.Source in
-    let old = drawn_of S.left S.reads S.ends S.failures c.args.from.now in
-    let mid = drawn_of S.left S.reads S.ends S.failures c.loop-left.from in
-    let new = drawn_of S.left S.reads S.ends S.failures c.gather.new.from in
+    let old = drawn_of S.left S.given S.reads S.ends S.failures c.args.from.now in
+    let mid = drawn_of S.left S.given S.reads S.ends S.failures c.loop-left.from in
+    let new = drawn_of S.left S.given S.reads S.ends S.failures c.gather.new.from in
     let inv = c.loop-left.invariant in
     let read = c.in-Ok.ensures.ok in
     let left = c.loop-left.left in
     record {
       within = omega (arith, inv.within);
       room = omega (arith, inv.within, inv.room, read.some, read.few, c.in-Ok-take_piece.ensures.counted, c.as_slice.ensures.few);
-      so_far = GivenSoFar-piece g.T.LineTaker.took g.met.T.LineTaker.then old mid new _ _ _ inv.so_far _ _ _ (subst (Consumes mid.left new.left) (sym c.as_slice.ensures.value) read.given) (c.in-Ok-take_piece.ensures.taken inv.so_far.given inv.so_far.taken.all_taken.1);
+      so_far = GivenSoFar-piece g.T.LineTaker.took g.met.T.LineTaker.then old mid new _ _ _ inv.so_far _ _ _ (subst (Gives mid.bytes new.bytes) (sym c.as_slice.ensures.value) read.given) (c.in-Ok-take_piece.ensures.taken inv.so_far.given inv.so_far.taken.all_taken.1);
       reads = reads_left c.args.turns left c.in-Ok.read.reads old.reads mid.reads new.reads inv.within read.few inv.reads read.reads;
       ends = read.ends ∙ ap (λ b. counted (not b) mid.ends) c.if-read.false ∙ inv.ends;
       failures = read.failures ∙ inv.failures;
@@ -79,8 +78,8 @@ loop-left-preserved g c =
 pub returns : goal.returns
 returns g c =
     let S = g.S.Source in
-    let old = drawn_of S.left S.reads S.ends S.failures c.args.from.now in
-    let mid = drawn_of S.left S.reads S.ends S.failures c.loop-left.from in
+    let old = drawn_of S.left S.given S.reads S.ends S.failures c.args.from.now in
+    let mid = drawn_of S.left S.given S.reads S.ends S.failures c.loop-left.from in
     let inv = c.loop-left.invariant in
     let all : c.args.turns - c.loop-left.left ≡ c.args.turns = omega arith in
     Taken-turns g.T.LineTaker.took old mid _ _ _ inv.so_far (c.args.turns - c.loop-left.left) c.args.turns all inv.reads inv.ends inv.failures

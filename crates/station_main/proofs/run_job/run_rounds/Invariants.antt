@@ -9,7 +9,7 @@ use Rattle.station_main.proofs.run_job.run_rounds.Given as goal
 -- all rounds leave what the rounds to come leave
 abbrev pub invariant-loop-more : goal.invariant-loop-more
 invariant-loop-more g l =
-    let asked : Asked = record { every = l.asked.every; inputs = length l.asked.paths.now.items } in
+    let asked : Asked = record { pace = l.asked.pace; inputs = length l.asked.paths.now.items } in
     let contents = g.O.Write.contents in
     let told = told_of g.E.Write.contents in
     record {

@@ -8,7 +8,7 @@ abbrev pub invariant-loop-count : goal.invariant-loop-count
 invariant-loop-count g l =
     let S = g.S.Source in
     record {
-      so_far : Gathers (drawn_of S.left S.reads S.ends S.failures l.fn.from) (drawn_of S.left S.reads S.ends S.failures l.from) l.fn.turns (held l.self) l.reads (nat_eq l.count 0);
+      so_far : Gathers (drawn_of S.left S.given S.reads S.ends S.failures l.fn.from) (drawn_of S.left S.given S.reads S.ends S.failures l.from) l.fn.turns (held l.self) l.reads (nat_eq l.count 0);
     }
 
 abbrev pub decreases-loop-count : goal.decreases-loop-count

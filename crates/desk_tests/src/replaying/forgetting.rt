@@ -1,0 +1,65 @@
+//! Replays by a desk that forgets what is more than 70,000 ms old.
+
+use super::aged::{MOMENTS, REPLAYS_WITH_TICKS};
+use super::known::REPLAYS;
+use crate::fakes::{Pieces, Taker, counted, new_desk};
+use station_desk::{Desk, Format, replay, replay_forgetting};
+
+// A desk that forgets at each tick, or once it has a few entries, gives the known tables.
+#[test]
+fn desk_that_forgets_gives_known_tables(rt: HostRuntime) {
+    for replays in [REPLAYS, REPLAYS_WITH_TICKS, &[MOMENTS]] {
+        for (name, lines, text) in replays {
+            for most in [0, 2, 4] {
+                let mut desk: Desk<512> = new_desk(&rt, rt.alloc(), 16_777_216);
+                let mut from = Pieces::new(lines.as_bytes());
+                let mut sink = Taker::new();
+                let answer = replay_forgetting(
+                    &rt,
+                    most,
+                    &mut desk,
+                    &mut from,
+                    &mut sink,
+                    Format::Text,
+                    999,
+                );
+                assert!(rt; answer.is_ok(), "{name}");
+                assert_eq!(rt; sink.bytes.as_slice(), text.as_bytes(), "{name}");
+                let _journal = desk.end(&rt);
+            }
+        }
+    }
+}
+
+// Four frames, each 80,000 ms after the one before, and a question.
+const STREAM: &str = concat!(
+    "+80000\n*8D4840D6202CC371C32CE0576098;\n",
+    "+160000\n*8D485020994409940838175B284F;\n",
+    "+240000\n*8D4840D6202CC371C32CE0576098;\n",
+    "+320000\n*8D4840D6202CC371C32CE0576098;\n",
+    "?",
+);
+
+const AT_THE_END: &str = concat!(
+    "now 320000 aircraft 1\n",
+    "  ADDR CALLSIGN    ALT SQWK     VELOCITY   VERT        LAT        LON AGE\n",
+    "4840D6 KLM1023       -    -            -      -          -          -   0\n",
+);
+
+// A desk of three entries takes them all where it forgets, and else three.
+#[test]
+fn desk_that_forgets_takes_any_number_of_entries(rt: HostRuntime) {
+    let mut desk: Desk<512> = new_desk(&rt, rt.alloc(), 3);
+    let mut from = Pieces::new(STREAM.as_bytes());
+    let mut sink = Taker::new();
+    let answer = replay_forgetting(&rt, 2, &mut desk, &mut from, &mut sink, Format::Text, 999);
+    assert_eq!(rt; answer, Ok(counted([4, 0], [4, 0], [1, 0, 0, 0])));
+    assert_eq!(rt; sink.bytes.as_slice(), AT_THE_END.as_bytes());
+    assert_eq!(rt; (desk.journal().len(), desk.journal().base()), (2, 240_000));
+    let _journal = desk.end(&rt);
+    let mut full: Desk<512> = new_desk(&rt, rt.alloc(), 3);
+    let mut from = Pieces::new(STREAM.as_bytes());
+    let answer = replay(&rt, &mut full, &mut from, &mut sink, 999);
+    assert_eq!(rt; answer, Ok(counted([1, 3], [2, 2], [1, 0, 0, 0])));
+    let _journal = full.end(&rt);
+}

@@ -1,0 +1,5 @@
+//! Tests of station_portions by its public calls.
+#![tactic(auto)]
+
+#[cfg(test)]
+mod portions;

@@ -1,0 +1,165 @@
+//! Sources that are taken in portions.
+
+use station_lines::Source;
+use station_portions::{PathEnd, connect};
+use station_report::Failed;
+use std::alloc::Global;
+use std::io::{self, ErrorKind, Read};
+use std::sync::atomic::{AtomicBool, Ordering};
+use std::sync::{Arc, Wait};
+use std::test::Fail;
+use std::thread;
+use std::time::Duration;
+
+// A path that gives one part a read. Before the part `pause` it is silent until it is released.
+#[derive(Drop)]
+struct Script<W> {
+    parts: &'static [&'static [u8]],
+    next: usize,
+    pause: usize,
+    rt: W,
+    is_released: Arc<AtomicBool, Global>,
+}
+
+impl<W: Wait> Read for Script<W> {
+    fn read(&mut self, buffer: &mut [u8]) -> io::Result<usize> {
+        if self.next == self.pause {
+            for _ in self.rt.forever() {
+                if self.is_released.load(Ordering::SeqCst) {
+                    break;
+                }
+                thread::yield_now();
+            }
+        }
+        if self.next >= self.parts.len() {
+            return Ok(0);
+        }
+        let part = self.parts[self.next];
+        self.next += 1;
+        let count = part.len().min(buffer.len());
+        buffer[..count].copy_from_slice(&part[..count]);
+        Ok(count)
+    }
+}
+
+// Reads a portion to its end.
+fn read_portion<S: Source>(from: &mut S, to: &mut Vec<u8>) -> io::Result<()> {
+    let mut buffer = [0u8; 7];
+    for _ in 0..u64::MAX {
+        let Ok(count) = from.read(&mut buffer) else {
+            return Err(io::Error::from(ErrorKind::Other));
+        };
+        if count == 0 {
+            break;
+        }
+        to.extend_from_slice(&buffer[..count])?;
+    }
+    Ok(())
+}
+
+#[test]
+fn a_line_begun_before_a_hand_over_is_given_after_it(rt: HostRuntime) -> Result<(), Fail> {
+    let alloc = rt.alloc();
+    let is_released = Arc::new(alloc, AtomicBool::new(false))?;
+    let (reader, mut portions, hand_over) = connect(&rt, alloc)?;
+    let script = Script {
+        parts: &[b"*one;\n*tw", b"o;\n*three;"],
+        next: 0,
+        pause: 1,
+        rt,
+        is_released: Arc::try_clone(&is_released)?,
+    };
+    let handle = reader.start(&rt, rt, script)?;
+    let mut first = [0u8; 6];
+    assert!(rt; portions.read(&mut first) == Ok(6));
+    assert_eq!(rt; &first, b"*one;\n");
+    hand_over.request();
+    assert!(rt; portions.read(&mut first) == Ok(0));
+    assert!(rt; portions.is_between_lines() && portions.end().is_none());
+    hand_over.resume();
+    is_released.store(true, Ordering::SeqCst);
+    let mut rest = Vec::new(alloc);
+    read_portion(&mut portions, &mut rest)?;
+    assert_eq!(rt; rest.as_slice(), b"*two;\n*three;\n".as_slice());
+    assert!(rt; portions.end() == Some(PathEnd::AtEnd));
+    handle.join(&rt);
+    Ok(())
+}
+
+#[test]
+fn a_hand_over_doesn_t_wait_for_a_silent_path(rt: HostRuntime) -> Result<(), Fail> {
+    let alloc = rt.alloc();
+    let is_released = Arc::new(alloc, AtomicBool::new(false))?;
+    let (reader, mut portions, hand_over) = connect(&rt, alloc)?;
+    let script = Script {
+        parts: &[],
+        next: 0,
+        pause: 0,
+        rt,
+        is_released: Arc::try_clone(&is_released)?,
+    };
+    let handle = reader.start(&rt, rt, script)?;
+    let request = Arc::try_clone(&hand_over)?;
+    let other = thread::spawn(&rt, move || {
+        thread::sleep(&rt, Duration::from_millis(20));
+        request.request();
+    })?;
+    let mut bytes = Vec::new(alloc);
+    read_portion(&mut portions, &mut bytes)?;
+    assert!(rt; bytes.is_empty() && portions.end().is_none());
+    other.join(&rt);
+    hand_over.resume();
+    is_released.store(true, Ordering::SeqCst);
+    read_portion(&mut portions, &mut bytes)?;
+    assert!(rt; bytes.is_empty() && portions.end() == Some(PathEnd::AtEnd));
+    handle.join(&rt);
+    Ok(())
+}
+
+// A path that gives a line of 200,000 bytes, another one, the beginning of a third, and then fails.
+#[derive(Drop)]
+struct LongLine {
+    left: usize,
+    is_over: bool,
+}
+
+impl Read for LongLine {
+    fn read(&mut self, buffer: &mut [u8]) -> io::Result<usize> {
+        if self.left > 0 {
+            let count = self.left.min(buffer.len()).min(60_000);
+            buffer[..count].fill(b'a');
+            self.left -= count;
+            return Ok(count);
+        }
+        if self.is_over || buffer.len() < 9 {
+            return Err(io::Error::from(ErrorKind::Other));
+        }
+        self.is_over = true;
+        buffer[..9].copy_from_slice(b"\n*one;\n*t");
+        Ok(9)
+    }
+}
+
+#[test]
+fn a_long_line_is_cut_short_and_a_begun_one_dropped_at_a_failed_read(
+    rt: HostRuntime,
+) -> Result<(), Fail> {
+    let alloc = rt.alloc();
+    let (reader, mut portions, _) = connect(&rt, alloc)?;
+    let path = LongLine {
+        left: 200_000,
+        is_over: false,
+    };
+    let handle = reader.start(&rt, rt, path)?;
+    let mut bytes = [0u8; 1024];
+    assert!(rt; portions.read(&mut bytes) == Ok(512 + 7));
+    assert!(rt; bytes.as_slice().starts_with([b'a'; 512].as_slice()));
+    assert_eq!(rt; &bytes[512..512 + 7], b"\n*one;\n".as_slice());
+    assert!(rt; portions.read(&mut bytes) == Err(Failed));
+    assert!(rt; portions.read(&mut bytes) == Err(Failed));
+    assert!(rt; portions.end() == Some(PathEnd::ReadFailed));
+    let mut path = handle.join(&rt);
+    assert!(rt; path.end == PathEnd::ReadFailed && path.from.is_over);
+    assert!(rt; portions.gave_all(&mut path));
+    Ok(())
+}

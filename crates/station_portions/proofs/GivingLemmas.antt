@@ -1,0 +1,113 @@
+-- The bytes of batches, given one part after another.
+use Rattle.std.proofs.Common.{◌≡◌, ℕ, ◌+◌, ◌-◌, ◌≤◌, inl, inr, List, [], ◌∷◌, ◌++◌, length, take, drop, nat_lt, not, true, refl, sym, ap, ◌∙◌, subst, append_assoc, take-append-drop, length-append, arith}
+use Rattle.std.proofs.lemmas.List.{take_at, drop-drop, drop-take, take-take, append-nil, nil_from_length, take_more}
+use Rattle.std.proofs.lemmas.Bool.Decides.{nat_tests}
+use Rattle.station_portions.specs.Batches.{IsBorder}
+use Rattle.station_portions.specs.Messages.{bytes_in, bytes_of, given_of}
+use Rattle.station_portions.specs.declared.message.Batch.{Batch}
+use Rattle.station_portions.specs.declared.message.Message.{Message}
+use Rattle.station_portions.specs.declared.message.PathEnd.{PathEnd}
+use Rattle.station_portions.specs.declared.message.Message.TheVariants.{Lines, Over}
+
+-- the next bytes of a batch, copied before others
+pub give_split : (room : List ℕ) (count at n : ℕ) (copied rest : List ℕ) → length copied ≡ n → at + n ≤ count → copied ≡ take n (drop at room)
+    → drop at (take count room) ≡ take n (copied ++ rest) ++ drop (at + n) (take count room)
+give_split room count at n copied rest many within is =
+    let bytes = take count room in
+    let same : count ≡ at + (count - at) = omega arith in
+    let whole : drop at bytes ≡ take (count - at) (drop at room) = ap (λ k. drop at (take k room)) same ∙ drop-take at (count - at) room in
+    let front : take n (drop at bytes) ≡ take n (drop at room) = ap (take n) whole ∙ take-take n (count - at) (drop at room) (omega arith) in
+    sym (take-append-drop n (drop at bytes))
+    ∙ ap (λ l. l ++ drop n (drop at bytes)) (front ∙ sym is ∙ sym (take_at copied rest n many))
+    ∙ ap (λ l. take n (copied ++ rest) ++ l) (drop-drop n at bytes)
+
+-- the bytes before the last ones
+pub before_rest : (all held before : List ℕ) → before ++ held ≡ all → take (length all - length held) all ≡ before
+before_rest all held before is =
+    let many : length (before ++ held) - length held ≡ length before = omega (arith, length-append before held) in
+    ap (λ l. take (length l - length held) l) (sym is) ∙ ap (λ k. take k (before ++ held)) many ∙ take_at before held (length before) refl
+
+-- one more message
+pub bytes_in-more : (all : List Message) (x : Message) → bytes_in (all ++ x ∷ []) ≡ bytes_in all ++ bytes_in (x ∷ [])
+bytes_in-more [] x = refl
+bytes_in-more (Lines batch ∷ all) x =
+    ap (λ l. bytes_of batch ++ l) (bytes_in-more all x) ∙ sym (append_assoc (bytes_of batch) (bytes_in all) (bytes_in (x ∷ [])))
+bytes_in-more (Over end ∷ all) x = bytes_in-more all x
+
+-- no bytes are left, so all were given
+pub given_all : (all : List Message) → given_of all [] ≡ bytes_in all
+given_all all = before_rest (bytes_in all) [] (bytes_in all) (append-nil (bytes_in all))
+
+-- a batch that was received
+pub refilled : (all : List Message) (batch : Batch) → given_of (all ++ Lines batch ∷ []) (bytes_of batch) ≡ bytes_in all
+refilled all batch =
+    before_rest (bytes_in (all ++ Lines batch ∷ [])) (bytes_of batch) (bytes_in all)
+    (ap (λ l. bytes_in all ++ l) (sym (append-nil (bytes_of batch))) ∙ sym (bytes_in-more all (Lines batch)))
+
+-- some of the bytes left are given
+pub given_more : (all : List Message) (held part rest : List ℕ) → given_of all held ++ held ≡ bytes_in all → held ≡ part ++ rest
+    → given_of all rest ≡ given_of all held ++ part
+given_more all held part rest kept is =
+    before_rest (bytes_in all) rest (given_of all held ++ part)
+    (append_assoc (given_of all held) part rest ∙ ap (λ l. given_of all held ++ l) (sym is) ∙ kept)
+
+-- the bytes given and the bytes left are all bytes, also after some were given
+pub kept_more : (all : List Message) (held part rest : List ℕ) → given_of all held ++ held ≡ bytes_in all → held ≡ part ++ rest
+    → given_of all rest ++ rest ≡ bytes_in all
+kept_more all held part rest kept is =
+    ap (λ l. l ++ rest) (given_more all held part rest kept is)
+    ∙ append_assoc (given_of all held) part rest
+    ∙ ap (λ l. given_of all held ++ l) (sym is)
+    ∙ kept
+
+-- the bytes of a batch end a line
+pub load_ends : (batch : Batch) → (front : List ℕ) × (bytes_of batch ≡ front ++ 10 ∷ [])
+load_ends batch =
+    let last = batch.count - 1 in
+    let same : batch.count ≡ last + 1 = omega (arith, batch.whole) in
+    let more = take_more batch.buffer.bytes.items last 0 (omega (arith, batch.within, batch.whole, batch.buffer.size)) in (
+      take last batch.buffer.bytes.items,
+      ap (λ k. take k batch.buffer.bytes.items) same ∙ more ∙ ap (λ b. take last batch.buffer.bytes.items ++ b ∷ []) batch.whole.1,
+    )
+
+after_load : (batch : Batch) (rest : List ℕ) → IsBorder rest → IsBorder (bytes_of batch ++ rest)
+after_load batch rest (inl none) =
+    inr ((load_ends batch).0, ap (λ l. bytes_of batch ++ l) none ∙ append-nil (bytes_of batch) ∙ (load_ends batch).1)
+after_load batch rest (inr (front, is)) =
+    inr (bytes_of batch ++ front, ap (λ l. bytes_of batch ++ l) is ∙ sym (append_assoc (bytes_of batch) front (10 ∷ [])))
+
+-- and so do those of all batches
+pub ends_border : (all : List Message) → IsBorder (bytes_in all)
+ends_border [] = inl refl
+ends_border (Lines batch ∷ all) = after_load batch (bytes_in all) (ends_border all)
+ends_border (Over end ∷ all) = ends_border all
+
+-- the same for a batch that was received after others
+pub kept_refilled : (old new : List Message) (batch : Batch) → new ≡ old ++ Lines batch ∷ [] → given_of new (bytes_of batch) ++ bytes_of batch ≡ bytes_in new
+kept_refilled old new batch is =
+    rw is
+    (ap (λ l. l ++ bytes_of batch) (refilled old batch)
+    ∙ ap (λ l. bytes_in old ++ l) (sym (append-nil (bytes_of batch)))
+    ∙ sym (bytes_in-more old (Lines batch)))
+
+pub given_refilled : (old new : List Message) (held : List ℕ) (batch : Batch) → held ≡ [] → new ≡ old ++ Lines batch ∷ []
+    → given_of new (bytes_of batch) ≡ given_of old held
+given_refilled old new held batch none is = rw (is, none) (refilled old batch ∙ sym (given_all old))
+
+-- and of the end that was received
+pub given_over : (old new : List Message) (held now : List ℕ) (end : PathEnd) → held ≡ [] → now ≡ [] → new ≡ old ++ Over end ∷ []
+    → given_of new now ≡ given_of old held
+given_over old new held now end none still is =
+    rw (is, none, still)
+    (given_all (old ++ Over end ∷ []) ∙ bytes_in-more old (Over end) ∙ append-nil (bytes_in old) ∙ sym (given_all old))
+
+-- no bytes were given of none, so none are left
+pub nothing_left : (held buffer now : List ℕ) (n : ℕ) → n ≡ 0 → held ≡ [] → held ≡ take n buffer ++ now → now ≡ []
+nothing_left held buffer now n zero none is =
+    let e : held ≡ take 0 buffer ++ now = subst (λ k. held ≡ take k buffer ++ now) zero is in sym e ∙ none
+
+pub border_given : (all : List Message) (now : List ℕ) → now ≡ [] → IsBorder (given_of all now)
+border_given all now none = rw none (subst IsBorder (sym (given_all all)) (ends_border all))
+
+pub nothing_held : (held : List ℕ) → not (nat_lt 0 (length held)) ≡ true → held ≡ []
+nothing_held held none = nil_from_length held (grind (arith, nat_tests))

@@ -1,0 +1,4 @@
+pub mod GivingLemmas
+pub mod BacklogLemmas
+pub mod SendingLemmas
+pub mod WholeLemmas

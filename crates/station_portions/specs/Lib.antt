@@ -1,0 +1,6 @@
+pub mod Batches
+pub mod Messages
+pub mod Giving
+pub mod Backlog
+pub mod Sending
+pub mod Whole

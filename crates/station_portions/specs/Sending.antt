@@ -1,0 +1,42 @@
+-- The lines that a reader sends of those that it reads.
+use Rattle.std.specs.Prelude.{◌≡◌, ℕ, List, ◌++◌, Option}
+use Rattle.std.specs.Io.KnownBytes.{Consumes}
+use Rattle.modes_frame.specs.declared.cutter.Cut.{Cut}
+use Rattle.modes_frame.specs.Lines.{cuts, ended_cuts, pending}
+use Rattle.station_portions.specs.Batches.{IsBorder}
+use Rattle.station_portions.specs.Messages.{bytes_in}
+use Rattle.station_portions.specs.declared.message.Message.{Message}
+use Rattle.station_portions.specs.declared.message.PathEnd.{PathEnd}
+use Rattle.station_portions.specs.declared.message.PathEnd.TheVariants.{AtEnd, ReadFailed}
+
+-- the lines that were read are those that were sent and those that are kept, and the begun line is kept
+pub record KeepsLines (read sent unsent : List ℕ) : Type 0 where
+  pub lines : ended_cuts read ≡ ended_cuts sent ++ ended_cuts unsent
+  pub begun : pending unsent ≡ pending read
+
+-- further messages, of bytes that were kept
+pub record SendsOn (before after : List Message) (unsent_old unsent_new : List ℕ) : Type 0 where
+  pub more : List Message
+  pub after_is : after ≡ before ++ more
+  pub keeps : (read sent : List ℕ) → IsBorder sent → KeepsLines read sent unsent_old → KeepsLines read (sent ++ bytes_in more) unsent_new
+
+-- the bytes read so far, and the messages with lines of them
+pub record SentSoFar (left_old left_new : Option (List ℕ)) (before after : List Message) (unsent : List ℕ) : Type 0 where
+  pub read : List ℕ
+  pub more : List Message
+  pub given : Consumes left_old left_new read
+  pub after_is : after ≡ before ++ more
+  pub keeps : KeepsLines read (bytes_in more) unsent
+
+-- the lines to be sent: all, or after a failed read those that a line feed ended
+abbrev pub lines_of : PathEnd → List ℕ → List Cut
+lines_of AtEnd read = cuts read
+lines_of ReadFailed read = ended_cuts read
+
+-- the lines sent are those of all bytes read
+pub record SendsPath (left_old left_new : Option (List ℕ)) (before after : List Message) (end : PathEnd) : Type 0 where
+  pub read : List ℕ
+  pub more : List Message
+  pub given : Consumes left_old left_new read
+  pub after_is : after ≡ before ++ more
+  pub lines : cuts (bytes_in more) ≡ lines_of end read

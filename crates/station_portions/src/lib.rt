@@ -1,0 +1,23 @@
+//! Sources that are taken in portions, one station after another, and the threads that read their paths.
+//!
+//! A [`PathReader`] reads a path in a thread of its own, and sends whole lines to [`Portions`], the source of one station
+//! at a time. A [`HandOver`] ends the portion of a station, and the next station goes on where it ended.
+//! `run` doesn't use it yet.
+#![tactic(auto)]
+
+mod backlog;
+mod connecting;
+mod finished_path;
+mod hand_over;
+mod laws;
+mod message;
+mod path_reader;
+mod portions;
+
+pub use connecting::connect;
+pub use finished_path::{FinishedPath, WholePath};
+pub use hand_over::HandOver;
+pub use laws::portions_have_the_lines_of_the_whole;
+pub use message::PathEnd;
+pub use path_reader::PathReader;
+pub use portions::Portions;

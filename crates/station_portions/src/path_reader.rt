@@ -1,0 +1,188 @@
+//! The thread that reads a path.
+ghost use Rattle.std.specs.Prelude.{◌≡◌, ◌++◌, ◌∷◌, []};
+ghost use Rattle.rtrb.specs.Ring.{SameProducer, sent};
+
+use crate::backlog::Backlog;
+use crate::finished_path::{FinishedPath, WholePath};
+use crate::hand_over::HandOver;
+use crate::message::{Buffer, Message, PathEnd};
+use rtrb::{Consumer, Producer, PushError};
+use std::alloc::Global;
+use std::io::{self, Read};
+use std::snapshot::Snapshot;
+use std::sync::{Arc, Wait};
+use std::thread;
+use std::thread::{PromisedHandle, Threads};
+
+/// Reads a path and sends whole lines, each once and in order.
+#[derive(Drop)]
+pub struct PathReader {
+    pub(crate) hand_over: Arc<HandOver, Global>,
+    pub(crate) messages: Producer<Message>,
+    pub(crate) emptied: Consumer<Buffer>,
+    pub(crate) backlog: Backlog,
+}
+
+// Sends a message, and waits until there is room for it.
+fn send<R: Wait>(rt: &R, hand_over: &HandOver, messages: &mut Producer<Message>, message: Message)
+    ensures ring { SameProducer messages.old messages.new }
+    ensures sent { sent messages.new ≡ sent messages.old ++ message ∷ [] }
+{
+    let mut message = message;
+    for _ in rt.forever() {
+        match messages.push(message) {
+            Ok(()) => {
+                hand_over.wake_source();
+                return;
+            }
+            Err(PushError::Full(back)) => message = back,
+        }
+        hand_over.await_buffer(rt);
+    }
+    unreachable!()
+}
+
+// Waits for a buffer that was given back.
+fn spare<R: Wait>(rt: &R, hand_over: &HandOver, emptied: &mut Consumer<Buffer>) -> Buffer {
+    for _ in rt.forever() {
+        if let Ok(buffer) = emptied.pop() {
+            return buffer;
+        }
+        hand_over.await_buffer(rt);
+    }
+    unreachable!()
+}
+
+impl PathReader {
+    ghost use Rattle.std.specs.Prelude.{◌≡◌, ◌≤◌, ◌++◌, ◌∷◌, [], IfOk, length};
+    ghost use Rattle.rtrb.specs.Ring.{SameProducer, sent};
+    ghost use Rattle.station_portions.specs.Batches.{HasNoLineFeed, longest_kept};
+    ghost use Rattle.station_portions.specs.Backlog.{unsent};
+    ghost use Rattle.station_portions.specs.Sending.{SendsOn, SendsPath, SentSoFar};
+    ghost use Rattle.station_portions.specs.Whole.{SendsWhole};
+    ghost use Rattle.station_portions.specs.declared.message.Message.TheVariants.{Over};
+
+    // Sends the lines that a line feed ended.
+    fn send_ended<R: Wait>(&mut self, rt: &R)
+        ensures ring { SameProducer self.old.messages self.new.messages }
+        ensures sends { SendsOn (sent self.old.messages) (sent self.new.messages)
+            (unsent self.old.backlog) (unsent self.new.backlog) }
+        ensures none { HasNoLineFeed (unsent self.new.backlog) }
+    {
+        let border = self.backlog.border();
+        if border == 0 {
+            return;
+        }
+        let spare = spare(rt, &self.hand_over, &mut self.emptied);
+        let batch = self.backlog.split(border, spare);
+        send(
+            rt,
+            &self.hand_over,
+            &mut self.messages,
+            Message::Lines(batch),
+        );
+    }
+
+    // Sends the lines that a line feed ended, and keeps at most 512 bytes of the one after them.
+    fn send_lines<R: Wait>(&mut self, rt: &R)
+        ensures ring { SameProducer self.old.messages self.new.messages }
+        ensures sends { SendsOn (sent self.old.messages) (sent self.new.messages)
+            (unsent self.old.backlog) (unsent self.new.backlog) }
+        ensures none { HasNoLineFeed (unsent self.new.backlog) }
+        ensures short { length (unsent self.new.backlog) ≤ longest_kept }
+    {
+        self.send_ended(rt);
+        self.backlog.shorten();
+    }
+
+    // Sends the lines of a reader that a line feed ends, up to its end or a failed read.
+    fn send_up_to_end<R: Wait, I: Read>(&mut self, rt: &R, from: &mut I) -> io::Result<()>
+        requires { unsent self.old.backlog ≡ [] }
+        ensures ring { SameProducer self.old.messages self.new.messages }
+        ensures so_far { SentSoFar (I.remaining from.old) (I.remaining from.new)
+            (sent self.old.messages) (sent self.new.messages) (unsent self.new.backlog) }
+        ensures none { HasNoLineFeed (unsent self.new.backlog) }
+        ensures short { length (unsent self.new.backlog) ≤ longest_kept }
+    {
+        for _ in rt.forever() {
+            let count = self.backlog.read_more(from)?;
+            if count == 0 {
+                return Ok(());
+            }
+            self.send_lines(rt);
+        }
+        unreachable!()
+    }
+
+    // Sends all lines of a reader, up to its end or a failed read, and answers which it was. A last line without line feed
+    // gets one at the end, and is dropped after a failed read.
+    fn send_path<R: Wait, I: Read>(&mut self, rt: &R, from: &mut I) -> PathEnd
+        ensures ring { SameProducer self.old.messages self.new.messages }
+        ensures sends { SendsPath (I.remaining from.old) (I.remaining from.new)
+            (sent self.old.messages) (sent self.new.messages) result }
+    {
+        self.backlog.clear();
+        match self.send_up_to_end(rt, from) {
+            Ok(()) => {
+                self.backlog.end_line();
+                self.send_lines(rt);
+                PathEnd::AtEnd
+            }
+            Err(_) => PathEnd::ReadFailed,
+        }
+    }
+
+    // Sends that no further lines come.
+    fn send_over<R: Wait>(&mut self, rt: &R, end: PathEnd)
+        ensures ring { SameProducer self.old.messages self.new.messages }
+        ensures sent { sent self.new.messages ≡ sent self.old.messages ++ Over end ∷ [] }
+    {
+        send(rt, &self.hand_over, &mut self.messages, Message::Over(end));
+    }
+
+    // Sends a path, and that it is over.
+    fn run<R: Wait, I: Read>(self, rt: &R, from: I) -> FinishedPath<I>
+        ensures { SendsWhole (I.remaining from) (I.remaining result.from) self.messages result.end result.sent }
+    {
+        let (mut reader, mut from) = (self, from);
+        let end = reader.send_path(rt, &mut from);
+        reader.send_over(rt, end);
+        let PathReader {
+            messages,
+            hand_over: _,
+            emptied: _,
+            backlog: _,
+        } = reader;
+        FinishedPath {
+            from,
+            end,
+            sent: messages.finish(),
+        }
+    }
+
+    /// Starts the thread that reads `from` to its end, or to a read that fails. It needn't be joined: it ends with its
+    /// path, or with the program. An error where no thread can be started.
+    pub fn start<R: Threads, W: Wait + Copy + Send + 'static, I: Read + Send + Drop + 'static>(
+        self,
+        rt: &R,
+        own: W,
+        from: I,
+    ) -> io::Result<PromisedHandle<FinishedPath<I>, WholePath<I>>>
+        ensures { IfOk result (λ h. (h.promise.from.value ≡ from) × (h.promise.reader.value ≡ self)) }
+    {
+        let promise = WholePath {
+            from: Snapshot::of(&from),
+            reader: Snapshot::of(&self),
+        };
+        let reader = self;
+        let handle = thread::spawn_with(
+            rt,
+            promise,
+            move || -> FinishedPath<I>
+                ensures { SendsWhole (I.remaining from) (I.remaining result.from)
+                    reader.messages result.end result.sent }
+            { reader.run(&own, from) },
+        )?;
+        Ok(handle)
+    }
+}
