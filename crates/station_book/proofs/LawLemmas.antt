@@ -12,12 +12,13 @@ use Rattle.station_book.specs.Decoded.{decoded_of}
 use Rattle.station_book.specs.State.{BookState, applied, offered, rows, fits}
 use Rattle.station_book.specs.Matching.{MatchesPast, Matches, Shows, book_of_past, book_after}
 use Rattle.station_book.proofs.MatchingLemmas.{matches_starting, matches_applied, matches_push}
-use Rattle.station_book.proofs.TableLemmas.{rows_are_table}
+use Rattle.station_book.proofs.TableLemmas.{rows_are_table, placed_are_table}
 use Rattle.station_book.proofs.VerdictLemmas.{same_tick_refusal, same_refusal, fits_from_accepts, fits_from, fits_back}
 
 pub shows_from_match : (n base : ℕ) (book : BookState) (entries : List Entry) → Matches n base book entries → Shows n base book entries
 shows_from_match n base book entries m = record {
   table = rows_are_table n base (reverse entries) book m;
+  placed = placed_are_table n base (reverse entries) book m;
   moment = m.moment;
   count = m.entries ∙ length-reverse entries;
   tick = same_tick_refusal n base (reverse entries) book m;

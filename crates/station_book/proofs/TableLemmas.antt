@@ -5,13 +5,14 @@ use Rattle.std.proofs.lemmas.Bool.Decides.{nat_tests}
 use Rattle.std.proofs.lemmas.List.{length-map}
 use Rattle.station_journal.specs.declared.entry.Entry.{Entry}
 use Rattle.station_journal.specs.declared.aircraft.Aircraft.{Aircraft}
-use Rattle.station_journal.specs.Past.{clock, live}
-use Rattle.station_journal.specs.Table.{row, table, live_addresses, find_row}
+use Rattle.station_journal.specs.Past.{clock, live, newest_fix}
+use Rattle.station_journal.specs.Table.{row, table, placed, placed_table, live_addresses, find_row}
 use Rattle.station_journal.specs.Rising.{AllOver, IsRising}
+use Rattle.station_journal.proofs.FreshLemmas.{moments_agree}
 use Rattle.station_journal.proofs.RisingLemmas.{is_in, same_rising, rising_live, in_live}
 use Rattle.station_book.specs.declared.tracks.Track.{Track}
-use Rattle.station_book.specs.Tracks.{address_of, find_track, track_row, AllAbove, Rising}
-use Rattle.station_book.specs.State.{BookState, rows}
+use Rattle.station_book.specs.Tracks.{address_of, find_track, track_row, track_placed, AllAbove, Rising}
+use Rattle.station_book.specs.State.{BookState, rows, placed_rows}
 use Rattle.station_book.specs.Matching.{Tracks, TracksAt, MatchesPast}
 use Rattle.station_book.proofs.TrackLemmas.{find_below}
 
@@ -28,7 +29,7 @@ is_in_addresses a [] = refl
 is_in_addresses a (track ∷ rest) = grind (arith, nat_tests, is_in_addresses a rest)
 
 -- what is found in a list of rising tracks determines its addresses
-rows_agree : (f : Track → Aircraft) (g : ℕ → Aircraft) (tracks : List Track) → Rising tracks → ((a : ℕ) (track : Track) → find_track a tracks ≡ Some track → f track ≡ g a) → map f tracks ≡ map g (map address_of tracks)
+rows_agree : {R : Type 0} (f : Track → R) (g : ℕ → R) (tracks : List Track) → Rising tracks → ((a : ℕ) (track : Track) → find_track a tracks ≡ Some track → f track ≡ g a) → map f tracks ≡ map g (map address_of tracks)
 rows_agree f g [] rising agree = refl
 rows_agree f g (track ∷ rest) rising agree =
     let here : f track ≡ g track.address = agree track.address track (grind (arith, nat_tests)) in
@@ -62,6 +63,15 @@ module _ (n base : ℕ) (past : List Entry) (book : BookState) (m : MatchesPast 
   -- the rows are the table
   pub rows_are_table : rows book ≡ table base past
   rows_are_table = rows_agree (track_row book.moment) (row base past) book.tracks m.rising row_of_found ∙ ap (map (row base past)) same_addresses
+
+  placed_of_found : (a : ℕ) (track : Track) → find_track a book.tracks ≡ Some track → track_placed book.moment track ≡ placed base past a
+  placed_of_found a track e =
+      let t : Tracks base past a track = subst (TracksAt base past a) e (m.each a) in
+      rw m.moment (moments_agree 60000 (clock base past) track.position (newest_fix base a past) t.position)
+
+  -- the times of their positions are those of the table
+  pub placed_are_table : placed_rows book ≡ placed_table base past
+  placed_are_table = rows_agree (track_placed book.moment) (placed base past) book.tracks m.rising placed_of_found ∙ ap (map (placed base past)) same_addresses
 
 -- the row of the track that is found, if there is one
 abbrev pub row_found : ℕ → Option Track → Option Aircraft

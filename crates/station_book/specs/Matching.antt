@@ -3,13 +3,13 @@ use Rattle.std.specs.Prelude.{◌≡◌, ℕ, ◌≤◌, true, false, List, [], 
 use Rattle.station_journal.specs.declared.entry.Entry.{Entry}
 use Rattle.station_journal.specs.declared.aircraft.Stamped.{Stamped}
 use Rattle.station_journal.specs.Past.{clock, live, fresh, newest, newest_fix, sighting_of, callsign_of, even_place_of, odd_place_of, life_ms, pair_ms}
-use Rattle.station_journal.specs.Table.{altitude_of, squawk_of, velocity_of, vertical_of, table}
+use Rattle.station_journal.specs.Table.{altitude_of, squawk_of, velocity_of, vertical_of, table, placed_table}
 use Rattle.station_journal.specs.Repeats.{first_heard}
 use Rattle.station_journal.specs.Resume.{Sound}
 use Rattle.station_journal.specs.Verdict.{tick_refusal, refusal}
 use Rattle.station_book.specs.declared.tracks.Track.{Track}
 use Rattle.station_book.specs.Tracks.{find_track, Rising}
-use Rattle.station_book.specs.State.{BookState, rows, starting, applied, book_tick_refusal, book_refusal}
+use Rattle.station_book.specs.State.{BookState, rows, placed_rows, starting, applied, book_tick_refusal, book_refusal}
 
 -- both values show the same at each time from now on, by this limit of age
 abbrev pub AgreeFrom : {V : Type 0} → ℕ → ℕ → Option (Stamped V) → Option (Stamped V) → Type 0
@@ -47,9 +47,10 @@ pub record MatchesPast (n base : ℕ) (book : BookState) (past : List Entry) : T
 abbrev pub Matches : ℕ → ℕ → BookState → List Entry → Type 0
 Matches n base book entries = MatchesPast n base book (reverse entries)
 
--- what a match promises: the table, the clock, the count, and each refusal but JournalFull
+-- what a match promises: the table with the times of its positions, the clock, the count, and each refusal but JournalFull
 pub record Shows (n base : ℕ) (book : BookState) (entries : List Entry) : Type 0 where
   pub table : rows book ≡ table base (reverse entries)
+  pub placed : placed_rows book ≡ placed_table base (reverse entries)
   pub moment : book.moment ≡ clock base (reverse entries)
   pub count : book.entries ≡ length entries
   pub tick : (at : ℕ) → book_tick_refusal book at ≡ tick_refusal false base (reverse entries) at

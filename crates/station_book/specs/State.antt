@@ -18,7 +18,7 @@ use Rattle.station_book.specs.declared.tracks.Track.{Track}
 use Rattle.station_book.specs.declared.decoded_entry.Change.{Change}
 use Rattle.station_book.specs.declared.decoded_entry.Change.TheVariants as change
 use Rattle.station_book.specs.Decoded.{decoded_of, claim_in}
-use Rattle.station_book.specs.Tracks.{find_track, swept, with_sighting, has_place, with_track, track_row}
+use Rattle.station_book.specs.Tracks.{find_track, swept, with_sighting, has_place, with_track, track_row, track_placed}
 
 -- the clock, the number of entries taken, the track of each live aircraft, and the first frames since the newest tick
 pub record BookState : Type 0 where
@@ -34,6 +34,10 @@ starting base = record { moment = base; entries = 0; tracks = []; first_frames =
 -- the rows that the book shows
 abbrev pub rows : BookState → List Aircraft
 rows book = map (track_row book.moment) book.tracks
+
+-- the times of the positions in these rows
+abbrev pub placed_rows : BookState → List (Option ℕ)
+placed_rows book = map (track_placed book.moment) book.tracks
 
 -- the book's refusal of a claim whose frame repeats another or not: the first that applies of its fault, Unknown,
 -- Repeated and BookFull

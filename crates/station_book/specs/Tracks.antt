@@ -6,7 +6,7 @@ use Rattle.modes_fields.specs.declared.fields.Fields.{Fields}
 use Rattle.modes_fields.specs.Carried.{fields_of}
 use Rattle.modes_frame.specs.declared.claims.CheckFault.{CheckFault}
 use Rattle.station_journal.specs.declared.aircraft.Aircraft.{Aircraft}
-use Rattle.station_journal.specs.Past.{stamp, or_older, fresh, with_parity, pair_with, life_ms, pair_ms}
+use Rattle.station_journal.specs.Past.{stamp, or_older, fresh, fresh_moment, with_parity, pair_with, life_ms, pair_ms}
 use Rattle.station_book.specs.declared.tracks.Track.{Track}
 use Rattle.station_book.specs.declared.decoded_entry.Sighting.{Sighting}
 
@@ -69,6 +69,10 @@ track_row now track = record {
   position = fresh life_ms now track.position;
   heard = track.heard;
 }
+
+-- the time of the position that the row of a track shows at the time now
+abbrev pub track_placed : ℕ → Track → Option ℕ
+track_placed now track = fresh_moment life_ms now track.position
 
 -- the track of the address, if there is one
 abbrev pub find_track : ℕ → List Track → Option Track

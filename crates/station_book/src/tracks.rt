@@ -4,13 +4,13 @@ ghost use Rattle.std.specs.Prelude.{◌≡◌};
 ghost use Rattle.modes_fields.specs.Carried.{fields_of};
 ghost use Rattle.modes_fields.specs.Kinds.{fields_by};
 ghost use Rattle.station_journal.specs.Past.{stamp, or_older};
-ghost use Rattle.station_book.specs.Tracks.{blank, kept_fix, with_place, updated, track_row};
+ghost use Rattle.station_book.specs.Tracks.{blank, kept_fix, with_place, updated, track_row, track_placed};
 
 use modes_cpr::Position;
 use modes_fields::readers::carried;
 use modes_fields::{Callsign, Carried, Place, Squawk, Velocity};
 use modes_frame::Frame;
-use station_journal::aging::{fresh, or_older, pair_with, stamp, with_parity};
+use station_journal::aging::{fresh, fresh_moment, or_older, pair_with, stamp, with_parity};
 use station_journal::{Aircraft, LIFE_MS, PAIR_MS, Stamped};
 
 /// What a book keeps of an aircraft: the newest value of each field, the newest even and odd places, and the newest
@@ -112,6 +112,13 @@ fn take(track: &mut Track, now: u64, carried: Carried)
             keep(&mut track.vertical, now, vertical);
         }
     }
+}
+
+/// The time of the position in the row that the track shows, in milliseconds. None where the row has no position.
+pub fn track_placed(now: u64, track: &Track) -> Option<u64>
+    ensures { result ≡ track_placed now track.now }
+{
+    fresh_moment(LIFE_MS, now, track.position)
 }
 
 /// The row that the track shows.

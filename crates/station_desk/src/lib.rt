@@ -25,4 +25,5 @@ pub use publish_rule::{LookingPlace, PublishRule, ReaderPlace, Sees};
 pub use published::{Mark, Origin, PublishedTable, Unlogged};
 pub use published_desk::PublishedDesk;
 pub use publisher::{Publisher, give_up};
-pub use replaying::{ReplayFault, replay};
+pub use replaying::{ReplayFault, replay, replay_as};
+pub use station_report::Format;

@@ -1,8 +1,8 @@
 -- Values with their times: how they age, and when two show the same from some time on.
-use Rattle.std.proofs.Common.{◌≡◌, ℕ, ◌≤◌, Option, Some, None, refl, sym, arith}
+use Rattle.std.proofs.Common.{◌≡◌, ℕ, ◌+◌, ◌-◌, ◌≤◌, Option, Some, None, refl, sym, arith}
 use Rattle.std.proofs.lemmas.Bool.Decides.{nat_tests}
 use Rattle.station_journal.specs.declared.aircraft.Stamped.{Stamped}
-use Rattle.station_journal.specs.Past.{or_older, fresh}
+use Rattle.station_journal.specs.Past.{or_older, fresh, fresh_moment}
 
 -- both show the same at each time from now on
 abbrev pub AgreeFrom : {V : Type 0} → ℕ → ℕ → Option (Stamped V) → Option (Stamped V) → Type 0
@@ -30,3 +30,16 @@ module _ {V : Type 0} where
   -- no value shows the same as one that is too old
   pub agree_none : (limit now : ℕ) (found : Option (Stamped V)) → fresh limit now found ≡ None → AgreeFrom limit now None found
   agree_none limit now found old later le = sym (fresh_stays_none limit now later found le old)
+
+  -- a value that is shown is shown until its time and the limit
+  no_later : (limit now : ℕ) (s t : Stamped V) → now - s.at ≤ limit → AgreeFrom limit now (Some s) (Some t) → s.at ≤ t.at
+  no_later limit now s t shown agree = let last = agree (s.at + limit) (omega arith) in grind (arith, nat_tests)
+
+  -- two values that show the same from now on are of the same time, if they are shown
+  pub moments_agree : (limit now : ℕ) (kept found : Option (Stamped V)) → AgreeFrom limit now kept found → fresh_moment limit now kept ≡ fresh_moment limit now found
+  moments_agree limit now None None agree = refl
+  moments_agree limit now None (Some t) agree = let here = agree now (omega arith) in grind (arith, nat_tests)
+  moments_agree limit now (Some s) None agree = let here = agree now (omega arith) in grind (arith, nat_tests)
+  moments_agree limit now (Some s) (Some t) agree =
+      let here = agree now (omega arith) in
+      grind (arith, nat_tests, λ (shown : now - s.at ≤ limit). no_later limit now s t shown agree, λ (shown : now - t.at ≤ limit). no_later limit now t s shown (λ later le. sym (agree later le)))

@@ -7,6 +7,7 @@ pub mod LegalPastLemmas
 pub mod NewestLemmas
 pub mod TableLemmas
 pub mod RowLemmas
+pub mod PlacedLemmas
 pub mod RecentLemmas
 pub mod RecentSoundLemmas
 pub mod ResumeLemmas

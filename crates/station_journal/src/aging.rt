@@ -1,7 +1,7 @@
 //! Values with their times in milliseconds, and how they age.
 
 ghost use Rattle.std.specs.Prelude.{◌≡◌};
-ghost use Rattle.station_journal.specs.Past.{stamp, fresh, or_older, with_parity, pair_with};
+ghost use Rattle.station_journal.specs.Past.{stamp, fresh, fresh_moment, or_older, with_parity, pair_with};
 
 use crate::Stamped;
 use modes_cpr::{Position, pair};
@@ -30,6 +30,16 @@ pub fn fresh<T: Copy>(limit: u64, now: u64, kept: Option<Stamped<T>>) -> Option<
             }
         }
         None => None,
+    }
+}
+
+/// The time of the value, unless it is more than `limit` older than `now`.
+pub fn fresh_moment<T: Copy>(limit: u64, now: u64, kept: Option<Stamped<T>>) -> Option<u64>
+    ensures { result ≡ fresh_moment limit now kept }
+{
+    match kept {
+        Some(Stamped { value: _, at }) if now.saturating_sub(at) <= limit => Some(at),
+        _ => None,
     }
 }
 

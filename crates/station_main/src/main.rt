@@ -2,7 +2,9 @@
 #![tactic(auto)]
 
 mod bell;
+mod beside;
 mod commands;
+mod displays;
 mod faults;
 mod kept;
 mod laws;
@@ -17,6 +19,7 @@ mod round;
 mod run_job;
 mod schedule;
 mod standard_error;
+mod table_format;
 mod tallies;
 #[cfg(test)]
 mod tests;
@@ -39,7 +42,17 @@ use std::time::Clock;
 fn main(rt: HostRuntime) -> ExitCode {
     let owned = own_words(&rt);
     let (input, out) = (rt.stdin(), rt.stdout());
-    let status = answer(&rt, rt.alloc(), owned, input, out, rt.stderr(), rt.stderr());
+    let (alarm, display_alarm) = (rt.stderr(), rt.stderr());
+    let status = answer(
+        &rt,
+        rt.alloc(),
+        owned,
+        input,
+        out,
+        alarm,
+        display_alarm,
+        rt.stderr(),
+    );
     ExitCode::from(status)
 }
 
@@ -57,6 +70,7 @@ fn answer<
     input: I,
     out: O,
     alarm: A,
+    display_alarm: A,
     err: E,
 ) -> u8 {
     let mut err = StandardError::new(err);
@@ -68,7 +82,17 @@ fn answer<
     let Ok(words) = borrowed(alloc, &owned) else {
         return tell(&mut err, Fault::NoMemory);
     };
-    program(rt, alloc, words.as_slice(), input, out, alarm, &mut err).status
+    program(
+        rt,
+        alloc,
+        words.as_slice(),
+        input,
+        out,
+        alarm,
+        display_alarm,
+        &mut err,
+    )
+    .status
 }
 
 fn not_text<E: Write>(err: &mut StandardError<E>) -> u8 {

@@ -1,7 +1,7 @@
 //! The whole program, over any streams.
-ghost use Rattle.clap.specs.Words.{kind_of, takes};
+ghost use Rattle.clap.specs.Words.{App, kind_of, takes};
 ghost use Rattle.clap.specs.declared.error.kind.ErrorKind.TheVariants.{DisplayHelp, DisplayVersion};
-ghost use Rattle.station_main.specs.Command.{IsInRange, station};
+ghost use Rattle.station_main.specs.Command.{IsInRange, IsStation};
 ghost use Rattle.station_main.specs.Jobs.{IsAnswered, IsDone};
 ghost use Rattle.station_main.specs.Telling.{told_of};
 ghost use Rattle.std.specs.Prelude.{◌≡◌, ◌≢◌, ◌≤◌, map, option_map, true};
@@ -10,6 +10,7 @@ use crate::faults::Fault;
 use crate::output::{Ran, without_output};
 use crate::replay_job::replay_input;
 use crate::run_job::{Asked, run_paths};
+use crate::schedule::{Tables, milliseconds_since_1970};
 use crate::standard_error::StandardError;
 use crate::words::{Job, WordsFault, read_words};
 use std::alloc::Global;
@@ -28,7 +29,8 @@ use std::time::Clock;
 /// - 2 if the arguments are refused.
 ///
 /// Arguments that are accepted name the job that is done. If there is no memory to read them, only that is printed.
-/// `alarm` is a second standard error, for what is reported at once while the threads of a run work.
+/// `alarm` and `display_alarm` are further standard errors, for what is reported at once while the threads of a run work:
+/// of its record, and of its tables for displays.
 pub fn program<
     R: Threads + Wait + Clock + Files<File = File> + Sync,
     I: Read + Drop,
@@ -42,17 +44,17 @@ pub fn program<
     input: I,
     out: O,
     alarm: A,
+    display_alarm: A,
     err: &mut StandardError<E>,
 ) -> Ran<O>
     ensures status { result.status ≤ 2 }
-    ensures taken { takes station (map (λ w. w.now) words.now) ≡ true → result.status ≤ 1 }
-    ensures done { takes station (map (λ w. w.now) words.now) ≡ true →
-        IsAnswered (map (λ w. w.now) words.now) (I.remaining input) (O.Write.contents out)
+    ensures taken { (app : App) × IsStation app × (takes app (map (λ w. w.now) words.now) ≡ true → (result.status ≤ 1)
+        × IsAnswered app (map (λ w. w.now) words.now) (I.remaining input) (O.Write.contents out)
         (option_map (λ left. O.Write.contents left) result.out) (A.Write.contents alarm)
-        (told_of E.contents err.old) (told_of E.contents err.new) result.status }
+        (told_of E.contents err.old) (told_of E.contents err.new) result.status) }
 {
     match read_words(alloc, words) {
-        Ok(job) => do_job(rt, alloc, job, input, out, alarm, err),
+        Ok(job) => do_job(rt, alloc, job, input, out, alarm, display_alarm, err),
         Err(WordsFault::NoMemory) => without_output(err, Fault::NoMemory),
         Err(WordsFault::Clap(error)) => write_answer(&error, out, err),
     }
@@ -65,7 +67,16 @@ fn do_job<
     O: Write + Send + Drop,
     A: Write + Send + Drop,
     E: Write,
->(rt: &R, alloc: Global, job: Job, input: I, out: O, alarm: A, err: &mut StandardError<E>) -> Ran<O>
+>(
+    rt: &R,
+    alloc: Global,
+    job: Job,
+    input: I,
+    out: O,
+    alarm: A,
+    display_alarm: A,
+    err: &mut StandardError<E>,
+) -> Ran<O>
     requires { IsInRange job }
     ensures most { result.status ≤ 1 }
     ensures done { IsDone job (I.remaining input) (O.Write.contents out)
@@ -73,20 +84,29 @@ fn do_job<
         (told_of E.contents err.old) (told_of E.contents err.new) result.status }
 {
     match job {
-        Job::Replay => replay_input(rt, alloc, input, out, err),
+        Job::Replay { format } => replay_input(rt, alloc, format.since(0), input, out, err),
         Job::Run {
             pace,
             rounds,
             paths,
             record,
+            format,
+            displays,
         } => {
-            let asked = Asked {
+            let origin = milliseconds_since_1970(rt);
+            let tables = Tables {
                 pace,
+                format: format.since(origin),
+            };
+            let asked = Asked {
+                tables,
                 rounds,
+                origin,
                 record: &record,
+                displays: &displays,
                 paths: &paths,
             };
-            run_paths(rt, alloc, asked, out, alarm, err)
+            run_paths(rt, alloc, asked, out, alarm, display_alarm, err)
         }
     }
 }

@@ -12,17 +12,18 @@ use crate::faults::{Fault, tell_after, write_tally};
 use crate::limits::{AIRCRAFT, LIMITS, TURNS};
 use crate::output::{Ran, Written, give_up, unbuffered, without_output};
 use crate::standard_error::StandardError;
-use station_report::ToWrite;
-use station_shared::{Desk, FromRead, ReplayFault, Tally, replay};
+use station_report::{Format, ToWrite};
+use station_shared::{Desk, FromRead, ReplayFault, Tally, replay_as};
 use std::alloc::Global;
 use std::io::{BufReader, BufWriter, Read, Write};
 use std::sync::Wait;
 
-/// Reads the lines of the input, and writes the tables that they ask for. Then prints what was counted, and a fault if
+/// Reads the lines of the input, and writes the tables that they ask for in this format. Then prints what was counted, and a fault if
 /// there is one. Answers the output, unless nothing was read.
 pub fn replay_input<R: Wait, I: Read + Drop, O: Write + Drop, E: Write>(
     rt: &R,
     alloc: Global,
+    format: Format,
     input: I,
     out: O,
     err: &mut StandardError<E>,
@@ -30,7 +31,7 @@ pub fn replay_input<R: Wait, I: Read + Drop, O: Write + Drop, E: Write>(
     ensures most { result.status ≤ 1 }
     ensures gone { result.out ≡ None →
         EndsEarly (told_of E.contents err.old) (told_of E.contents err.new) result.status }
-    ensures ended { IfSome result.out (λ left. EndsReplay program_limits
+    ensures ended { IfSome result.out (λ left. EndsReplay format program_limits
         (I.remaining input) (O.Write.contents out) (O.Write.contents left)
         (told_of E.contents err.old) (told_of E.contents err.new) result.status) }
 {
@@ -42,7 +43,7 @@ pub fn replay_input<R: Wait, I: Read + Drop, O: Write + Drop, E: Write>(
     };
     let mut from = FromRead::new(input);
     let mut to = ToWrite::new(output);
-    let answer = replay(rt, &mut desk, &mut from, &mut to, TURNS);
+    let answer = replay_as(rt, &mut desk, &mut from, &mut to, format, TURNS);
     desk.end(rt);
     let Written { out, has_failed } = take_out(to.into_inner(), &answer);
     Ran {

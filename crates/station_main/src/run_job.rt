@@ -4,7 +4,7 @@ ghost use Rattle.station_journal.specs.Resume.{IsSound};
 ghost use Rattle.station_desk.specs.History.{base_of};
 ghost use Rattle.station_main.specs.Limits.{program_limits};
 ghost use Rattle.station_main.specs.Output.{buffered_of};
-ghost use Rattle.station_main.specs.Rounds.{EndsRound, IsLast, Runs, RunsAsked, given_of, nothing};
+ghost use Rattle.station_main.specs.Rounds.{EndsRound, IsLast, Runs, RunsAsked, RunsForDisplays, given_of, nothing};
 ghost use Rattle.station_main.specs.Run.{IsEarly};
 ghost use Rattle.station_main.specs.Telling.{told_of};
 
@@ -13,9 +13,11 @@ use crate::kept::Kept;
 use crate::limits::{AIRCRAFT, TABLE_ROOM};
 use crate::output::{Ran, without_output};
 use crate::record_file::record_to;
-use crate::recorder::{Recorder, status_of};
+use crate::beside::Beside;
+use crate::displays::{self, Displays};
+use crate::recorder;
 use crate::round::{Plan, Round, run_last, run_round};
-use crate::schedule::Pace;
+use crate::schedule::Tables;
 use crate::standard_error::StandardError;
 use crate::threads::{Input, Output};
 use station_report::{Sink, ToWrite};
@@ -33,53 +35,110 @@ use std::time::{Clock, Instant};
 /// The options of a run.
 #[derive(Clone, Copy)]
 pub struct Asked<'a> {
-    /// When tables and ticks are due.
-    pub pace: Pace,
+    /// When tables are due, and how they are written.
+    pub tables: Tables,
     /// 1 to 1,000.
     pub rounds: u16,
+    /// When the clock of the tables begins, in milliseconds since 1970.
+    pub origin: u64,
     /// The file that the run is recorded to, if one is given.
     pub record: &'a Option<String>,
+    /// The folder in which displays find the tables, if one is given.
+    pub displays: &'a Option<String>,
     /// 1 to 8 files or pipes.
     pub paths: &'a Vec<String>,
 }
 
-/// Runs the rounds, and records what is printed if that is asked. Each round
+/// Runs the rounds, records what is printed if that is asked, and puts each table where displays find it if that is asked.
+/// Each round
 ///
 /// - reads each path by a receiver of its own;
 /// - prints the table of them all at the pace that is asked for, and once when all have ended;
 /// - prints what each receiver counted, with its fault directly after it, and at last a failed write.
 ///
 /// Each round goes on from the last 70,000 ms of the one before. A fault ends the run after its round. A failed write of
-/// the record ends the record alone: it is reported to `alarm` at once, and the status is 1. Answers the output, unless
-/// nothing was read in the last round.
+/// the record ends the record alone: it is reported to `alarm` at once, and the status is 1. The first failed write for
+/// displays is reported to `display_alarm` at once, and the status is 1. Answers the output, unless nothing was read in
+/// the last round.
 pub fn run_paths<
     R: Threads + Wait + Clock + Files<File = File> + Sync,
     O: Write + Send + Drop,
     A: Write + Send + Drop,
     E: Write,
->(rt: &R, alloc: Global, asked: Asked<'_>, out: O, alarm: A, err: &mut StandardError<E>) -> Ran<O>
+>(
+    rt: &R,
+    alloc: Global,
+    asked: Asked<'_>,
+    out: O,
+    alarm: A,
+    display_alarm: A,
+    err: &mut StandardError<E>,
+) -> Ran<O>
+    requires rounds { 1 ≤ asked.rounds }
+    requires paths { length asked.paths.now.items ≤ 8 }
+    ensures most { result.status ≤ 1 }
+    ensures runs { RunsForDisplays (is_some asked.entry.displays.now) (RunsAsked (is_some asked.entry.record.now)
+        (record { tables = asked.entry.tables; inputs = length asked.entry.paths.now.items })
+        (asked.entry.rounds - 1) (O.contents out) (option_map (λ left. O.contents left) result.out) (A.contents alarm)
+        (told_of E.contents err.old) (told_of E.contents err.new)) result.status }
+{
+    let Some(folder) = asked.displays else {
+        return run_shown(rt, alloc, asked, out, alarm, &mut None, err);
+    };
+    let every = asked.tables.pace.every;
+    let reports = StandardError::new(display_alarm);
+    let begun = Displays::begin(rt, alloc, folder.as_str(), every, asked.origin, reports);
+    let Ok(displays) = begun else {
+        return without_output(err, Fault::NoMemory);
+    };
+    let mut displays = Some(displays);
+    let Ran { status, out } = run_shown(rt, alloc, asked, out, alarm, &mut displays, err);
+    Ran {
+        status: status.max(displays::status_of(&displays)),
+        out,
+    }
+}
+
+// Runs the rounds, with or without a record, and with or without displays.
+fn run_shown<
+    R: Threads + Wait + Clock + Files<File = File> + Sync,
+    O: Write + Send + Drop,
+    A: Write + Send + Drop,
+    E: Write,
+>(
+    rt: &R,
+    alloc: Global,
+    asked: Asked<'_>,
+    out: O,
+    alarm: A,
+    displays: &mut Option<Displays<A>>,
+    err: &mut StandardError<E>,
+) -> Ran<O>
     requires rounds { 1 ≤ asked.rounds }
     requires paths { length asked.paths.now.items ≤ 8 }
     ensures most { result.status ≤ 1 }
     ensures runs { RunsAsked (is_some asked.entry.record.now)
-        (record { pace = asked.entry.pace; inputs = length asked.entry.paths.now.items })
+        (record { tables = asked.entry.tables; inputs = length asked.entry.paths.now.items })
         (asked.entry.rounds - 1) (O.contents out) (option_map (λ left. O.contents left) result.out) (A.contents alarm)
         (told_of E.contents err.old) (told_of E.contents err.new) result.status }
 {
+    let mut beside: Beside<Output<File>, A> = Beside {
+        record: None,
+        displays: displays.take(),
+    };
     let Some(path) = asked.record else {
-        let mut none: Option<Recorder<Output<File>, A>> = None;
-        return run_rounds(rt, alloc, asked, out, &mut none, err);
+        let ran = run_rounds(rt, alloc, asked, out, &mut beside, err);
+        *displays = beside.displays;
+        return ran;
     };
-    let recorder = match record_to(rt, alloc, path.as_str(), StandardError::new(alarm)) {
-        Ok(recorder) => recorder,
+    match record_to(rt, alloc, path.as_str(), StandardError::new(alarm)) {
+        Ok(recorder) => beside.record = Some(recorder),
         Err(fault) => return without_output(err, fault),
-    };
-    let mut recorder = Some(recorder);
-    let Ran { status, out } = run_rounds(rt, alloc, asked, out, &mut recorder, err);
-    Ran {
-        status: status.max(status_of(&recorder)),
-        out,
     }
+    let Ran { status, out } = run_rounds(rt, alloc, asked, out, &mut beside, err);
+    let status = status.max(recorder::status_of(&beside.record));
+    *displays = beside.displays;
+    Ran { status, out }
 }
 
 // Runs the rounds, with or without a record.
@@ -94,15 +153,15 @@ fn run_rounds<
     alloc: Global,
     asked: Asked<'_>,
     out: O,
-    recorder: &mut Option<Recorder<T, A>>,
+    beside: &mut Beside<T, A>,
     err: &mut StandardError<E>,
 ) -> Ran<O>
     requires rounds { 1 ≤ asked.rounds }
     requires paths { length asked.paths.now.items ≤ 8 }
     ensures most { result.status ≤ 1 }
-    ensures runs { Runs (record { pace = asked.entry.pace; inputs = length asked.entry.paths.now.items })
+    ensures runs { Runs (record { tables = asked.entry.tables; inputs = length asked.entry.paths.now.items })
         (asked.entry.rounds - 1) nothing (O.contents out) (option_map (λ left. O.contents left) result.out)
-        recorder.old recorder.new
+        beside.old.record beside.new.record
         (told_of E.contents err.old) (told_of E.contents err.new) result.status }
 {
     let start = Instant::now(rt).ok();
@@ -110,7 +169,7 @@ fn run_rounds<
     let mut out = out;
     let mut more = asked.rounds - 1;
     while more > 0 {
-        match one_round(rt, alloc, asked, start, kept, out, recorder, err) {
+        match one_round(rt, alloc, asked, start, kept, out, beside, err) {
             Round::Over(ran) => return ran,
             Round::GoesOn {
                 out: left,
@@ -122,7 +181,7 @@ fn run_rounds<
         }
         more -= 1;
     }
-    last_round(rt, alloc, asked, start, kept, out, recorder, err)
+    last_round(rt, alloc, asked, start, kept, out, beside, err)
 }
 
 // Runs a round that is not the last.
@@ -139,20 +198,20 @@ fn one_round<
     start: Option<Instant>,
     kept: Kept,
     out: O,
-    recorder: &mut Option<Recorder<T, A>>,
+    beside: &mut Beside<T, A>,
     err: &mut StandardError<E>,
 ) -> Round<O>
     requires few { length asked.paths.now.items ≤ 8 }
     requires sound { IsSound program_limits kept.recent.base (reverse kept.recent.entries.items) }
-    ensures { EndsRound O.contents (record { pace = asked.entry.pace; inputs = length asked.entry.paths.now.items })
+    ensures { EndsRound O.contents (record { tables = asked.entry.tables; inputs = length asked.entry.paths.now.items })
         (given_of kept) (O.contents out)
-        recorder.old recorder.new
+        beside.old.record beside.new.record
         (told_of E.contents err.old) (told_of E.contents err.new) result }
 {
     match prepare(rt, alloc, asked, start, kept, out) {
         Ok((plan, places)) => {
             let blank = Blank::new(plan.inputs.len() as u64 + 1);
-            run_round::<Brand, _, _, _, _, _>(rt, alloc, plan, blank, places, recorder, err)
+            run_round::<Brand, _, _, _, _, _>(rt, alloc, plan, blank, places, beside, err)
         }
         Err(fault) => Round::Over(without_output(err, fault)),
     }
@@ -172,21 +231,21 @@ fn last_round<
     start: Option<Instant>,
     kept: Kept,
     out: O,
-    recorder: &mut Option<Recorder<T, A>>,
+    beside: &mut Beside<T, A>,
     err: &mut StandardError<E>,
 ) -> Ran<O>
     requires few { length asked.paths.now.items ≤ 8 }
     requires sound { IsSound program_limits kept.recent.base (reverse kept.recent.entries.items) }
     ensures most { result.status ≤ 1 }
-    ensures last { IsLast (record { pace = asked.entry.pace; inputs = length asked.entry.paths.now.items })
+    ensures last { IsLast (record { tables = asked.entry.tables; inputs = length asked.entry.paths.now.items })
         (given_of kept) (O.contents out) (option_map (λ left. O.contents left) result.out)
-        recorder.old recorder.new
+        beside.old.record beside.new.record
         (told_of E.contents err.old) (told_of E.contents err.new) result.status }
 {
     match prepare(rt, alloc, asked, start, kept, out) {
         Ok((plan, places)) => {
             let blank = Blank::new(plan.inputs.len() as u64 + 1);
-            run_last::<Brand, _, _, _, _, _>(rt, alloc, plan, blank, places, recorder, err)
+            run_last::<Brand, _, _, _, _, _>(rt, alloc, plan, blank, places, beside, err)
         }
         Err(fault) => without_output(err, fault),
     }
@@ -204,7 +263,7 @@ fn prepare<'a, R: Wait + Files<File = File>, O: Write + Drop>(
 ) -> Result<(Plan<O>, Places<AIRCRAFT>), Fault<'a>>
     requires { length asked.paths.now.items ≤ 8 }
     ensures early { IfErr result IsEarly }
-    ensures pace { IfOk result (λ made. made.0.pace ≡ asked.entry.pace) }
+    ensures tables { IfOk result (λ made. made.0.tables ≡ asked.entry.tables) }
     ensures kept { IfOk result (λ made. made.0.kept ≡ kept) }
     ensures inputs { IfOk result (λ made. length made.0.inputs.items ≡ length asked.entry.paths.now.items) }
     ensures out { IfOk result (λ made. buffered_of O.contents made.0.out
@@ -221,7 +280,7 @@ fn prepare<'a, R: Wait + Files<File = File>, O: Write + Drop>(
     };
     let plan = Plan {
         start,
-        pace: asked.pace,
+        tables: asked.tables,
         kept,
         inputs,
         out: ToWrite::new(buffered),

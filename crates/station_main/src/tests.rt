@@ -1,4 +1,6 @@
 //! The program over words and streams of these tests.
+mod displays;
+mod formats;
 mod outputs;
 mod records;
 mod replies;
@@ -47,6 +49,7 @@ struct Ran {
 struct Told {
     status: u8,
     alarm: Vec<u8>,
+    display_alarm: Vec<u8>,
     err: Vec<u8>,
 }
 
@@ -66,7 +69,17 @@ fn status_of<
     E: Write + Drop,
 >(rt: &R, alloc: Global, words: &[&str], input: I, out: O, err: E) -> u8 {
     let mut err = StandardError::new(err);
-    program(rt, alloc, words, input, out, Vec::new(alloc), &mut err).status
+    program(
+        rt,
+        alloc,
+        words,
+        input,
+        out,
+        Vec::new(alloc),
+        Vec::new(alloc),
+        &mut err,
+    )
+    .status
 }
 
 fn run_words<
@@ -109,7 +122,8 @@ fn run_line<R: Threads + Wait + Clock + Files<File = File> + Sync, O: Write + Se
     out: O,
 ) -> Result<Told, AllocError> {
     let words = words_of(alloc, line, paths)?;
-    let (mut alarm, mut err) = (Vec::new(alloc), Vec::new(alloc));
+    let (mut alarm, mut display_alarm) = (Vec::new(alloc), Vec::new(alloc));
+    let mut err = Vec::new(alloc);
     let mut reports = StandardError::new(&mut err);
     let ran = program(
         rt,
@@ -118,10 +132,16 @@ fn run_line<R: Threads + Wait + Clock + Files<File = File> + Sync, O: Write + Se
         NO_LINES,
         out,
         &mut alarm,
+        &mut display_alarm,
         &mut reports,
     );
     let status = ran.status;
-    Ok(Told { status, alarm, err })
+    Ok(Told {
+        status,
+        alarm,
+        display_alarm,
+        err,
+    })
 }
 
 fn text(bytes: &Vec<u8>) -> &str {
@@ -299,6 +319,7 @@ fn a_word_that_is_not_utf8_is_refused(rt: HostRuntime) {
         words,
         NO_LINES,
         &mut out,
+        Vec::new(alloc),
         Vec::new(alloc),
         &mut err,
     );

@@ -1,3 +1,4 @@
+pub mod Format
 pub mod Json
 pub mod Motion
 pub mod Sink

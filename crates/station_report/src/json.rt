@@ -9,14 +9,13 @@ mod members;
 mod numbers;
 
 use crate::columns::decimal_field;
-use crate::placed::PlacedRows;
 use crate::sinks::{Sink, WriteFault, write_all};
 use members::{
     Object, push_altitude, push_flight, push_member, push_place, push_rate, push_squawk, push_text,
     push_velocity,
 };
 use numbers::{low_address_field, seconds_field};
-use station_journal::Aircraft;
+use station_journal::{Aircraft, PlacedRows};
 
 /// Writes the table of `rows` as a line of JSON, with the keys of aircraft.json of readsb and dump1090.
 ///

@@ -1,8 +1,8 @@
 -- What a look shows.
 use Rattle.std.proofs.Common.{◌≡◌, ℕ, List, ap, ◌∙◌, length}
 use Rattle.station_journal.specs.declared.entry.Entry.{Entry}
-use Rattle.station_journal.specs.Log.{clock_of, table_of}
-use Rattle.station_book.specs.State.{BookState, rows}
+use Rattle.station_journal.specs.Log.{clock_of, table_of, placed_of}
+use Rattle.station_book.specs.State.{BookState, rows, placed_rows}
 use Rattle.station_book.specs.Matching.{Matches, Shows}
 use Rattle.station_book.proofs.LawLemmas.{shows_from_match}
 use Rattle.station_desk.specs.History.{base_of}
@@ -15,6 +15,9 @@ module _ (n : ℕ) (start : Start) (book : BookState) (entries : List Entry) (se
 
   pub table_looked : rows book ≡ table_of (log_of start seen.seen)
   table_looked = shows.table ∙ ap (λ (es : List Entry). table_of (log_of start es)) is
+
+  pub placed_looked : placed_rows book ≡ placed_of (log_of start seen.seen)
+  placed_looked = shows.placed ∙ ap (λ (es : List Entry). placed_of (log_of start es)) is
 
   pub clock_looked : book.moment ≡ clock_of (log_of start seen.seen)
   clock_looked = shows.moment ∙ ap (λ (es : List Entry). clock_of (log_of start es)) is

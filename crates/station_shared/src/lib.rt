@@ -20,7 +20,9 @@ pub use receipt::Receipt;
 pub use seat::Seat;
 pub use seat_feed::{SeatFeed, pump_seat};
 pub use station::Station;
-pub use station_desk::{Desk, DeskFeed, Places, ReplayFault, pump_desk, replay};
+pub use station_desk::{
+    Desk, DeskFeed, Format, Places, ReplayFault, pump_desk, replay, replay_as,
+};
 pub use station_lines::{
     Command, CommandFault, Feed, FromBuffer, FromRead, PIECE, PumpFault, Source, Tally, pump,
     read_command,

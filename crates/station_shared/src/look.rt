@@ -14,7 +14,7 @@ use crate::standing::Standing;
 use crate::station_name::StationName;
 use crossbeam_utils::rule::Protocol;
 use station_desk::{Front, LookingPlace, Mark, PublishRule, PublishedTable, ReaderPlace, Sees};
-use station_journal::{Aircraft, Rows};
+use station_journal::{Aircraft, PlacedRows, Rows};
 use std::marker::Model;
 
 /// A seat that looks. The table stays as it is until [`Look::done`] ends the look.
@@ -152,6 +152,17 @@ impl<const N: usize, L: StationName> Rows for Look<N, L> {
 
     fn row(&self, i: usize) -> Aircraft {
         Rows::row(&self.looking.get().book, i)
+    }
+}
+
+impl<const N: usize, L: StationName> PlacedRows for Look<N, L> {
+    ghost use Rattle.station_journal.specs.Log.{placed_of};
+    ghost use Rattle.station_desk.specs.Start.{log_of};
+
+    ghost moments = { λ look. placed_of (log_of L.start look.seen) };
+
+    fn placed(&self, i: usize) -> Option<u64> {
+        PlacedRows::placed(&self.looking.get().book, i)
     }
 }
 

@@ -2,7 +2,7 @@
 
 ghost use Rattle.std.specs.Prelude.{◌≡◌, ◌<◌, ℕ, List, Option, length, slice_get, Some};
 
-use station_journal::Rows;
+use crate::Rows;
 
 /// The rows of a table, each with the time of the frame that gave its position, in milliseconds.
 pub trait PlacedRows: Rows {
