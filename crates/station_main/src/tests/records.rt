@@ -44,11 +44,12 @@ fn shown_again<R: Threads + Wait + Clock + Files<File = File> + Sync + AllocGlob
     Ok((lines, shown.out))
 }
 
-// The frames of the two files are accepted in either order.
+// The frames of the two files are accepted in either order. The record's file is there before, and empty.
 #[test]
 fn a_record_of_two_files_is_shown_again(rt: HostRuntime) -> Result<(), Fail> {
     let files = two_files(&rt, IDENTIFICATION, VELOCITY)?;
     let record = record_path(rt.alloc(), &files, "record")?;
+    fs::write(&rt, record.as_str(), "")?;
     let mut out = Vec::new(rt.alloc());
     let told = run_recorded(&rt, &files, "--every=3600000", record.as_str(), &mut out)?;
     let (lines, shown) = shown_again(&rt, record.as_str())?;
