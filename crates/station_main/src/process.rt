@@ -1,50 +1,19 @@
-//! The program `groundstation`.
-#![tactic(auto)]
+//! The program over the arguments of its process.
 
-mod bell;
-mod commands;
-mod faults;
-mod kept;
-mod laws;
-mod limits;
-mod output;
-mod program;
-mod record_file;
-mod recorder;
-mod replay_job;
-mod reporter;
-mod round;
-mod run_job;
-mod schedule;
-mod standard_error;
-mod tallies;
-#[cfg(test)]
-mod tests;
-mod threads;
-mod words;
-
-use faults::{Fault, tell};
-use program::program;
-use standard_error::StandardError;
+use crate::command_line::program;
+use crate::faults::{Fault, tell};
+use crate::standard_error::StandardError;
 use std::alloc::{AllocError, Global};
 use std::env;
 use std::fs::File;
 use std::io::{ErrorKind, Read, Write};
-use std::process::ExitCode;
 use std::rt::{Env, Files};
 use std::sync::Wait;
 use std::thread::Threads;
 use std::time::Clock;
 
-fn main(rt: HostRuntime) -> ExitCode {
-    let owned = own_words(&rt);
-    let (input, out) = (rt.stdin(), rt.stdout());
-    let status = answer(&rt, rt.alloc(), owned, input, out, rt.stderr(), rt.stderr());
-    ExitCode::from(status)
-}
-
-// Runs the program on its arguments, or says why they couldn't be read. Answers the exit status.
-fn answer<
+/// Runs the program on its arguments, or says why they couldn't be read. Answers the exit status.
+pub fn answer<
     R: Threads + Wait + Clock + Files<File = File> + Sync,
     I: Read + Drop,
     O: Write + Send + Drop,
@@ -76,7 +45,8 @@ fn not_text<E: Write>(err: &mut StandardError<E>) -> u8 {
     2
 }
 
-fn own_words(rt: &(impl Env + AllocGlobal)) -> Result<Vec<String>, ErrorKind> {
+/// The arguments of the process, the program's name first, or why they can't be had: out of memory, or one isn't UTF-8.
+pub fn own_words(rt: &(impl Env + AllocGlobal)) -> Result<Vec<String>, ErrorKind> {
     let words = match env::args(rt) {
         Ok(words) => words,
         Err(error) => return Err(error.kind()),

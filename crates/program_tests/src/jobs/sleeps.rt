@@ -1,8 +1,7 @@
 //! How long the reporter sleeps, and what it does at a time.
 use super::NO_LINES;
 use super::staged::{Feed, Staged, run_lasting};
-use crate::bell::Bell;
-use crate::schedule::{Act, Due, Pace, act_at};
+use station_main::{Act, Bell, Due, Pace, act_at};
 use std::sync::atomic::AtomicBool;
 use std::test::*;
 use std::time::{Duration, Instant};

@@ -1,7 +1,6 @@
 //! Command lines that are refused, or that ask for help.
 use super::{NO_LINES, run_words, text, words_of};
-use crate::schedule::Pace;
-use crate::words::{Job, WordsFault, read_words};
+use station_main::{Job, Pace, WordsFault, read_words};
 use std::alloc::{AllocError, Global};
 
 // The lines that each refusal begins with. All end in the same way.

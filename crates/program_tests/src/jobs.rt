@@ -10,9 +10,7 @@ mod through_time;
 mod ticks;
 mod words;
 
-use crate::program::program;
-use crate::standard_error::StandardError;
-use crate::{answer, own_words};
+use station_main::{StandardError, answer, own_words, program};
 use std::alloc::{AllocError, Global};
 use std::env::{Env, FillError};
 use std::fs::File;

@@ -1,0 +1,5 @@
+//! Tests of station_main by its public calls.
+#![tactic(auto)]
+
+#[cfg(test)]
+mod jobs;
