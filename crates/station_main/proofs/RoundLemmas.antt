@@ -1,5 +1,5 @@
 -- Rounds of the job `run`, one after another.
-use Rattle.std.proofs.Common.{◌≡◌, ◌∙◌, inl, inr, ℕ, zero, suc, ◌+◌, ◌<◌, ◌≤◌, Bool, List, [], ◌∷◌, ◌++◌, Option, Result, length, length-append, refl, sym, ap, subst, take, reverse, arith}
+use Rattle.std.proofs.Common.{◌≡◌, ◌∙◌, inl, inr, ℕ, zero, suc, ◌+◌, ◌-◌, ◌<◌, ◌≤◌, Bool, List, [], ◌∷◌, ◌++◌, Option, Result, length, length-append, refl, sym, ap, subst, take, reverse, arith}
 use Rattle.std.specs.Prelude.{fold, map, max}
 use Rattle.std.specs.List.{flat_map}
 use Rattle.std.proofs.lemmas.List.{length-map, length-reverse, length-take-le}
@@ -12,8 +12,8 @@ use Rattle.station_journal.proofs.SoundLemmas.{sound_by_fits}
 use Rattle.station_journal.proofs.StandsLemmas.{length_sound, recent_stands, sound_from_legal}
 use Rattle.station_desk.specs.History.{base_of}
 use Rattle.station_desk.specs.Start.{Start}
-use Rattle.station_shared.specs.Seats.{Seated, newcomer, newcomers}
-use Rattle.station_shared.proofs.NewcomerLemmas.{newcomers_more}
+use Rattle.station_shared.specs.Seats.{Seated, new_seats, newcomer, newcomers}
+use Rattle.station_shared.proofs.NewcomerLemmas.{one_place}
 use Rattle.station_lines.specs.declared.pumping.PumpFault.{PumpFault}
 use Rattle.station_lines.specs.declared.tally.Tally.{Tally}
 use Rattle.station_desk.proofs.StartLemmas.{sound_at, sound_front}
@@ -62,13 +62,18 @@ snoc_front (a ∷ xs) (b ∷ ys) x y e = let rest = snoc_front xs ys x y (cc (e)
 
 -- ---- the seats of a station: the last is the reporter's, those before it are the receivers'
 
-pub reporter_seat : (entries : List Entry) (count inputs : ℕ) (seats others : List Seated) (last : Seated) → seats ≡ others ++ last ∷ [] → seats ≡ newcomers entries (count + 1) → count ≡ inputs → last ≡ newcomer entries inputs
-reporter_seat entries count inputs seats others last split made many =
-    snoc_end others (newcomers entries count) last (newcomer entries count) (sym split ∙ made ∙ sym (newcomers_more entries count)) ∙ ap (λ n. newcomer entries n) many
+pub seats_made : (entries : List Entry) (count places : ℕ) (seats : List Seated) → places ≡ 1 → seats ≡ new_seats entries (count + 1 - places) (count + 1) → seats ≡ newcomers entries count ++ newcomer entries count ∷ []
+seats_made entries count places seats one made =
+    let blind : count + 1 - places ≡ count = omega arith in
+    made ∙ ap (λ (b : ℕ). new_seats entries b (count + 1)) blind ∙ one_place entries count
 
-pub receiver_seats : (entries : List Entry) (count inputs : ℕ) (seats others : List Seated) (last : Seated) → seats ≡ others ++ last ∷ [] → seats ≡ newcomers entries (count + 1) → count ≡ inputs → others ≡ newcomers entries inputs
+pub reporter_seat : (entries : List Entry) (count inputs : ℕ) (seats others : List Seated) (last : Seated) → seats ≡ others ++ last ∷ [] → seats ≡ newcomers entries count ++ newcomer entries count ∷ [] → count ≡ inputs → last ≡ newcomer entries inputs
+reporter_seat entries count inputs seats others last split made many =
+    snoc_end others (newcomers entries count) last (newcomer entries count) (sym split ∙ made) ∙ ap (λ n. newcomer entries n) many
+
+pub receiver_seats : (entries : List Entry) (count inputs : ℕ) (seats others : List Seated) (last : Seated) → seats ≡ others ++ last ∷ [] → seats ≡ newcomers entries count ++ newcomer entries count ∷ [] → count ≡ inputs → others ≡ newcomers entries inputs
 receiver_seats entries count inputs seats others last split made many =
-    snoc_front others (newcomers entries count) last (newcomer entries count) (sym split ∙ made ∙ sym (newcomers_more entries count)) ∙ ap (λ n. newcomers entries n) many
+    snoc_front others (newcomers entries count) last (newcomer entries count) (sym split ∙ made) ∙ ap (λ n. newcomers entries n) many
 
 -- ---- rounds
 

@@ -1,13 +1,13 @@
 -- What the job `run` leaves.
 use Rattle.std.proofs.Common.{rules, ◌≡◌, ◌∙◌, ◌⊎◌, inl, inr, ℕ, Bool, true, false, List, [], ◌∷◌, ◌++◌, Option, Some, None, Result, Ok, Err, zero, suc, length-append, refl, sym, ap, subst, append-nil, take, drop, length, arith}
-use Rattle.std.specs.Prelude.{is_err, fold, map, max}
+use Rattle.std.specs.Prelude.{is_err, fold, map, max, nat_lt, not}
 use Rattle.std.specs.Io.KnownBytes.{Keeps, append_known}
 use Rattle.std.proofs.Math.Seq.{take-append_seam}
 use Rattle.std.proofs.lemmas.List.Folds.{fold-map}
 use Rattle.station_journal.specs.declared.entry.Entry.{Entry}
 use Rattle.station_report.specs.declared.sinks.WriteFault.{WriteFault}
 use Rattle.station_desk.specs.Start.{Start}
-use Rattle.station_shared.specs.Seats.{Seated, Looks, newcomer, newcomers}
+use Rattle.station_shared.specs.Seats.{Seated, Looks, new_seat, new_seats}
 use Rattle.station_main.specs.Status.{answer_status, fault_status}
 use Rattle.station_main.specs.Output.{Printed}
 use Rattle.station_main.specs.Recorded.{IfRecording, Recording, Records, seen_by}
@@ -81,9 +81,9 @@ pub well_told : (result : Result (Unit {0}) WriteFault) (done : Unit {0}) (has_f
 well_told (Ok d) done has_failed e failed = absurd (search rules)
 well_told (Err fault) done has_failed e failed = absurd (search rules)
 
-pub length_newcomers : (entries : List Entry) (n : ℕ) → length (newcomers entries n) ≡ n
-length_newcomers entries zero = refl
-length_newcomers entries (suc n) = omega (arith, length-append (newcomers entries n) (newcomer entries n ∷ []), length_newcomers entries n)
+pub length_new_seats : (entries : List Entry) (blind n : ℕ) → length (new_seats entries blind n) ≡ n
+length_new_seats entries blind zero = refl
+length_new_seats entries blind (suc n) = omega (arith, length-append (new_seats entries blind n) (new_seat entries (not (nat_lt n blind)) n ∷ []), length_new_seats entries blind n)
 
 -- the worst of the answers, printed one after another
 pub statuses : {W T E : Type 0} (answer : W → Option (Result T E)) (ws : List W) (status : ℕ) (has_failed : Bool) → status ≡ max (fold (λ worst w. max worst (answer_status (answer w))) 0 ws) (fault_status has_failed)

@@ -72,7 +72,7 @@ loop-left-preserved g c =
       within = omega (arith, inv.within);
       room = omega (arith, inv.within, inv.room, read.some, read.few, c.in-Ok-take_piece.ensures.counted, c.as_slice.ensures.few);
       so_far = GivenSoFar-piece g.T.LineTaker.took g.met.T.LineTaker.then old mid new _ _ _ _ inv.so_far _ c.in-Ok.read.reads (c.args.turns - (left - c.in-Ok.read.reads)) _ _ (subst (Gives mid.bytes new.bytes) (sym c.as_slice.ensures.value) read.given)
-    (subst (λ bs. length bs ≤ longest_read * c.in-Ok.read.reads) (sym c.as_slice.ensures.value) read.asked) (omega (arith, inv.within, read.few)) (c.in-Ok-take_piece.ensures.taken inv.so_far.given inv.so_far.taken.all_taken.1);
+          (subst (λ bs. length bs ≤ longest_read * c.in-Ok.read.reads) (sym c.as_slice.ensures.value) read.asked) (omega (arith, inv.within, read.few)) (c.in-Ok-take_piece.ensures.taken inv.so_far.given inv.so_far.taken.all_taken.1);
       reads = reads_left c.args.turns left c.in-Ok.read.reads old.reads mid.reads new.reads inv.within read.few inv.reads read.reads;
       ends = read.ends ∙ ap (λ b. counted (not b) mid.ends) c.if-read.false ∙ inv.ends;
       failures = read.failures ∙ inv.failures;
