@@ -10,12 +10,12 @@ mod through_time;
 mod ticks;
 mod words;
 
-use station_main::{StandardError, answer, own_words, program};
+use station_main::{StandardError, exit_code, obey, own_words};
 use std::alloc::{AllocError, Global};
 use std::env::{Env, FillError};
 use std::fs::File;
 use std::io::{self, Read, Write};
-use std::process::Abort;
+use std::process::{Abort, ExitCode};
 use std::rt::Files;
 use std::sync::Wait;
 use std::thread::Threads;
@@ -64,7 +64,7 @@ fn status_of<
     E: Write + Drop,
 >(rt: &R, alloc: Global, words: &[&str], input: I, out: O, err: E) -> u8 {
     let mut err = StandardError::new(err);
-    program(rt, alloc, words, input, out, Vec::new(alloc), &mut err).status
+    obey(rt, alloc, words, input, out, Vec::new(alloc), &mut err).status
 }
 
 fn run_words<
@@ -109,7 +109,7 @@ fn run_line<R: Threads + Wait + Clock + Files<File = File> + Sync, O: Write + Se
     let words = words_of(alloc, line, paths)?;
     let (mut alarm, mut err) = (Vec::new(alloc), Vec::new(alloc));
     let mut reports = StandardError::new(&mut err);
-    let ran = program(
+    let ran = obey(
         rt,
         alloc,
         words.as_slice(),
@@ -291,7 +291,7 @@ fn a_word_that_is_not_utf8_is_refused(rt: HostRuntime) {
     let words = own_words(&(NotText, rt.alloc()));
     let alloc = rt.alloc();
     let (mut out, mut err) = (Vec::new(alloc), Vec::new(alloc));
-    let status = answer(
+    let code = exit_code(
         &rt,
         alloc,
         words,
@@ -300,7 +300,7 @@ fn a_word_that_is_not_utf8_is_refused(rt: HostRuntime) {
         Vec::new(alloc),
         &mut err,
     );
-    assert!(rt; status == 2 && out.is_empty());
+    assert!(rt; code == ExitCode::from(2) && out.is_empty());
     assert_eq!(rt;
         text(&err),
         "error: a word of the command line is not UTF-8\n"

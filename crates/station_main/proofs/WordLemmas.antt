@@ -1,5 +1,5 @@
 -- From what `clap` ensures of its getters to the job.
-use Rattle.std.proofs.Common.{inl, inr, ◌≡◌, ◌∙◌, ℕ, ◌≤◌, ◌<◌, ◌^◌, List, Option, Some, None, IfSome, Result, Ok, Err, true, arith, map, option_map, refl, sym, ap, ap₂, length, codes}
+use Rattle.std.proofs.Common.{inl, inr, ◌⊎◌, ◌≡◌, ◌∙◌, ℕ, ◌≤◌, ◌<◌, ◌^◌, List, Option, Some, None, IfSome, Result, Ok, Err, true, arith, map, option_map, refl, sym, ap, ap₂, length, codes}
 use Rattle.std.specs.Prelude.{unwrap_or}
 use Rattle.std.specs.Box.{box_value}
 use Rattle.clap.specs.declared.parser.matches.ArgMatches.{ArgMatches}
@@ -83,3 +83,8 @@ pub names_replay : (words : List Text) (name : Text) → option_map {T = Text ×
     → option_map {T = Text × List Row} (λ p. p.0) (subcommand_of station words) ≡ Some (codes "replay")
 names_replay words name said (inl replay_is) other = said ∙ ap Some replay_is
 names_replay words name said (inr run_is) other = absurd (other run_is)
+
+-- an error that is out of memory gives the fault for that
+pub only_memory : {P Q R : Type 0} → (P × Q) ⊎ ((P → ⊥) × R) → P → Q
+only_memory (inl memory) p = memory.1
+only_memory (inr other) p = absurd (other.0 p)

@@ -2,7 +2,7 @@
 use Rattle.std.specs.Prelude.{◌≡◌, ◌≤◌, ℕ, List, [], ◌∷◌, Option, IfSome, Some, codes, true, false, pos, map, length, option_map, ⊤}
 use Rattle.std.specs.String.{string_bytes}
 use Rattle.std.specs.Str.Parse.{IsNumeral, digits_value, without_leading_plus}
-use Rattle.clap.specs.Words.{App, Row, Rule, Text, all_of, first_of, new_app, new_rule, one_of, subcommand_of}
+use Rattle.clap.specs.Words.{App, IsAmong, Row, Rule, Text, all_of, fault_of, first_of, kind_of, new_app, new_rule, one_of, subcommand_of}
 use Rattle.clap.specs.Words.{app_of, rule_of, with_rule, with_subcommand}
 use Rattle.clap.specs.declared.builder.arg.Arg.{Arg}
 use Rattle.clap.specs.declared.builder.command.Command.{Command}
@@ -11,6 +11,8 @@ use Rattle.clap.specs.declared.builder.action.ArgAction.TheVariants.{Set}
 use Rattle.clap.specs.declared.builder.value_parser.ValueParser.TheVariants.{Signed}
 use Rattle.station_main.specs.declared.words.Job.{Job}
 use Rattle.station_main.specs.declared.words.Job.TheVariants.{Replay, Run}
+use Rattle.station_main.specs.declared.words.WordsFault.{WordsFault}
+use Rattle.station_main.specs.declared.words.WordsFault.TheVariants as words_fault
 use Rattle.station_main.specs.declared.schedule.Pace.{Pace}
 
 -- `--every MS`: required, a whole number of milliseconds from 1 to 3,600,000
@@ -136,6 +138,12 @@ NamesJob words Replay = option_map (λ p. p.0) (subcommand_of station words) ≡
 NamesJob words (Run pace times paths file) =
     (rows : List Row) × (subcommand_of station words ≡ Some (codes "run", rows))
     × GivesRun rows pace times (map string_bytes paths.items) (option_map string_bytes file)
+
+-- why there is no job: out of memory, or `clap` finds a fault of this kind in the command line, or help or the version is asked
+-- for
+abbrev pub IsWordsFault : List Text → WordsFault → Type 0
+IsWordsFault words words_fault.NoMemory = ⊤
+IsWordsFault words (words_fault.Clap error) = IsAmong (kind_of error) (fault_of station words)
 
 -- a table every 1 to 3,600,000 milliseconds, and a tick, if any, every 1 to 60,000
 pub record IsPace (pace : Pace) : Type 0 where

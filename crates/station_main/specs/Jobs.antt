@@ -1,25 +1,28 @@
 -- What a job leaves: its output, what it printed on standard error, and its status.
-use Rattle.std.specs.Prelude.{◌≡◌, ◌⊎◌, ℕ, ◌-◌, List, Option, Some, None, is_some, length}
-use Rattle.clap.specs.Words.{Text}
-use Rattle.station_main.specs.Command.{NamesJob}
+use Rattle.std.specs.Prelude.{◌≡◌, ◌⊎◌, ℕ, ◌-◌, Bool, true, false, List, [], Option, Some, None, map, option_map}
+use Rattle.std.specs.String.{string_bytes}
+use Rattle.clap.specs.Words.{IsAmong, Text, fault_of}
+use Rattle.clap.specs.declared.error.kind.ErrorKind.{ErrorKind}
+use Rattle.clap.specs.declared.error.kind.ErrorKind.TheVariants as kind
+use Rattle.station_report.specs.Sink.{AppendsFront}
+use Rattle.station_main.specs.Command.{NamesJob, station}
 use Rattle.station_main.specs.Limits.{program_limits}
 use Rattle.station_main.specs.Replay.{EndsReplay}
 use Rattle.station_main.specs.Rounds.{RunsAsked}
-use Rattle.station_main.specs.Run.{EndsEarly}
-use Rattle.station_main.specs.Telling.{Tells, Told, fault_line}
-use Rattle.station_main.specs.declared.faults.Fault.TheVariants as fault
+use Rattle.station_main.specs.Telling.{OutOfMemory, Tells, Told}
 use Rattle.station_main.specs.declared.words.Job.{Job}
 use Rattle.station_main.specs.declared.words.Job.TheVariants.{Replay, Run}
 
 -- a job is done, beside a standard error for what is reported at once; a replay that leaves no output has read nothing
 abbrev pub IsDone : Job → Option (List ℕ) → Option (List ℕ) → Option (Option (List ℕ)) → Option (List ℕ) → Told → Told → ℕ → Type 0
-IsDone Replay input before None alarm err_old err_new status = EndsEarly err_old err_new status
+IsDone Replay input before None alarm err_old err_new status = OutOfMemory err_old err_new status
 IsDone Replay input before (Some after) alarm err_old err_new status = EndsReplay program_limits input before after err_old err_new status
 IsDone (Run pace rounds paths file) input before after alarm err_old err_new status =
-    RunsAsked (is_some file) (record { pace = pace; inputs = length paths.items }) (rounds - 1) before after alarm err_old err_new status
+    RunsAsked (option_map string_bytes file) (record { pace = pace; paths = map string_bytes paths.items }) (rounds - 1) before after alarm err_old err_new status
 
--- the job that the command line names is done
+-- `clap` accepts the command line, and the job that it names is done
 pub record DoesJob (words : List Text) (input before : Option (List ℕ)) (after : Option (Option (List ℕ))) (alarm : Option (List ℕ)) (err_old err_new : Told) (status : ℕ) : Type 0 where
+  pub accepted : fault_of station words ≡ []
   pub job : Job
   pub named : NamesJob words job
   pub done : IsDone job input before after alarm err_old err_new status
@@ -27,10 +30,41 @@ pub record DoesJob (words : List Text) (input before : Option (List ℕ)) (after
 -- an allocation for reading the command line was refused, and only that is printed
 pub record HasNoMemory (after : Option (Option (List ℕ))) (err_old err_new : Told) (status : ℕ) : Type 0 where
   pub out : after ≡ None
-  pub told : Tells err_old err_new (fault_line fault.NoMemory)
-  pub status_is : status ≡ 1
+  pub only : OutOfMemory err_old err_new status
 
--- what an accepted command line leaves
+-- the answer of `clap` is help or the version, which go to the output
+abbrev pub is_shown : ErrorKind → Bool
+is_shown kind.DisplayHelp = true
+is_shown kind.DisplayVersion = true
+is_shown _ = false
+
+-- a text is all that is written: help or the version to the output, with status 0; why the words are refused to standard
+-- error, with status 2. A write of the output that fails ends it.
+abbrev pub Says : Bool → List ℕ → Option (List ℕ) → Option (Option (List ℕ)) → Told → Told → ℕ → Type 0
+Says true text before after err_old err_new status =
+    (status ≡ 0) × (err_new ≡ err_old) × ((left : Option (List ℕ)) × (after ≡ Some left) × AppendsFront before left text)
+Says false text before after err_old err_new status =
+    (status ≡ 2) × (after ≡ Some before) × Tells err_old err_new text
+
+-- what a command line leaves that asks for help or the version, or that `clap` refuses; the kinds are those that it may give
+pub record IsRefused (words : List Text) (before : Option (List ℕ)) (after : Option (Option (List ℕ))) (err_old err_new : Told) (status : ℕ) : Type 0 where
+  pub kind : ErrorKind
+  pub given : IsAmong kind (fault_of station words)
+  pub text : List ℕ
+  pub says : Says (is_shown kind) text before after err_old err_new status
+
+-- what a command line leaves that is accepted
 abbrev pub IsAnswered : List Text → Option (List ℕ) → Option (List ℕ) → Option (Option (List ℕ)) → Option (List ℕ) → Told → Told → ℕ → Type 0
 IsAnswered words input before after alarm err_old err_new status =
     DoesJob words input before after alarm err_old err_new status ⊎ HasNoMemory after err_old err_new status
+
+-- what any command line leaves
+abbrev pub IsObeyed : List Text → Option (List ℕ) → Option (List ℕ) → Option (Option (List ℕ)) → Option (List ℕ) → Told → Told → ℕ → Type 0
+IsObeyed words input before after alarm err_old err_new status =
+    IsAnswered words input before after alarm err_old err_new status ⊎ IsRefused words before after err_old err_new status
+
+-- a status that a command line gives over these streams, whatever is left of them
+abbrev pub GivesStatus : List Text → Option (List ℕ) → Option (List ℕ) → Option (List ℕ) → Option (List ℕ) → ℕ → Type 0
+GivesStatus words input before alarm err status =
+    (after : Option (Option (List ℕ))) × (err_new : Told)
+    × IsObeyed words input before after alarm (record { taken = err; has_failed = false }) err_new status

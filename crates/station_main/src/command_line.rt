@@ -1,10 +1,9 @@
 //! The whole program, over any streams.
 ghost use Rattle.clap.specs.Words.{kind_of, takes};
-ghost use Rattle.clap.specs.declared.error.kind.ErrorKind.TheVariants.{DisplayHelp, DisplayVersion};
 ghost use Rattle.station_main.specs.Command.{IsInRange, station};
-ghost use Rattle.station_main.specs.Jobs.{IsAnswered, IsDone};
+ghost use Rattle.station_main.specs.Jobs.{GivesStatus, HasNoMemory, IsAnswered, IsDone, IsObeyed, Says, is_shown};
 ghost use Rattle.station_main.specs.Telling.{told_of};
-ghost use Rattle.std.specs.Prelude.{◌≡◌, ◌≢◌, ◌≤◌, map, option_map, true};
+ghost use Rattle.std.specs.Prelude.{◌≡◌, ◌≤◌, ◌⊎◌, ℕ, List, map, option_map, true};
 
 use crate::faults::Fault;
 use crate::output::{Ran, without_output};
@@ -12,6 +11,7 @@ use crate::replay_job::replay_input;
 use crate::run_job::{Asked, run_paths};
 use crate::standard_error::StandardError;
 use crate::words::{Job, WordsFault, read_words};
+use station_report::{ToWrite, write_all};
 use std::alloc::Global;
 use std::fs::File;
 use std::io::{Read, Write};
@@ -20,6 +20,29 @@ use std::sync::Wait;
 use std::thread::Threads;
 use std::time::Clock;
 
+/// Runs a command line, which begins with the program's name, over these streams. Answers the exit status, as [`obey`]
+/// does. `err` is a handle that can be copied, as that of a process is: two threads may write to it.
+pub fn program<
+    R: Threads + Wait + Clock + Files<File = File> + Sync,
+    I: Read + Drop,
+    O: Write + Send + Drop,
+    E: Write + Copy + Send + Drop,
+>(rt: &R, alloc: Global, words: &[&str], input: I, out: O, err: E) -> u8
+    ensures { GivesStatus (map (λ w. w.now) words.now) (I.remaining input) (O.Write.contents out)
+        (E.Write.contents err) (E.Write.contents err) result }
+{
+    obey(
+        rt,
+        alloc,
+        words,
+        input,
+        out,
+        err,
+        &mut StandardError::new(err),
+    )
+    .status
+}
+
 /// Runs a command line, which begins with the program's name. Answers the output, unless nothing was read, and the exit
 /// status:
 ///
@@ -27,9 +50,10 @@ use std::time::Clock;
 /// - 1 after a fault;
 /// - 2 if the arguments are refused.
 ///
-/// Arguments that are accepted name the job that is done. If there is no memory to read them, only that is printed.
+/// Arguments that are accepted name the job that is done. For others only the text of `clap` is written: help and the
+/// version to the output, and why they are refused to standard error. If there is no memory for that, only that is printed.
 /// `alarm` is a second standard error, for what is reported at once while the threads of a run work.
-pub fn program<
+pub fn obey<
     R: Threads + Wait + Clock + Files<File = File> + Sync,
     I: Read + Drop,
     O: Write + Send + Drop,
@@ -50,11 +74,14 @@ pub fn program<
         IsAnswered (map (λ w. w.now) words.now) (I.remaining input) (O.Write.contents out)
         (option_map (λ left. O.Write.contents left) result.out) (A.Write.contents alarm)
         (told_of E.contents err.old) (told_of E.contents err.new) result.status }
+    ensures obeyed { IsObeyed (map (λ w. w.now) words.now) (I.remaining input) (O.Write.contents out)
+        (option_map (λ left. O.Write.contents left) result.out) (A.Write.contents alarm)
+        (told_of E.contents err.old) (told_of E.contents err.new) result.status }
 {
     match read_words(alloc, words) {
         Ok(job) => do_job(rt, alloc, job, input, out, alarm, err),
         Err(WordsFault::NoMemory) => without_output(err, Fault::NoMemory),
-        Err(WordsFault::Clap(error)) => write_answer(&error, out, err),
+        Err(WordsFault::Clap(error)) => write_answer(alloc, &error, out, err),
     }
 }
 
@@ -92,25 +119,34 @@ fn do_job<
 }
 
 // Writes help or the version to standard output with status 0, and any other answer of `clap` to standard error with status 2.
+// If there is no memory for its text, only that is printed.
 fn write_answer<O: Write + Drop, E: Write>(
+    alloc: Global,
     error: &clap::Error,
-    mut out: O,
+    out: O,
     err: &mut StandardError<E>,
 ) -> Ran<O>
     ensures most { result.status ≤ 2 }
-    ensures help { kind_of error.now ≡ DisplayHelp → result.status ≡ 0 }
-    ensures version { kind_of error.now ≡ DisplayVersion → result.status ≡ 0 }
-    ensures fault { kind_of error.now ≢ DisplayHelp → kind_of error.now ≢ DisplayVersion → result.status ≡ 2 }
+    ensures says { HasNoMemory (option_map (λ left. O.contents left) result.out)
+        (told_of E.contents err.old) (told_of E.contents err.new) result.status
+        ⊎ ((text : List ℕ) × Says (is_shown (kind_of error.now)) text (O.contents out)
+        (option_map (λ left. O.contents left) result.out)
+        (told_of E.contents err.old) (told_of E.contents err.new) result.status) }
 {
-    let status = if error.use_stderr() {
-        err.text(format_args!("{error}"));
-        2
-    } else {
-        let _ = write!(out, "{error}");
-        0
+    let Ok(text) = error.to_string(alloc) else {
+        return without_output(err, Fault::NoMemory);
     };
+    if error.use_stderr() {
+        err.text(text);
+        return Ran {
+            status: 2,
+            out: Some(out),
+        };
+    }
+    let mut sink = ToWrite::new(out);
+    let _ = write_all(&mut sink, text.as_bytes());
     Ran {
-        status,
-        out: Some(out),
+        status: 0,
+        out: Some(sink.into_inner()),
     }
 }

@@ -22,8 +22,6 @@ pub enum Fault<'a> {
     CannotOpen(&'a str),
     /// The reporter's thread couldn't be started.
     ThreadNotStarted,
-    /// A station got back other seats than it had given, between two rounds.
-    SeatLost,
     /// This file, as it was given, can't take a record.
     CannotRecord(&'a str),
     /// The record couldn't be written.
@@ -44,7 +42,6 @@ impl Display for Fault<'_> {
             Fault::NoMemory => f.write_str("no memory"),
             Fault::CannotOpen(path) => write!(f, "cannot open {path}"),
             Fault::ThreadNotStarted => f.write_str("thread not started"),
-            Fault::SeatLost => f.write_str("seat lost"),
             Fault::CannotRecord(path) => write!(f, "cannot record to {path}"),
             Fault::Record => f.write_str("record failed"),
         }

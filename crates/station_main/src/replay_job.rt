@@ -4,9 +4,8 @@ ghost use Rattle.std.specs.Io.Buffered.{writer_contents};
 ghost use Rattle.station_main.specs.Limits.{program_limits};
 ghost use Rattle.station_main.specs.Output.{GivesBack};
 ghost use Rattle.station_main.specs.Replay.{EndsReplay};
-ghost use Rattle.station_main.specs.Run.{EndsEarly};
 ghost use Rattle.station_main.specs.Status.{fault_status, status_of};
-ghost use Rattle.station_main.specs.Telling.{Tells, replay_lines, told_of};
+ghost use Rattle.station_main.specs.Telling.{OutOfMemory, Tells, replay_lines, told_of};
 
 use crate::faults::{Fault, tell_after, write_tally};
 use crate::limits::{AIRCRAFT, FORGET_AT, LIMITS, TURNS};
@@ -30,7 +29,7 @@ pub fn replay_input<R: Wait, I: Read + Drop, O: Write + Drop, E: Write>(
 ) -> Ran<O>
     ensures most { result.status ≤ 1 }
     ensures gone { result.out ≡ None →
-        EndsEarly (told_of E.contents err.old) (told_of E.contents err.new) result.status }
+        OutOfMemory (told_of E.contents err.old) (told_of E.contents err.new) result.status }
     ensures ended { IfSome result.out (λ left. EndsReplay program_limits
         (I.remaining input) (O.Write.contents out) (O.Write.contents left)
         (told_of E.contents err.old) (told_of E.contents err.new) result.status) }

@@ -1,12 +1,14 @@
 //! One round of the job `run`: the work of one station.
-ghost use Rattle.std.specs.Prelude.{◌≡◌, ◌+◌, ◌≤◌, All, IfErr, IfOk, is_some, length, option_map, reverse, true};
+ghost use Rattle.std.specs.Prelude.{◌≡◌, ◌+◌, ◌≤◌, ◌∷◌, All, IfErr, IfOk, is_some, length, map, option_map, reverse, true};
 ghost use Rattle.station_journal.specs.Resume.{IsSound};
 ghost use Rattle.station_desk.specs.History.{base_of};
+ghost use Rattle.station_shared.specs.Closing.{EachOnce};
 ghost use Rattle.station_shared.specs.Seats.{newcomer};
+ghost use Rattle.station_main.specs.Inputs.{IsUnread, path_of};
 ghost use Rattle.station_main.specs.Limits.{program_limits};
 ghost use Rattle.station_main.specs.Output.{buffered_of};
 ghost use Rattle.station_main.specs.Rounds.{EndsRound, IsLast, given_of};
-ghost use Rattle.station_main.specs.Run.{HavePumped, IsEarly, Leaves};
+ghost use Rattle.station_main.specs.Run.{HaveAnswers, IsUnstarted, Leaves};
 ghost use Rattle.station_main.specs.Telling.{told_of};
 
 mod ending;
@@ -80,6 +82,7 @@ pub fn run_round<
     err: &mut StandardError<E>,
 ) -> Round<O>
     requires few { length plan.inputs.items ≤ 8 }
+    requires unread { All IsUnread plan.inputs.items }
     requires ledger { (blank.name ≡ L.name) × (blank.parts ≡ L.parts) }
     requires seats { (L.parts ≡ length plan.inputs.items + 1)
         × (L.seats ≡ length plan.inputs.items + 1)
@@ -89,7 +92,7 @@ pub fn run_round<
     requires base { base_of places.history ≡ plan.kept.recent.base }
     requires limits { L.start.limits ≡ program_limits }
     requires sound { IsSound program_limits plan.kept.recent.base (reverse plan.kept.recent.entries.items) }
-    ensures { EndsRound O.contents (record { pace = plan.pace; inputs = length plan.inputs.items })
+    ensures { EndsRound O.contents (record { pace = plan.pace; paths = map path_of plan.inputs.items })
         (given_of plan.kept) (buffered_of O.contents plan.out).taken
         recorder.old recorder.new
         (told_of E.contents err.old) (told_of E.contents err.new) result }
@@ -118,6 +121,7 @@ pub fn run_last<
     err: &mut StandardError<E>,
 ) -> Ran<O>
     requires few { length plan.inputs.items ≤ 8 }
+    requires unread { All IsUnread plan.inputs.items }
     requires ledger { (blank.name ≡ L.name) × (blank.parts ≡ L.parts) }
     requires seats { (L.parts ≡ length plan.inputs.items + 1)
         × (L.seats ≡ length plan.inputs.items + 1)
@@ -128,7 +132,7 @@ pub fn run_last<
     requires limits { L.start.limits ≡ program_limits }
     requires sound { IsSound program_limits plan.kept.recent.base (reverse plan.kept.recent.entries.items) }
     ensures most { result.status ≤ 1 }
-    ensures last { IsLast (record { pace = plan.pace; inputs = length plan.inputs.items })
+    ensures last { IsLast (record { pace = plan.pace; paths = map path_of plan.inputs.items })
         (given_of plan.kept) (buffered_of O.contents plan.out).taken
         (option_map (λ left. O.contents left) result.out)
         recorder.old recorder.new
@@ -156,6 +160,7 @@ fn work<
     recorder: &mut Option<Recorder<T, A>>,
 ) -> Result<Worked<L, O>, Fault<'static>>
     requires few { length plan.inputs.items ≤ 8 }
+    requires unread { All IsUnread plan.inputs.items }
     requires ledger { (blank.name ≡ L.name) × (blank.parts ≡ L.parts) }
     requires seats { (L.parts ≡ length plan.inputs.items + 1)
         × (L.seats ≡ length plan.inputs.items + 1)
@@ -165,11 +170,12 @@ fn work<
     requires base { base_of places.history ≡ plan.kept.recent.base }
     requires limits { L.start.limits ≡ program_limits }
     requires sound { IsSound program_limits plan.kept.recent.base (reverse plan.kept.recent.entries.items) }
-    ensures early { IfErr result IsEarly }
+    ensures unstarted { IfErr result IsUnstarted }
     ensures answered { IfOk result (λ worked. All (λ r. is_some r.answer ≡ true) worked.receivers.items) }
-    ensures many { IfOk result (λ worked. length worked.receivers.items ≡ length plan.inputs.items) }
-    ensures pumped { IfOk result (λ worked. HavePumped L.start plan.kept.recent.entries.items
-        (λ r. r.seat) (λ r. r.source) (λ r. r.answer) plan.inputs.items worked.receivers.items) }
+    ensures pumped { IfOk result (λ worked. HaveAnswers L.start plan.kept.recent.entries.items
+        (map path_of plan.inputs.items) (λ r. r.seat) (λ r. r.answer) worked.receivers.items) }
+    ensures once { IfOk result (λ worked.
+        EachOnce L.seats (worked.reporter ∷ map (λ r. r.seat) worked.receivers.items)) }
     ensures output { IfOk result (λ worked. Leaves L.start plan.pace plan.kept.last_tick
         (newcomer plan.kept.recent.entries.items (length plan.inputs.items)) worked.reporter
         (buffered_of O.contents plan.out).taken (O.contents worked.written.out)

@@ -1,16 +1,20 @@
 //! The job `run`: its rounds, one after another.
-ghost use Rattle.std.specs.Prelude.{◌≡◌, ◌+◌, ◌-◌, ◌≤◌, ◌⊎◌, IfErr, IfOk, is_some, length, None, option_map, reverse};
+ghost use Rattle.std.specs.Prelude.{◌≡◌, ◌+◌, ◌-◌, ◌≤◌, All, Contains, IfErr, IfOk, List, length, map, option_map, reverse};
+ghost use Rattle.std.specs.String.{string_bytes};
+ghost use Rattle.clap.specs.Words.{Text};
 ghost use Rattle.station_journal.specs.Resume.{IsSound};
 ghost use Rattle.station_desk.specs.History.{base_of};
+ghost use Rattle.station_main.specs.Inputs.{IsUnread, path_of};
 ghost use Rattle.station_main.specs.Limits.{program_limits};
 ghost use Rattle.station_main.specs.Output.{buffered_of};
 ghost use Rattle.station_main.specs.Rounds.{EndsRound, IsLast, Runs, RunsAsked, given_of, nothing};
-ghost use Rattle.station_main.specs.Run.{IsEarly};
+ghost use Rattle.station_main.specs.Run.{IsUnopened};
 ghost use Rattle.station_main.specs.Telling.{told_of};
 
 use crate::faults::Fault;
 use crate::kept::Kept;
 use crate::limits::{AIRCRAFT, TABLE_ROOM};
+use crate::opened::Opened;
 use crate::output::{Ran, without_output};
 use crate::record_file::record_to;
 use crate::recorder::{Recorder, status_of};
@@ -61,8 +65,8 @@ pub fn run_paths<
     requires rounds { 1 ≤ asked.rounds }
     requires paths { length asked.paths.now.items ≤ 8 }
     ensures most { result.status ≤ 1 }
-    ensures runs { RunsAsked (is_some asked.entry.record.now)
-        (record { pace = asked.entry.pace; inputs = length asked.entry.paths.now.items })
+    ensures runs { RunsAsked (option_map string_bytes asked.entry.record.now)
+        (record { pace = asked.entry.pace; paths = map string_bytes asked.entry.paths.now.items })
         (asked.entry.rounds - 1) (O.contents out) (option_map (λ left. O.contents left) result.out) (A.contents alarm)
         (told_of E.contents err.old) (told_of E.contents err.new) result.status }
 {
@@ -100,7 +104,7 @@ fn run_rounds<
     requires rounds { 1 ≤ asked.rounds }
     requires paths { length asked.paths.now.items ≤ 8 }
     ensures most { result.status ≤ 1 }
-    ensures runs { Runs (record { pace = asked.entry.pace; inputs = length asked.entry.paths.now.items })
+    ensures runs { Runs (record { pace = asked.entry.pace; paths = map string_bytes asked.entry.paths.now.items })
         (asked.entry.rounds - 1) nothing (O.contents out) (option_map (λ left. O.contents left) result.out)
         recorder.old recorder.new
         (told_of E.contents err.old) (told_of E.contents err.new) result.status }
@@ -144,7 +148,7 @@ fn one_round<
 ) -> Round<O>
     requires few { length asked.paths.now.items ≤ 8 }
     requires sound { IsSound program_limits kept.recent.base (reverse kept.recent.entries.items) }
-    ensures { EndsRound O.contents (record { pace = asked.entry.pace; inputs = length asked.entry.paths.now.items })
+    ensures { EndsRound O.contents (record { pace = asked.entry.pace; paths = map string_bytes asked.entry.paths.now.items })
         (given_of kept) (O.contents out)
         recorder.old recorder.new
         (told_of E.contents err.old) (told_of E.contents err.new) result }
@@ -178,7 +182,7 @@ fn last_round<
     requires few { length asked.paths.now.items ≤ 8 }
     requires sound { IsSound program_limits kept.recent.base (reverse kept.recent.entries.items) }
     ensures most { result.status ≤ 1 }
-    ensures last { IsLast (record { pace = asked.entry.pace; inputs = length asked.entry.paths.now.items })
+    ensures last { IsLast (record { pace = asked.entry.pace; paths = map string_bytes asked.entry.paths.now.items })
         (given_of kept) (O.contents out) (option_map (λ left. O.contents left) result.out)
         recorder.old recorder.new
         (told_of E.contents err.old) (told_of E.contents err.new) result.status }
@@ -203,10 +207,12 @@ fn prepare<'a, R: Wait + Files<File = File>, O: Write + Drop>(
     out: O,
 ) -> Result<(Plan<O>, Places<AIRCRAFT>), Fault<'a>>
     requires { length asked.paths.now.items ≤ 8 }
-    ensures early { IfErr result IsEarly }
+    ensures unopened { IfErr result (IsUnopened (map string_bytes asked.entry.paths.now.items)) }
     ensures pace { IfOk result (λ made. made.0.pace ≡ asked.entry.pace) }
     ensures kept { IfOk result (λ made. made.0.kept ≡ kept) }
-    ensures inputs { IfOk result (λ made. length made.0.inputs.items ≡ length asked.entry.paths.now.items) }
+    ensures inputs { IfOk result (λ made. map path_of made.0.inputs.items ≡ map string_bytes asked.entry.paths.now.items) }
+    ensures many { IfOk result (λ made. length made.0.inputs.items ≡ length asked.entry.paths.now.items) }
+    ensures unread { IfOk result (λ made. All IsUnread made.0.inputs.items) }
     ensures out { IfOk result (λ made. buffered_of O.contents made.0.out
         ≡ record { taken = O.contents out; failures = 0 }) }
     ensures places { IfOk result (λ made. made.1.places ≡ 1) }
@@ -235,12 +241,14 @@ fn open_all<'a, R: Files<File = File>>(
     alloc: Global,
     paths: &'a Vec<String>,
 ) -> Result<Vec<Input>, Fault<'a>>
-    ensures opened { IfOk result (λ inputs. length inputs.items ≡ length paths.now.items) }
-    ensures fault { IfErr result IsEarly }
+    ensures opened { IfOk result (λ inputs. map path_of inputs.items ≡ map string_bytes paths.now.items) }
+    ensures many { IfOk result (λ inputs. length inputs.items ≡ length paths.now.items) }
+    ensures unread { IfOk result (λ inputs. All IsUnread inputs.items) }
+    ensures unopened { IfErr result (IsUnopened (map string_bytes paths.now.items)) }
 {
     let mut inputs = Vec::new(alloc);
     for path in paths {
-        let input = open(rt, alloc, path.as_str())?;
+        let input = open(rt, alloc, path)?;
         if inputs.push(input).is_err() {
             return Err(Fault::NoMemory);
         }
@@ -249,13 +257,23 @@ fn open_all<'a, R: Files<File = File>>(
 }
 
 // Opens a path, behind a buffer.
-fn open<'a, R: Files<File = File>>(rt: &R, alloc: Global, path: &'a str) -> Result<Input, Fault<'a>>
-    ensures early { IfErr result IsEarly }
-    ensures fault { IfErr result (λ fault. (fault ≡ Fault.NoMemory) ⊎ (fault ≡ Fault.CannotOpen path.entry)) }
+fn open<'a, R: Files<File = File>>(
+    rt: &R,
+    alloc: Global,
+    path: &'a String,
+) -> Result<Input, Fault<'a>>
+    ensures path { IfOk result (λ input. path_of input ≡ string_bytes path.entry.now) }
+    ensures unread { IfOk result IsUnread }
+    ensures unopened { IfErr result (λ fault.
+        (paths : List Text) → Contains paths (string_bytes path.entry.now) → IsUnopened paths fault) }
 {
-    match File::open(rt, path).and_then(|file| BufReader::with_capacity(alloc, PIECE, file)) {
-        Ok(buffered) => Ok(FromBuffer::new(buffered)),
-        Err(error) if error.kind() == ErrorKind::OutOfMemory => Err(Fault::NoMemory),
-        Err(_) => Err(Fault::CannotOpen(path)),
-    }
+    let opened = match Opened::open(rt, path) {
+        Ok(opened) => opened,
+        Err(error) if error.kind() == ErrorKind::OutOfMemory => return Err(Fault::NoMemory),
+        Err(_) => return Err(Fault::CannotOpen(path.as_str())),
+    };
+    let Ok(buffered) = BufReader::with_capacity(alloc, PIECE, opened) else {
+        return Err(Fault::NoMemory);
+    };
+    Ok(FromBuffer::new(buffered))
 }

@@ -6,13 +6,13 @@ ghost use Rattle.station_main.specs.Run.{HaveWorked, PrintsLast};
 
 use crate::bell::Bell;
 use crate::limits::{AIRCRAFT, TURNS};
+use crate::opened::Opened;
 use crate::output::{Written, give_up, unbuffered};
 use crate::recorder::Recorder;
 use crate::reporter::{Given, Reported, print_and_record, report};
 use crate::schedule::Pace;
 use station_report::{Sink, ToWrite};
 use station_shared::{FromBuffer, Seat, Station, StationName, Worker, run_receivers};
-use std::fs::File;
 use std::io::{BufWriter, Write};
 use std::snapshot::Snapshot;
 use std::sync::Wait;
@@ -21,7 +21,7 @@ use std::thread::Threads;
 use std::time::{Clock, Instant};
 
 /// A path that a receiver reads.
-pub type Input = FromBuffer<File>;
+pub type Input = FromBuffer<Opened>;
 
 /// The output of a run, in its buffer.
 pub type Output<O> = ToWrite<BufWriter<O>>;

@@ -1,8 +1,8 @@
 //! The command line.
-ghost use Rattle.clap.specs.Words.{found_of, rows_of, takes};
-ghost use Rattle.station_main.specs.Command.{GivesJob, IsGiven, IsInRange, NamesJob, station};
+ghost use Rattle.clap.specs.Words.{fault_of, found_of, rows_of, takes};
+ghost use Rattle.station_main.specs.Command.{GivesJob, IsGiven, IsInRange, IsWordsFault, NamesJob, station};
 ghost use Rattle.station_main.specs.declared.words.WordsFault.TheVariants.{NoMemory};
-ghost use Rattle.std.specs.Prelude.{◌≡◌, IfErr, IfOk, map, option_map, true};
+ghost use Rattle.std.specs.Prelude.{◌≡◌, [], IfErr, IfOk, map, option_map, true};
 ghost use Rattle.std.specs.String.{string_bytes};
 
 use crate::commands::station_command;
@@ -52,10 +52,11 @@ impl From<AllocError> for WordsFault {
 impl From<clap::Error> for WordsFault {
     ghost use Rattle.clap.specs.Words.{kind_of};
     ghost use Rattle.clap.specs.declared.error.kind.ErrorKind.TheVariants.{OutOfMemory};
-    ghost use Rattle.std.specs.Prelude.{◌≡◌};
-    ghost use Rattle.station_main.specs.declared.words.WordsFault.TheVariants.{NoMemory};
+    ghost use Rattle.std.specs.Prelude.{◌≡◌, ◌≢◌, ◌⊎◌};
+    ghost use Rattle.station_main.specs.declared.words.WordsFault.TheVariants.{Clap, NoMemory};
 
-    ghost from_gives = { λ error fault. kind_of error ≡ OutOfMemory → fault ≡ NoMemory };
+    ghost from_gives = { λ error fault. ((kind_of error ≡ OutOfMemory) × (fault ≡ NoMemory))
+        ⊎ ((kind_of error ≢ OutOfMemory) × (fault ≡ Clap error)) };
 
     fn from(error: clap::Error) -> WordsFault {
         if error.kind() == ErrorKind::OutOfMemory {
@@ -68,8 +69,10 @@ impl From<clap::Error> for WordsFault {
 /// Reads a command line, which begins with the program's name, by `clap`: the subcommand, and for `run` the values of
 /// `--every`, `--tick`, `--rounds`, `--record` and PATH. Arguments that `clap` accepts are refused only if out of memory.
 pub fn read_words<'a>(alloc: Global, words: &'a [&'a str]) -> Result<Job, WordsFault>
+    ensures accepted { IfOk result (λ _. fault_of station (map (λ w. w.now) words.entry.now) ≡ []) }
     ensures job { IfOk result (NamesJob (map (λ w. w.now) words.entry.now)) }
     ensures range { IfOk result IsInRange }
+    ensures refused { IfErr result (IsWordsFault (map (λ w. w.now) words.entry.now)) }
     ensures taken { IfErr result (λ fault. takes station (map (λ w. w.now) words.entry.now) ≡ true → fault ≡ NoMemory) }
 {
     let matches = station_command(alloc)?.try_get_matches_from(words)?;

@@ -1,6 +1,6 @@
 //! Command lines that are refused, or that ask for help.
 use super::{NO_LINES, run_words, text, words_of};
-use station_main::{Job, Pace, WordsFault, read_words};
+use station_main::{Job, Pace, WordsFault, program, read_words};
 use std::alloc::{AllocError, Global};
 
 // The lines that each refusal begins with. All end in the same way.
@@ -243,6 +243,29 @@ fn the_version_is_written_to_standard_output(rt: HostRuntime) -> Result<(), Allo
         let told = run_words(&rt, words.as_slice(), NO_LINES);
         assert_eq!(rt; text(&told.out), "groundstation 1.0.0\n", "{line}");
         assert!(rt; told.err.is_empty() && told.status == 0, "{line}");
+    }
+    Ok(())
+}
+
+// The call with one standard error, which two threads may hold.
+#[test]
+fn a_status_is_that_of_the_words(rt: HostRuntime) -> Result<(), AllocError> {
+    for (line, version) in [
+        ("groundstation --version", "groundstation 1.0.0\n"),
+        ("groundstation replay", ""),
+    ] {
+        let words = words_of(rt.alloc(), line, [].as_slice())?;
+        let mut out = Vec::new(rt.alloc());
+        let status = program(
+            &rt,
+            rt.alloc(),
+            words.as_slice(),
+            NO_LINES,
+            &mut out,
+            rt.stderr(),
+        );
+        assert_eq!(rt; text(&out), version, "{line}");
+        assert_eq!(rt; status, 0, "{line}");
     }
     Ok(())
 }

@@ -1,4 +1,5 @@
-use Rattle.std.specs.Prelude.{ℕ, ◌-◌, List, Option, length, reverse}
+use Rattle.std.specs.Prelude.{ℕ, ◌-◌, List, Option, map, reverse}
+use Rattle.std.specs.String.{string_bytes}
 use Rattle.station_journal.specs.Resume.{IsSound}
 use Rattle.station_main.specs.Limits.{program_limits}
 use Rattle.station_main.specs.Recorded.{Recording}
@@ -9,7 +10,7 @@ use Rattle.station_main.proofs.run_job.run_rounds.Given as goal
 -- all rounds leave what the rounds to come leave
 abbrev pub invariant-loop-more : goal.invariant-loop-more
 invariant-loop-more g l =
-    let asked : Asked = record { pace = l.asked.pace; inputs = length l.asked.paths.now.items } in
+    let asked : Asked = record { pace = l.asked.pace; paths = map string_bytes l.asked.paths.now.items } in
     let contents = g.O.Write.contents in
     let told = told_of g.E.Write.contents in
     record {

@@ -5,7 +5,7 @@ use Rattle.clap.specs.Words.{Row, Text, found_of, is_simple, rows_of, subcommand
 use Rattle.station_main.specs.Command.{station}
 use Rattle.station_main.proofs.JobLemmas.{names_job}
 use Rattle.station_main.proofs.RunLemmas.{none_some, run_given, some_same}
-use Rattle.station_main.proofs.WordLemmas.{is_free-station, is_simple-station, known_rows, name_of_rows, names_replay, names_run}
+use Rattle.station_main.proofs.WordLemmas.{is_free-station, is_simple-station, known_rows, name_of_rows, names_replay, names_run, only_memory}
 use Rattle.station_main.proofs.words.read_words.Goals as goal
 
 pub returns-in_err-matches-clause-taken : goal.returns-in_err-matches-clause-taken
@@ -13,7 +13,19 @@ returns-in_err-matches-clause-taken c =
     let station_is = c.in_ok-station_command.ensures.0 in
     let words = map {A = Bor (List ℕ)} {B = List ℕ} (λ w. w.now) c.args.words.now in
     let gone = err_from_is_err_and c.from_residual-in_err-matches.result c.from_residual-in_err-matches.ensures.1 in
-    rw gone.1 (λ taken. gone.2 (c.in_err-matches.ensures.passes (ap (λ a. takes a words) station_is ∙ taken)))
+    rw gone.1 (λ taken. only_memory gone.2 (c.in_err-matches.ensures.passes (ap (λ a. takes a words) station_is ∙ taken)))
+
+pub returns-then-eq-clause-accepted : goal.returns-then-eq-clause-accepted
+returns-then-eq-clause-accepted c =
+    let station_is = c.in_ok-station_command.ensures.0 in
+    let words = map {A = Bor (List ℕ)} {B = List ℕ} (λ w. w.now) c.args.words.now in
+    subst (λ a. fault_of a words ≡ []) station_is (c.in_ok-matches.ensures.kinds (ap is_simple_and_free station_is ∙ is_free-station))
+
+pub returns-clause-accepted : goal.returns-clause-accepted
+returns-clause-accepted c =
+    let station_is = c.in_ok-station_command.ensures.0 in
+    let words = map {A = Bor (List ℕ)} {B = List ℕ} (λ w. w.now) c.args.words.now in
+    subst (λ a. fault_of a words ≡ []) station_is (c.in_ok-matches.ensures.kinds (ap is_simple_and_free station_is ∙ is_free-station))
 
 pub read_run-requires : goal.read_run-requires
 read_run-requires c =
