@@ -75,7 +75,7 @@ receiver_seats entries count inputs seats others last split made many =
 -- a round, by its output and what is printed at its end
 pub is_round : {W : Type 0} (asked : Asked) (given : Given) (start : Start) (closing : Seated) (before after : Option (List ℕ)) (was recorded : Option Recording) (answer : W → Option (Result Tally PumpFault)) (ws : List W) (has_failed : Bool)
     (err_old err_new : Told) (status : ℕ) → GoesOnFrom given start → length ws ≡ asked.inputs
-    → Leaves start asked.pace given.last_tick (newcomer given.entries asked.inputs) closing before after was recorded has_failed
+    → Leaves start asked.tables given.last_tick (newcomer given.entries asked.inputs) closing before after was recorded has_failed
     → Tells err_old err_new (flat_map (λ w. answer_lines (answer w)) ws ++ output_lines has_failed)
     → status ≡ max (fold (λ worst w. max worst (answer_status (answer w))) 0 ws) (fault_status has_failed)
     → IsRound asked given start closing before after was recorded err_old err_new status

@@ -9,7 +9,7 @@ use Rattle.station_desk.specs.Start.{Start, log_of}
 use Rattle.station_shared.specs.Seats.{Seated, newcomer}
 use Rattle.station_main.specs.Limits.{program_limits}
 use Rattle.station_main.specs.Recorded.{IfRecording, IsBlank, Recording, RecordsRest}
-use Rattle.station_main.specs.Status.{record_status}
+use Rattle.station_main.specs.Status.{fault_status, record_status}
 use Rattle.station_main.specs.Run.{Ends, EndsEarly}
 use Rattle.station_main.specs.Telling.{Tells, Told, fault_line}
 use Rattle.station_main.specs.declared.faults.Fault.{Fault}
@@ -17,7 +17,7 @@ use Rattle.station_main.specs.declared.faults.Fault.TheVariants as fault
 use Rattle.station_main.specs.declared.kept.Kept.{Kept}
 use Rattle.station_main.specs.declared.round.Round.{Round}
 use Rattle.station_main.specs.declared.round.Round.TheVariants.{Over, GoesOn}
-use Rattle.station_main.specs.declared.schedule.Pace.{Pace}
+use Rattle.station_main.specs.declared.schedule.Tables.{Tables}
 
 -- what a round goes on from: entries with the base of their clock, and the time of the last tick before it
 pub record Given : Type 0 where
@@ -37,13 +37,13 @@ pub record GoesOnFrom (given : Given) (start : Start) : Type 0 where
 
 -- what was asked of a run
 pub record Asked : Type 0 where
-  pub pace : Pace
+  pub tables : Tables
   pub inputs : ℕ
 
 -- a round of a station: its reporter's seat, which comes after the inputs' seats, has seen what the round goes on from
 pub record IsRound (asked : Asked) (given : Given) (start : Start) (closing : Seated) (before after : Option (List ℕ)) (was is : Option Recording) (err_old err_new : Told) (status : ℕ) : Type 0 where
   pub goes_on : GoesOnFrom given start
-  pub ends : Ends start asked.pace given.last_tick asked.inputs (newcomer given.entries asked.inputs) closing before after was is err_old err_new status
+  pub ends : Ends start asked.tables given.last_tick asked.inputs (newcomer given.entries asked.inputs) closing before after was is err_old err_new status
 
 -- what is kept of a closed station's journal: its recent entries; the journal begins with all that a seat has seen; the record
 -- goes on with the rest of it
@@ -75,6 +75,7 @@ IsBetween fault.Write = ⊥
 IsBetween fault.TooManyReads = ⊥
 IsBetween (fault.CannotRecord path) = ⊥
 IsBetween fault.Record = ⊥
+IsBetween (fault.CannotWrite path) = ⊥
 
 -- a round without a fault, after which nothing could be kept
 pub record KeepsNothing (asked : Asked) (given : Given) (before after : Option (List ℕ)) (was is : Option Recording) (err_old err_new : Told) (status : ℕ) : Type 0 where
@@ -122,9 +123,9 @@ EndsRound contents asked given before was is err_old err_new (GoesOn out kept) =
 
 -- ---- a run with or without a record
 
--- the record could not be begun, and nothing is read
-abbrev pub CannotRecord : Option (Option (List ℕ)) → Told → Told → ℕ → Type 0
-CannotRecord after err_old err_new status = (after ≡ None) × EndsEarly err_old err_new status
+-- what was asked could not be begun, and nothing is read
+abbrev pub CannotBegin : Option (Option (List ℕ)) → Told → Told → ℕ → Type 0
+CannotBegin after err_old err_new status = (after ≡ None) × EndsEarly err_old err_new status
 
 -- a run with a record, which begins blank; the status is the worse of the rounds' and the record's
 pub record RunsRecorded (asked : Asked) (more : ℕ) (before : Option (List ℕ)) (after : Option (Option (List ℕ))) (alarm : Option (List ℕ)) (err_old err_new : Told) (status : ℕ) : Type 0 where
@@ -140,4 +141,11 @@ abbrev pub RunsAsked : Bool → Asked → ℕ → Option (List ℕ) → Option (
 RunsAsked false asked more before after alarm err_old err_new status =
     (left : Option Recording) × Runs asked more nothing before after None left err_old err_new status
 RunsAsked true asked more before after alarm err_old err_new status =
-    CannotRecord after err_old err_new status ⊎ RunsRecorded asked more before after alarm err_old err_new status
+    CannotBegin after err_old err_new status ⊎ RunsRecorded asked more before after alarm err_old err_new status
+
+-- a run that does this, with tables for displays or without; status 1 where a write for displays failed
+abbrev pub RunsForDisplays : Bool → (ℕ → Type 0) → Option (Option (List ℕ)) → Told → Told → ℕ → Type 0
+RunsForDisplays false runs after err_old err_new status = runs status
+RunsForDisplays true runs after err_old err_new status =
+    CannotBegin after err_old err_new status
+    ⊎ ((of_run : ℕ) × (has_failed : Bool) × runs of_run × (status ≡ max of_run (fault_status has_failed)))

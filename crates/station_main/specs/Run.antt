@@ -2,6 +2,7 @@
 use Rattle.std.specs.Prelude.{◌≡◌, ℕ, ◌<◌, Bool, true, false, List, [], ◌∷◌, ◌++◌, Option, None, IfSome, Result, length, slice_index_or, is_err, fold, map, max, unwrap_or, ⊤}
 use Rattle.std.specs.List.{flat_map}
 use Rattle.station_journal.specs.declared.entry.Entry.{Entry}
+use Rattle.station_report.specs.declared.formats.Format.{Format}
 use Rattle.station_report.specs.declared.sinks.WriteFault.{WriteFault}
 use Rattle.station_lines.specs.Drawing.{Drawn}
 use Rattle.station_desk.specs.Start.{Start}
@@ -19,7 +20,7 @@ use Rattle.station_main.specs.Tables.{TakesTexts}
 use Rattle.station_main.specs.Telling.{Tells, Told, answer_lines, fault_line, output_lines}
 use Rattle.station_main.specs.declared.faults.Fault.{Fault}
 use Rattle.station_main.specs.declared.faults.Fault.TheVariants as fault
-use Rattle.station_main.specs.declared.schedule.Pace.{Pace}
+use Rattle.station_main.specs.declared.schedule.Tables.{Tables}
 
 -- ---- the receivers
 
@@ -44,17 +45,17 @@ pub record HavePumped {W R : Type 0} (start : Start) (entries : List Entry) (sea
 -- ---- the last table
 
 -- the last table, if no write failed before
-pub record PrintsMore (start : Start) (old new : Seated) (before : Printed) (after : Option (List ℕ)) (was is : Option Recording) (has_failed : Bool) : Type 0 where
+pub record PrintsMore (format : Format) (start : Start) (old new : Seated) (before : Printed) (after : Option (List ℕ)) (was is : Option Recording) (has_failed : Bool) : Type 0 where
   pub sink : Printed
   pub result : Result (Unit {0}) WriteFault
-  pub prints : PrintsAndRecords start old new before sink was is result
+  pub prints : PrintsAndRecords format start old new before sink was is result
   pub gives : GivesBack sink.taken after has_failed
   pub told : is_err result ≡ true → has_failed ≡ true
 
 -- the last table, as a seat sees it, and the output out of its buffer
-abbrev pub PrintsLast : Start → Seated → Seated → Printed → Bool → Option (List ℕ) → Option Recording → Option Recording → Bool → Type 0
-PrintsLast start old new before false after was is has_failed = PrintsMore start old new before after was is has_failed
-PrintsLast start old new before true after was is has_failed = (new ≡ old) × (is ≡ was) × GivesBack before.taken after has_failed × (has_failed ≡ true)
+abbrev pub PrintsLast : Format → Start → Seated → Seated → Printed → Bool → Option (List ℕ) → Option Recording → Option Recording → Bool → Type 0
+PrintsLast format start old new before false after was is has_failed = PrintsMore format start old new before after was is has_failed
+PrintsLast format start old new before true after was is has_failed = (new ≡ old) × (is ≡ was) × GivesBack before.taken after has_failed × (has_failed ≡ true)
 
 -- the looks of the seat after the last showing: one, if no write failed before
 abbrev pub LastLook : Start → Seated → Seated → Bool → List (Option Seated) → Type 0
@@ -65,25 +66,25 @@ LastLook start old new true looks = (looks ≡ []) × (new ≡ old)
 
 -- what a round leaves of its output, whose reporter's seat goes from `first` to `closing`: the texts of its looks and of one
 -- look after them, and nothing else, or a front of that if a write failed; the record goes on with what these looks have seen
-pub record Leaves (start : Start) (pace : Pace) (last_tick : ℕ) (first closing : Seated) (before after : Option (List ℕ)) (was is : Option Recording) (has_failed : Bool) : Type 0 where
+pub record Leaves (start : Start) (tables : Tables) (last_tick : ℕ) (first closing : Seated) (before after : Option (List ℕ)) (was is : Option Recording) (has_failed : Bool) : Type 0 where
   pub mid : Seated
   pub moments : List ℕ
   pub showings : List Showing
-  pub keeps : KeepsTime start pace last_tick moments first showings mid
+  pub keeps : KeepsTime start tables.pace last_tick moments first showings mid
   pub failed_before : Bool
   pub last : List (Option Seated)
   pub looks : LastLook start mid closing failed_before last
   pub between : Option (List ℕ)
   pub write_failed : Bool
-  pub takes : TakesTexts start (looks_of showings ++ last) before between write_failed
+  pub takes : TakesTexts tables.format start (looks_of showings ++ last) before between write_failed
   pub records : IfRecording (Records (seen_by (looks_of showings ++ last))) was is
   pub gives : GivesBack between after has_failed
   pub told : write_failed ≡ true → has_failed ≡ true
 
 -- it prints the answers, one for each input in their order, and at last a failed write; the status is the worst of these
-pub record Ends (start : Start) (pace : Pace) (last_tick inputs : ℕ) (first closing : Seated) (before after : Option (List ℕ)) (was is : Option Recording) (err_old err_new : Told) (status : ℕ) : Type 0 where
+pub record Ends (start : Start) (tables : Tables) (last_tick inputs : ℕ) (first closing : Seated) (before after : Option (List ℕ)) (was is : Option Recording) (err_old err_new : Told) (status : ℕ) : Type 0 where
   pub has_failed : Bool
-  pub output : Leaves start pace last_tick first closing before after was is has_failed
+  pub output : Leaves start tables last_tick first closing before after was is has_failed
   pub answers : List (Option (Result Tally PumpFault))
   pub many : length answers ≡ inputs
   pub told : Tells err_old err_new (flat_map answer_lines answers ++ output_lines has_failed)
@@ -96,6 +97,7 @@ IsEarly (fault.CannotOpen path) = ⊤
 IsEarly fault.ThreadNotStarted = ⊤
 IsEarly (fault.CannotRecord path) = ⊤
 IsEarly fault.Record = ⊥
+IsEarly (fault.CannotWrite path) = ⊥
 IsEarly fault.Read = ⊥
 IsEarly fault.Write = ⊥
 IsEarly fault.TooManyReads = ⊥

@@ -36,6 +36,7 @@ fault_words fault.ThreadNotStarted = codes "thread not started"
 fault_words fault.SeatLost = codes "seat lost"
 fault_words (fault.CannotRecord path) = codes "cannot record to " ++ path.now
 fault_words fault.Record = codes "record failed"
+fault_words (fault.CannotWrite path) = codes "cannot write " ++ path.now
 
 abbrev pub fault_line : Fault → List ℕ
 fault_line fault = codes "groundstation: " ++ fault_words fault ++ 10 ∷ []

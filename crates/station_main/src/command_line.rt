@@ -1,15 +1,17 @@
 //! The whole program, over any streams.
-ghost use Rattle.clap.specs.Words.{kind_of, takes};
+ghost use Rattle.clap.specs.Words.{App, kind_of, takes};
 ghost use Rattle.clap.specs.declared.error.kind.ErrorKind.TheVariants.{DisplayHelp, DisplayVersion};
-ghost use Rattle.station_main.specs.Command.{IsInRange, station};
+ghost use Rattle.station_main.specs.Command.{IsInRange, IsStation};
 ghost use Rattle.station_main.specs.Jobs.{IsAnswered, IsDone};
 ghost use Rattle.station_main.specs.Telling.{told_of};
 ghost use Rattle.std.specs.Prelude.{◌≡◌, ◌≢◌, ◌≤◌, map, option_map, true};
 
+use crate::display_job::run_for_displays;
 use crate::faults::Fault;
 use crate::output::{Ran, without_output};
 use crate::replay_job::replay_input;
-use crate::run_job::{Asked, run_paths};
+use crate::run_job::Asked;
+use crate::schedule::Tables;
 use crate::standard_error::StandardError;
 use crate::words::{Job, WordsFault, read_words};
 use std::alloc::Global;
@@ -28,9 +30,12 @@ use std::time::Clock;
 /// - 2 if the arguments are refused.
 ///
 /// Arguments that are accepted name the job that is done. If there is no memory to read them, only that is printed.
-/// `alarm` is a second standard error, for what is reported at once while the threads of a run work.
+///
+/// `origin` is the time of the system at the start of the program, in milliseconds since 1970. JSON of `run` counts from it.
+/// `alarm` and `display_alarm` are two more standard errors, for what is reported at once while the threads of a run work.
+/// A failed write of the record goes to the first, and one for displays to the second.
 pub fn program<
-    R: Threads + Wait + Clock + Files<File = File> + Sync,
+    R: Threads + Wait + Clock + Files<File = File, Dir: Send> + Sync,
     I: Read + Drop,
     O: Write + Send + Drop,
     A: Write + Send + Drop,
@@ -39,20 +44,31 @@ pub fn program<
     rt: &R,
     alloc: Global,
     words: &[&str],
+    origin: u64,
     input: I,
     out: O,
     alarm: A,
+    display_alarm: A,
     err: &mut StandardError<E>,
 ) -> Ran<O>
     ensures status { result.status ≤ 2 }
-    ensures taken { takes station (map (λ w. w.now) words.now) ≡ true → result.status ≤ 1 }
-    ensures done { takes station (map (λ w. w.now) words.now) ≡ true →
-        IsAnswered (map (λ w. w.now) words.now) (I.remaining input) (O.Write.contents out)
+    ensures taken { (app : App) × IsStation app × (takes app (map (λ w. w.now) words.now) ≡ true → (result.status ≤ 1)
+        × IsAnswered app (map (λ w. w.now) words.now) origin (I.remaining input) (O.Write.contents out)
         (option_map (λ left. O.Write.contents left) result.out) (A.Write.contents alarm)
-        (told_of E.contents err.old) (told_of E.contents err.new) result.status }
+        (told_of E.contents err.old) (told_of E.contents err.new) result.status) }
 {
     match read_words(alloc, words) {
-        Ok(job) => do_job(rt, alloc, job, input, out, alarm, err),
+        Ok(job) => do_job(
+            rt,
+            alloc,
+            job,
+            origin,
+            input,
+            out,
+            alarm,
+            display_alarm,
+            err,
+        ),
         Err(WordsFault::NoMemory) => without_output(err, Fault::NoMemory),
         Err(WordsFault::Clap(error)) => write_answer(&error, out, err),
     }
@@ -60,33 +76,51 @@ pub fn program<
 
 // Does the job that the arguments name.
 fn do_job<
-    R: Threads + Wait + Clock + Files<File = File> + Sync,
+    R: Threads + Wait + Clock + Files<File = File, Dir: Send> + Sync,
     I: Read + Drop,
     O: Write + Send + Drop,
     A: Write + Send + Drop,
     E: Write,
->(rt: &R, alloc: Global, job: Job, input: I, out: O, alarm: A, err: &mut StandardError<E>) -> Ran<O>
+>(
+    rt: &R,
+    alloc: Global,
+    job: Job,
+    origin: u64,
+    input: I,
+    out: O,
+    alarm: A,
+    display_alarm: A,
+    err: &mut StandardError<E>,
+) -> Ran<O>
     requires { IsInRange job }
     ensures most { result.status ≤ 1 }
-    ensures done { IsDone job (I.remaining input) (O.Write.contents out)
+    ensures done { IsDone job origin (I.remaining input) (O.Write.contents out)
         (option_map (λ left. O.Write.contents left) result.out) (A.Write.contents alarm)
         (told_of E.contents err.old) (told_of E.contents err.new) result.status }
 {
     match job {
-        Job::Replay => replay_input(rt, alloc, input, out, err),
+        Job::Replay { format } => replay_input(rt, alloc, format.since(0), input, out, err),
         Job::Run {
             pace,
             rounds,
             paths,
             record,
+            format,
+            displays,
         } => {
-            let asked = Asked {
+            let tables = Tables {
                 pace,
+                format: format.since(origin),
+            };
+            let asked = Asked {
+                tables,
                 rounds,
+                origin,
                 record: &record,
+                displays: &displays,
                 paths: &paths,
             };
-            run_paths(rt, alloc, asked, out, alarm, err)
+            run_for_displays(rt, alloc, asked, out, alarm, display_alarm, err)
         }
     }
 }

@@ -28,6 +28,8 @@ pub enum Fault<'a> {
     CannotRecord(&'a str),
     /// The record couldn't be written.
     Record,
+    /// This file for displays couldn't be written.
+    CannotWrite(&'a str),
 }
 
 impl Display for Fault<'_> {
@@ -47,6 +49,7 @@ impl Display for Fault<'_> {
             Fault::SeatLost => f.write_str("seat lost"),
             Fault::CannotRecord(path) => write!(f, "cannot record to {path}"),
             Fault::Record => f.write_str("record failed"),
+            Fault::CannotWrite(path) => write!(f, "cannot write {path}"),
         }
     }
 }

@@ -2,8 +2,11 @@
 #![tactic(auto)]
 
 mod bell;
+mod beside;
 mod command_line;
 mod commands;
+mod display_job;
+mod displays;
 mod faults;
 mod kept;
 pub mod laws;
@@ -18,6 +21,7 @@ mod round;
 mod run_job;
 mod schedule;
 mod standard_error;
+mod table_format;
 mod tallies;
 mod threads;
 mod words;
@@ -28,4 +32,5 @@ pub use output::Ran;
 pub use process::{answer, own_words};
 pub use schedule::{Act, Due, Pace, act_at};
 pub use standard_error::StandardError;
+pub use table_format::TableFormat;
 pub use words::{Job, WordsFault, read_words};

@@ -2,6 +2,7 @@
 
 use crate::command_line::program;
 use crate::faults::{Fault, tell};
+use crate::schedule::milliseconds_since_1970;
 use crate::standard_error::StandardError;
 use std::alloc::{AllocError, Global};
 use std::env;
@@ -14,7 +15,7 @@ use std::time::Clock;
 
 /// Runs the program on its arguments, or says why they couldn't be read. Answers the exit status.
 pub fn answer<
-    R: Threads + Wait + Clock + Files<File = File> + Sync,
+    R: Threads + Wait + Clock + Files<File = File, Dir: Send> + Sync,
     I: Read + Drop,
     O: Write + Send + Drop,
     A: Write + Send + Drop,
@@ -26,6 +27,7 @@ pub fn answer<
     input: I,
     out: O,
     alarm: A,
+    display_alarm: A,
     err: E,
 ) -> u8 {
     let mut err = StandardError::new(err);
@@ -37,7 +39,19 @@ pub fn answer<
     let Ok(words) = borrowed(alloc, &owned) else {
         return tell(&mut err, Fault::NoMemory);
     };
-    program(rt, alloc, words.as_slice(), input, out, alarm, &mut err).status
+    let origin = milliseconds_since_1970(rt);
+    program(
+        rt,
+        alloc,
+        words.as_slice(),
+        origin,
+        input,
+        out,
+        alarm,
+        display_alarm,
+        &mut err,
+    )
+    .status
 }
 
 fn not_text<E: Write>(err: &mut StandardError<E>) -> u8 {

@@ -6,11 +6,12 @@ ghost use Rattle.station_main.specs.Rounds.{Asked, EndsRound, Given, GoesOnFrom,
 ghost use Rattle.station_main.specs.Run.{Leaves};
 ghost use Rattle.station_main.specs.Telling.{told_of};
 
+use crate::beside::Beside;
 use crate::faults::{Fault, tell};
 use crate::kept::Kept;
 use crate::limits::AIRCRAFT;
 use crate::output::{Ran, Written};
-use crate::recorder::{Recorder, record_rest};
+use crate::recorder::record_rest;
 use crate::round::{Round, Worked};
 use crate::standard_error::StandardError;
 use crate::tallies::tell_end;
@@ -32,7 +33,7 @@ pub(super) fn finish<L: StationName, R: Wait, O: Write + Drop, E: Write>(
     ensures most { result.status ≤ 1 }
     ensures last { (asked : Asked) (given : Given) (before : Option (List ℕ)) (was is : Option Recording) →
         length worked.receivers.items ≡ asked.inputs → GoesOnFrom given L.start →
-        Leaves L.start asked.pace given.last_tick (newcomer given.entries asked.inputs) worked.reporter
+        Leaves L.start asked.tables given.last_tick (newcomer given.entries asked.inputs) worked.reporter
         before (O.contents worked.written.out) was is worked.written.has_failed →
         IsLast asked given before (option_map (λ left. O.contents left) result.out) was is
         (told_of E.contents err.old) (told_of E.contents err.new) result.status }
@@ -55,16 +56,16 @@ pub(super) fn hand_on<L: StationName, R: Wait, O: Write + Drop, T: Sink, A: Writ
     rt: &R,
     alloc: Global,
     worked: Worked<L, O>,
-    recorder: &mut Option<Recorder<T, A>>,
+    beside: &mut Beside<T, A>,
     err: &mut StandardError<E>,
 ) -> Round<O>
     requires { All (λ r. is_some r.answer ≡ true) worked.receivers.items }
     ensures { (asked : Asked) (given : Given) (before : Option (List ℕ)) (was : Option Recording) →
         length worked.receivers.items ≡ asked.inputs → GoesOnFrom given L.start →
-        Leaves L.start asked.pace given.last_tick (newcomer given.entries asked.inputs) worked.reporter
-        before (O.contents worked.written.out) was recorder.old
+        Leaves L.start asked.tables given.last_tick (newcomer given.entries asked.inputs) worked.reporter
+        before (O.contents worked.written.out) was beside.old.record
         worked.written.has_failed →
-        EndsRound O.contents asked given before was recorder.new
+        EndsRound O.contents asked given before was beside.new.record
         (told_of E.contents err.old) (told_of E.contents err.new) result }
 {
     let Worked {
@@ -81,7 +82,7 @@ pub(super) fn hand_on<L: StationName, R: Wait, O: Write + Drop, T: Sink, A: Writ
             out: Some(out),
         });
     }
-    match keep(rt, alloc, station, receivers, reporter, recorder) {
+    match keep(rt, alloc, station, receivers, reporter, beside) {
         Ok(kept) => Round::GoesOn { out, kept },
         Err(fault) => Round::Over(Ran {
             status: tell(err, fault),
@@ -97,12 +98,12 @@ fn keep<L: StationName, R: Wait, T: Sink, A: Write>(
     station: Station<AIRCRAFT, L>,
     receivers: Vec<Receiver<L>>,
     reporter: Seat<AIRCRAFT, L>,
-    recorder: &mut Option<Recorder<T, A>>,
+    beside: &mut Beside<T, A>,
 ) -> Result<Kept, Fault<'static>>
     ensures kept { IfOk result (λ kept. KeepsRecent L.start reporter (given_of kept)
-        recorder.old recorder.new) }
+        beside.old.record beside.new.record) }
     ensures between { IfErr result IsBetween }
-    ensures same { IfErr result (λ _. recorder.new ≡ recorder.old) }
+    ensures same { IfErr result (λ _. beside.new.record ≡ beside.old.record) }
 {
     let Ok(seats) = seats_of(alloc, reporter, receivers) else {
         station.end(rt);
@@ -114,7 +115,7 @@ fn keep<L: StationName, R: Wait, T: Sink, A: Write>(
                 return Err(Fault::NoMemory);
             };
             record_rest(
-                recorder,
+                &mut beside.record,
                 closed.journal.entries(),
                 kept.recent.entries.len() as u64,
             );

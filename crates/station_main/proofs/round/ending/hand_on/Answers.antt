@@ -7,14 +7,14 @@ use Rattle.station_main.proofs.round.ending.hand_on.Goals as goal
 
 pub returns-then-status-gt0 : goal.returns-then-status-gt0
 returns-then-status-gt0 g c = λ asked given before was many goes_on output.
-    let shown = c.args.recorder.now in
+    let shown = c.args.beside.now.record in
     let told = c.tell_end-status.ensures in
     let one : c.tell_end-status.result ≡ 1 = omega (arith, told.most, c.if-status-gt0.true) in
     (told.most, inl (g.L.StationName.start, c.args.worked.reporter, one, is_round asked given g.L.StationName.start c.args.worked.reporter before _ was shown (λ w. w.answer) c.args.worked.receivers.items c.args.worked.written.has_failed _ _ _ goes_on many output told.told told.value))
 
 pub returns-in-Ok : goal.returns-in-Ok
 returns-in-Ok g c = λ asked given before was many goes_on output.
-    let shown = c.args.recorder.now in
+    let shown = c.args.beside.now.record in
     let told = c.tell_end-status.ensures in
     let none : c.tell_end-status.result ≡ 0 = omega (arith, c.if-status-gt0.false) in
     let round = is_round asked given g.L.StationName.start c.args.worked.reporter before (g.O.Write.contents c.args.worked.written.out) was shown (λ w. w.answer) c.args.worked.receivers.items c.args.worked.written.has_failed
@@ -29,7 +29,7 @@ returns-in-Ok g c = λ asked given before was many goes_on output.
 
 pub returns-in-Err : goal.returns-in-Err
 returns-in-Err g c = λ asked given before was many goes_on output.
-    let shown = c.args.recorder.now in
+    let shown = c.args.beside.now.record in
     let told = c.tell_end-status.ensures in
     let none : c.tell_end-status.result ≡ 0 = omega (arith, c.if-status-gt0.false) in
     let round = is_round asked given g.L.StationName.start c.args.worked.reporter before (g.O.Write.contents c.args.worked.written.out) was shown (λ w. w.answer) c.args.worked.receivers.items c.args.worked.written.has_failed
