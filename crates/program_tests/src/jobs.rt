@@ -1,4 +1,6 @@
 //! The program over words and streams of these tests.
+mod displays;
+mod json;
 mod outputs;
 mod records;
 mod replies;
@@ -10,12 +12,12 @@ mod through_time;
 mod ticks;
 mod words;
 
-use station_main::{StandardError, answer, own_words, program};
+use station_main::{StandardError, exit_code, obey, own_words};
 use std::alloc::{AllocError, Global};
 use std::env::{Env, FillError};
 use std::fs::File;
 use std::io::{self, Read, Write};
-use std::process::Abort;
+use std::process::{Abort, ExitCode};
 use std::rt::Files;
 use std::sync::Wait;
 use std::thread::Threads;
@@ -24,6 +26,9 @@ use std::time::Clock;
 const IDENTIFICATION: &[u8] = b"*8D4840D6202CC371C32CE0576098;\n?\n";
 
 const NO_LINES: &[u8] = b"";
+
+// The time at which these runs start, in milliseconds since 1970.
+const ORIGIN: u64 = 1_700_000_000_000;
 
 const TABLE_OF_NOBODY: &str = concat!(
     "now 0 aircraft 0\n",
@@ -45,6 +50,7 @@ struct Ran {
 struct Told {
     status: u8,
     alarm: Vec<u8>,
+    display_alarm: Vec<u8>,
     err: Vec<u8>,
 }
 
@@ -58,17 +64,28 @@ fn stream(rt: &impl Abort, alloc: Global) -> Vec<u8> {
 
 // Runs the program, and answers its status.
 fn status_of<
-    R: Threads + Wait + Clock + Files<File = File> + Sync,
+    R: Threads + Wait + Clock + Files<File = File, Dir: Send> + Sync,
     I: Read + Drop,
     O: Write + Send + Drop,
     E: Write + Drop,
 >(rt: &R, alloc: Global, words: &[&str], input: I, out: O, err: E) -> u8 {
     let mut err = StandardError::new(err);
-    program(rt, alloc, words, input, out, Vec::new(alloc), &mut err).status
+    obey(
+        rt,
+        alloc,
+        words,
+        ORIGIN,
+        input,
+        out,
+        Vec::new(alloc),
+        Vec::new(alloc),
+        &mut err,
+    )
+    .status
 }
 
 fn run_words<
-    R: Threads + Wait + Clock + Files<File = File> + Sync + AllocGlobal + Abort,
+    R: Threads + Wait + Clock + Files<File = File, Dir: Send> + Sync + AllocGlobal + Abort,
     I: Read + Drop,
 >(rt: &R, words: &[&str], input: I) -> Ran {
     let mut out = stream(rt, rt.alloc());
@@ -78,7 +95,7 @@ fn run_words<
 }
 
 fn replay<
-    R: Threads + Wait + Clock + Files<File = File> + Sync + AllocGlobal + Abort,
+    R: Threads + Wait + Clock + Files<File = File, Dir: Send> + Sync + AllocGlobal + Abort,
     I: Read + Drop,
 >(rt: &R, input: I) -> Ran {
     run_words(rt, ["groundstation", "replay"].as_slice(), input)
@@ -99,27 +116,32 @@ fn words_of<'a>(
 }
 
 // Runs the program on the words of a line and these paths.
-fn run_line<R: Threads + Wait + Clock + Files<File = File> + Sync, O: Write + Send + Drop>(
-    rt: &R,
-    alloc: Global,
-    line: &str,
-    paths: &[&str],
-    out: O,
-) -> Result<Told, AllocError> {
+fn run_line<
+    R: Threads + Wait + Clock + Files<File = File, Dir: Send> + Sync,
+    O: Write + Send + Drop,
+>(rt: &R, alloc: Global, line: &str, paths: &[&str], out: O) -> Result<Told, AllocError> {
     let words = words_of(alloc, line, paths)?;
-    let (mut alarm, mut err) = (Vec::new(alloc), Vec::new(alloc));
+    let (mut alarm, mut display_alarm) = (Vec::new(alloc), Vec::new(alloc));
+    let mut err = Vec::new(alloc);
     let mut reports = StandardError::new(&mut err);
-    let ran = program(
+    let ran = obey(
         rt,
         alloc,
         words.as_slice(),
+        ORIGIN,
         NO_LINES,
         out,
         &mut alarm,
+        &mut display_alarm,
         &mut reports,
     );
     let status = ran.status;
-    Ok(Told { status, alarm, err })
+    Ok(Told {
+        status,
+        alarm,
+        display_alarm,
+        err,
+    })
 }
 
 fn text(bytes: &Vec<u8>) -> &str {
@@ -291,16 +313,17 @@ fn a_word_that_is_not_utf8_is_refused(rt: HostRuntime) {
     let words = own_words(&(NotText, rt.alloc()));
     let alloc = rt.alloc();
     let (mut out, mut err) = (Vec::new(alloc), Vec::new(alloc));
-    let status = answer(
+    let code = exit_code(
         &rt,
         alloc,
         words,
         NO_LINES,
         &mut out,
         Vec::new(alloc),
+        Vec::new(alloc),
         &mut err,
     );
-    assert!(rt; status == 2 && out.is_empty());
+    assert!(rt; code == ExitCode::from(2) && out.is_empty());
     assert_eq!(rt;
         text(&err),
         "error: a word of the command line is not UTF-8\n"

@@ -11,4 +11,5 @@ pub mod WalkLemmas
 pub mod RoomLemmas
 pub mod ForgettingLemmas
 pub mod KeepingLemmas
+pub mod LimitLemmas
 pub mod ForgettingWalkLemmas

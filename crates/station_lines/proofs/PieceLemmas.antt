@@ -1,5 +1,5 @@
 -- The bytes of several reads.
-use Rattle.std.proofs.Common.{◌≡◌, ℕ, ◌+◌, ◌<◌, ◌≤◌, Bool, true, false, not, nat_lt, nat_eq, cond, List, [], ◌++◌, length, take, drop, Option, Some, None, Ok, refl, sym, ap, ◌∙◌, subst, take-append-drop, arith}
+use Rattle.std.proofs.Common.{◌≡◌, ℕ, ◌+◌, ◌*◌, ◌<◌, ◌≤◌, Bool, true, false, not, nat_lt, nat_eq, cond, List, [], ◌++◌, length, take, drop, Option, Some, None, Ok, refl, sym, ap, ◌∙◌, subst, take-append-drop, length-append, arith}
 use Rattle.std.proofs.lemmas.Bool.Decides.{nat_tests}
 use Rattle.std.proofs.lemmas.List.{take_at, drop_at, take-append-le, length-take-le}
 use Rattle.std.specs.Io.KnownBytes.{Consumes, prepend_known}
@@ -7,7 +7,7 @@ use Rattle.std.specs.Io.BufRead.{DropsConsumable}
 use borrow.Rule.Slice.PartMut.{put_mid, post_of}
 use lib.Seq.{take-add}
 use Rattle.station_report.specs.Sink.{counted}
-use Rattle.station_lines.specs.Source.{is_end, counted_up}
+use Rattle.station_lines.specs.Source.{is_end, counted_up, longest_read}
 use Rattle.station_lines.specs.Drawing.{Gives, Drawn, Gathers, ReadsMore}
 use Rattle.station_lines.proofs.DrawingLemmas.{Gives-trans, counted_up-more}
 
@@ -41,6 +41,7 @@ Gathers-more old mid new turns made k n bytes after so_far some few more = recor
   ends = more.ends ∙ ap (λ i. counted (nat_lt 0 n) i) (so_far.ends ∙ ap (λ b. counted b old.ends) not_yet) ∙ ap (λ b. counted b old.ends) found;
   over = λ e. more.over (grind (arith, nat_tests));
   failures = more.failures ∙ so_far.failures;
+  asked = rw (more.held) (omega (arith, length-append bytes more.bytes, so_far.asked, more.many, more.asked));
 }
   where
     not_yet : not (nat_eq k 0) ≡ true
@@ -59,6 +60,7 @@ Gathers-first old new turns n after few more = record {
   ends = more.ends ∙ ap (λ b. counted b old.ends) found;
   over = λ e. more.over (grind (arith, nat_tests));
   failures = more.failures;
+  asked = rw (more.held) (omega (arith, more.many, more.asked));
 }
   where
     found : nat_lt 0 n ≡ not (nat_eq n 0)

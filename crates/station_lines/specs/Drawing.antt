@@ -1,10 +1,10 @@
 -- The lines that a call takes of what its source gives.
-use Rattle.std.specs.Prelude.{◌≡◌, ℕ, ◌<◌, ◌≤◌, Bool, true, false, not, nat_lt, List, length, [], ◌++◌, Option, Result, Ok, Err, OnOk}
+use Rattle.std.specs.Prelude.{◌≡◌, ℕ, ◌*◌, ◌<◌, ◌≤◌, Bool, true, false, not, nat_lt, List, length, [], ◌++◌, Option, Result, Ok, Err, OnOk}
 use Rattle.std.specs.Io.KnownBytes.{Appends, Consumes, Keeps, IsAtEnd}
 use Rattle.modes_frame.specs.declared.cutter.Cut.{Cut}
 use Rattle.modes_frame.specs.Lines.{cuts, ended_cuts, pending}
 use Rattle.station_report.specs.Sink.{counted}
-use Rattle.station_lines.specs.Source.{one_more, counted_up}
+use Rattle.station_lines.specs.Source.{one_more, counted_up, longest_read}
 use Rattle.station_lines.specs.declared.taking.Ended.{Ended}
 use Rattle.station_lines.specs.declared.taking.Ended.TheVariants as Ends
 
@@ -35,7 +35,7 @@ pub record Drawn : Type 0 where
 abbrev pub drawn_of : {S : Type 0} → (S → Option (List ℕ)) → (S → Option (List ℕ)) → (S → ℕ) → (S → ℕ) → (S → ℕ) → S → Drawn
 drawn_of left given reads ends failures source = record { bytes = bytes_of left given source; reads = reads source; ends = ends source; failures = failures source }
 
--- reads made one after another gave these bytes, and the last of them may have found the end
+-- reads made one after another gave these bytes, at most 512 each, and the last of them may have found the end
 pub record Gathers (old new : Drawn) (turns : ℕ) (bytes : List ℕ) (made : ℕ) (is_over : Bool) : Type 0 where
   pub given : Gives old.bytes new.bytes bytes
   pub some : 0 < made
@@ -44,8 +44,9 @@ pub record Gathers (old new : Drawn) (turns : ℕ) (bytes : List ℕ) (made : �
   pub ends : new.ends ≡ counted (not is_over) old.ends
   pub over : is_over ≡ true → IsAtEnd new.bytes.left
   pub failures : new.failures ≡ old.failures
+  pub asked : length bytes ≤ longest_read * made
 
--- a read gave n bytes, which follow those before it
+-- a read of at most 512 bytes gave n, which follow those before it
 pub record ReadsMore (old new : Drawn) (before after : List ℕ) (n : ℕ) : Type 0 where
   pub bytes : List ℕ
   pub held : after ≡ before ++ bytes
@@ -55,6 +56,7 @@ pub record ReadsMore (old new : Drawn) (before after : List ℕ) (n : ℕ) : Typ
   pub ends : new.ends ≡ counted (nat_lt 0 n) old.ends
   pub over : n ≡ 0 → IsAtEnd new.bytes.left
   pub failures : new.failures ≡ old.failures
+  pub asked : n ≤ longest_read
 
 -- a read gave nothing and failed
 pub record FailsOnce (old new : Drawn) : Type 0 where
@@ -92,9 +94,9 @@ pub record Draws (old new : Drawn) (turns : ℕ) (ending : Ending) (lines : List
   pub bytes : Gives old.bytes new.bytes given
   pub front : cuts given ≡ lines ++ left_out
   pub ends : EndsAs given lines left_out turns old new ending
-  -- a read failed exactly where that ended the call, and at most `turns` reads were made
+  -- a read failed exactly where that ended the call. At most `turns` reads were made, of at most 512 bytes each
   pub failures : new.failures ≡ counted (not (is_read_failed ending)) old.failures
-  pub reads : (made : ℕ) × (made ≤ turns) × (new.reads ≡ counted_up made old.reads)
+  pub reads : (made : ℕ) × (made ≤ turns) × (new.reads ≡ counted_up made old.reads) × (length given ≤ longest_read * made)
 
 -- the lines taken, as Took says, of those that end in `bytes`, after the bytes before them: all, or a prefix
 pub record TakesBytes {X E : Type 0} (Took : X → List Cut → Result (Unit {0}) E → X → Type 0) (before bytes : List ℕ) (held : Cut) (x y : X) (result : Result (Unit {0}) E) : Type 0 where

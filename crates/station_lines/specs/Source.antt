@@ -16,6 +16,10 @@ abbrev pub counted_up : ℕ → ℕ → ℕ
 counted_up zero old = old
 counted_up (suc n) old = one_more (counted_up n old)
 
+-- the most bytes asked for by one read
+abbrev pub longest_read : ℕ
+longest_read = 512
+
 -- the most bytes that are gathered from reads made one after another
 abbrev pub longest_piece : ℕ
 longest_piece = 131072

@@ -10,7 +10,7 @@ use Rattle.clap.specs.Lexer.{long_of, short_of}
 use Rattle.std.proofs.lemmas.Slice.Eq.{bytes_eq-Decides}
 use Rattle.clap.specs.Walk.{Held, Names, Outcome, Step, Waiting, Walk, after_flag, after_step, arg_by_index, arg_by_long, bundle, done, idle, long_met, long_or_other, next, option, plain, plain_word, positional, refused, short_or_plain, subcommand, subcommand_met, subcommand_or_other, to_positional, trailing, value, waits, walked, walked_from, word_met, Row, Rule, Text, answers_to, finished, settled, walk, walk_from, nothing_held}
 use Rattle.clap.specs.Words.{subcommand_of}
-use Rattle.station_main.specs.Command.{station}
+use Rattle.station_main.specs.Command.{FormatNames, station}
 use Rattle.station_main.proofs.WalkedLemmas.{both_none, not_none}
 use Rattle.station_main.proofs.RunLemmas.{Among, among, none_some, replay_shape, run_shape, shapes_are, some_same}
 
@@ -118,43 +118,43 @@ not_help word unhelped helped =
 abbrev pub NamesJobOf : Text → Type 0
 NamesJobOf name = (name ≡ codes "replay") ⊎ (name ≡ codes "run")
 
-job_among : (s : Shape) (word : Text) → Among s (replay_shape ∷ run_shape ∷ built_leaf help_shape ∷ []) → answers_to word (label_of s) ≡ true → bytes_eq word (codes "help") ≡ false → NamesJobOf s.name
-job_among s word (inl same) answers unhelped = inl (ap (λ (t : Shape). t.name) (sym same))
-job_among s word (inr (inl same)) answers unhelped = inr (ap (λ (t : Shape). t.name) (sym same))
-job_among s word (inr (inr (inl same))) answers unhelped =
+job_among : (names : FormatNames) (s : Shape) (word : Text) → Among s (replay_shape names ∷ run_shape names ∷ built_leaf help_shape ∷ []) → answers_to word (label_of s) ≡ true → bytes_eq word (codes "help") ≡ false → NamesJobOf s.name
+job_among names s word (inl same) answers unhelped = inl (ap (λ (t : Shape). t.name) (sym same))
+job_among names s word (inr (inl same)) answers unhelped = inr (ap (λ (t : Shape). t.name) (sym same))
+job_among names s word (inr (inr (inl same))) answers unhelped =
     absurd (not_help word unhelped (either_false (bytes_eq (codes "help") word) (subst (λ t. answers_to word (label_of t) ≡ true) (sym same) answers)))
-job_among s word (inr (inr (inr none))) answers unhelped = absurd none
+job_among names s word (inr (inr (inr none))) answers unhelped = absurd none
 
-job_found : (o : Option Shape) (p : Text × List Text) (name : Text) (rows : List Row) → find (λ s. answers_to p.0 (label_of s)) (built station).subs ≡ o
+job_found : (names : FormatNames) (o : Option Shape) (p : Text × List Text) (name : Text) (rows : List Row) → find (λ s. answers_to p.0 (label_of s)) (built (station names)).subs ≡ o
     → option_map (λ s. rows_at s p.1) o ≡ Some (name, rows) → bytes_eq p.0 (codes "help") ≡ false → NamesJobOf name
-job_found None p name rows is e unhelped = absurd (none_some (name, rows) e)
-job_found (Some s) p name rows is e unhelped =
+job_found names None p name rows is e unhelped = absurd (none_some (name, rows) e)
+job_found names (Some s) p name rows is e unhelped =
     let same = some_same (rows_at s p.1) (name, rows) e in
-    let is_among = subst (Among s) shapes_are (among (λ s. answers_to p.0 (label_of s)) (built station).subs s is) in
-    subst NamesJobOf (ap (λ q. q.0) same) (job_among s p.0 is_among (found_true (λ s. answers_to p.0 (label_of s)) (built station).subs s is) unhelped)
+    let is_among = subst (Among s) (shapes_are names) (among (λ s. answers_to p.0 (label_of s)) (built (station names)).subs s is) in
+    subst NamesJobOf (ap (λ q. q.0) same) (job_among names s p.0 is_among (found_true (λ s. answers_to p.0 (label_of s)) (built (station names)).subs s is) unhelped)
 
-job_entered : (stop : Option (Text × List Text)) (name : Text) (rows : List Row) → entered (built station) stop ≡ Some (name, rows) → NoHelp stop → NamesJobOf name
-job_entered None name rows e unhelped = absurd (none_some (name, rows) e)
-job_entered (Some p) name rows e unhelped = job_found (find (λ s. answers_to p.0 (label_of s)) (built station).subs) p name rows refl e unhelped
+job_entered : (names : FormatNames) (stop : Option (Text × List Text)) (name : Text) (rows : List Row) → entered (built (station names)) stop ≡ Some (name, rows) → NoHelp stop → NamesJobOf name
+job_entered names None name rows e unhelped = absurd (none_some (name, rows) e)
+job_entered names (Some p) name rows e unhelped = job_found names (find (λ s. answers_to p.0 (label_of s)) (built (station names)).subs) p name rows refl e unhelped
 
-has_subcommand : (b : Bool) (rows : List Row) → check_fault (built station).top rows b ≡ [] → b ≡ true
-has_subcommand true rows e = refl
-has_subcommand false rows e = absurd (not_none _ _ e)
+has_subcommand : (names : FormatNames) (b : Bool) (rows : List Row) → check_fault (built (station names)).top rows b ≡ [] → b ≡ true
+has_subcommand names true rows e = refl
+has_subcommand names false rows e = absurd (not_none _ _ e)
 
 some_of : {X : Type 0} (o : Option X) → is_some o ≡ true → (x : X) × (o ≡ Some x)
 some_of None e = absurd (search rules)
 some_of (Some x) e = (x, refl)
 
-pub names_job : (words : List Text) → fault_of station words ≡ [] → (name : Text) × (rows : List Row) × (subcommand_of station words ≡ Some (name, rows)) × NamesJobOf name
-names_job words passes =
-    let a = built station in
-    let given = argument_words station words in
+pub names_job : (names : FormatNames) (words : List Text) → fault_of (station names) words ≡ [] → (name : Text) × (rows : List Row) × (subcommand_of (station names) words ≡ Some (name, rows)) × NamesJobOf name
+names_job names words passes =
+    let a = built (station names) in
+    let given = argument_words (station names) words in
     let walked_all = both_none (walk_fault a.top (names_of a) (walk_from nothing_held) given) _ passes in
     let end = (walk a.top.rules (names_of a) nothing_held given).held in
     let stop = (walk a.top.rules (names_of a) nothing_held given).stopped in
     let below = both_none (entered_fault a stop) _ walked_all.1 in
     let settled_all = both_none (settle_fault a.top.rules a.top.args_override_self end) _ below.1 in
     let checked = both_none (defaults_fault (settled a.top.rules end).rows a.top.rules) _ settled_all.1 in
-    let met = some_of (entered a stop) (has_subcommand (is_some (entered a stop)) (finished a.top.rules end) checked.1) in
+    let met = some_of (entered a stop) (has_subcommand names (is_some (entered a stop)) (finished a.top.rules end) checked.1) in
     let unhelped = walk_stop a.top refl (names_of a) (walk_from nothing_held) given walked_all.0 tt in
-    (met.0.0, met.0.1, met.1, job_entered stop met.0.0 met.0.1 met.1 unhelped)
+    (met.0.0, met.0.1, met.1, job_entered names stop met.0.0 met.0.1 met.1 unhelped)

@@ -7,6 +7,7 @@ use Rattle.std.proofs.KnownBytes.{Appends-nil, Appends-trans}
 use Rattle.station_journal.specs.declared.entry.Entry.TheVariants.{Tick}
 use Rattle.station_journal.specs.declared.refusal.Refusal.{Refusal}
 use Rattle.station_report.specs.Sink.{counted}
+use Rattle.station_report.specs.declared.formats.Format.{Format}
 use Rattle.station_report.specs.declared.sinks.WriteFault.{WriteFault}
 use Rattle.station_desk.specs.Start.{Start}
 use Rattle.station_shared.specs.Seats.{Seated, Accepted, Refused, Looks}
@@ -16,6 +17,7 @@ use Rattle.station_main.specs.Reporter.{Acting, IsShowing, Reports, Showing, Sho
 use Rattle.station_main.specs.Recorded.{IfRecording, PrintsAndRecords, Recording, Records, seen_by}
 use Rattle.station_main.specs.declared.schedule.Due.{Due}
 use Rattle.station_main.specs.declared.schedule.Pace.{Pace}
+use Rattle.station_main.specs.declared.schedule.Tables.{Tables}
 use Rattle.station_main.specs.Tables.{Prints, PassesOver, TakesTexts, shown, texts, failures_after}
 use Rattle.station_main.proofs.RecordedLemmas.{no-more-records, no-records, one-more-look}
 
@@ -107,29 +109,29 @@ looks_snoc : (showings : List Showing) (showing : Showing) → looks_of (showing
 looks_snoc [] showing = refl
 looks_snoc (r ∷ rs) showing = ap (λ (ls : List (Option Seated)). r.look ∷ ls) (looks_snoc rs showing)
 
-texts_snoc : (station : Start) (looks : List (Option Seated)) (look : Option Seated) → texts station (looks ++ look ∷ []) ≡ texts station looks ++ shown station look
-texts_snoc station [] look = append-nil (shown station look)
-texts_snoc station (l ∷ ls) look = ap (λ t. shown station l ++ t) (texts_snoc station ls look) ∙ sym (append_assoc (shown station l) (texts station ls) (shown station look))
+texts_snoc : (format : Format) (station : Start) (looks : List (Option Seated)) (look : Option Seated) → texts format station (looks ++ look ∷ []) ≡ texts format station looks ++ shown format station look
+texts_snoc format station [] look = append-nil (shown format station look)
+texts_snoc format station (l ∷ ls) look = ap (λ t. shown format station l ++ t) (texts_snoc format station ls look) ∙ sym (append_assoc (shown format station l) (texts format station ls) (shown format station look))
 
 -- one more table, by what its printing ensures
-pub record PrintsOne (station : Start) (looks : List (Option Seated)) (old new : Seated) (before after : Printed) (failed_before : ℕ) (was is : Option Recording) (result : Result (Unit {0}) WriteFault) : Type 0 where
+pub record PrintsOne (format : Format) (station : Start) (looks : List (Option Seated)) (old new : Seated) (before after : Printed) (failed_before : ℕ) (was is : Option Recording) (result : Result (Unit {0}) WriteFault) : Type 0 where
   pub look : Option Seated
   pub looked : (look ≡ None) × (new ≡ old) ⊎ (look ≡ Some new) × Looks station old new
-  pub takes : TakesTexts station (looks ++ look ∷ []) before.taken after.taken (is_err result)
+  pub takes : TakesTexts format station (looks ++ look ∷ []) before.taken after.taken (is_err result)
   pub failures : after.failures ≡ failures_after (is_err result) failed_before
   pub records : IfRecording (Records (seen_by (look ∷ []))) was is
 
-printed : (station : Start) (looks : List (Option Seated)) (old new : Seated) (start before after : Printed) (was is : Option Recording) (result : Result (Unit {0}) WriteFault)
-    → Appends start.taken before.taken (texts station looks) → before.failures ≡ start.failures → Prints station old new before after result → IfRecording (Records (new.seen ∷ [])) was is
-    → PrintsOne station looks old new start after start.failures was is result
-printed station looks old new start before after was is (Ok done) so_far same prints records = record {
+printed : (format : Format) (station : Start) (looks : List (Option Seated)) (old new : Seated) (start before after : Printed) (was is : Option Recording) (result : Result (Unit {0}) WriteFault)
+    → Appends start.taken before.taken (texts format station looks) → before.failures ≡ start.failures → Prints format station old new before after result → IfRecording (Records (new.seen ∷ [])) was is
+    → PrintsOne format station looks old new start after start.failures was is result
+printed format station looks old new start before after was is (Ok done) so_far same prints records = record {
   look = Some new;
   looked = inr (refl, prints.looks);
-  takes = subst (Appends start.taken after.taken) (sym (texts_snoc station looks (Some new))) (Appends-trans start.taken before.taken after.taken _ _ so_far prints.takes.bytes);
+  takes = subst (Appends start.taken after.taken) (sym (texts_snoc format station looks (Some new))) (Appends-trans start.taken before.taken after.taken _ _ so_far prints.takes.bytes);
   failures = prints.takes.failures ∙ same;
   records = records;
 }
-printed station looks old new start before after was is (Err fault) so_far same prints records = record {
+printed format station looks old new start before after was is (Err fault) so_far same prints records = record {
   look = Some new;
   looked = inr (refl, prints.looks);
   takes = record {
@@ -145,34 +147,34 @@ printed station looks old new start before after was is (Err fault) so_far same 
   records = records;
 }
 
-passed : (station : Start) (looks : List (Option Seated)) (old new : Seated) (start before after : Printed) (was is : Option Recording) (result : Result (Unit {0}) WriteFault)
-    → Appends start.taken before.taken (texts station looks) → before.failures ≡ start.failures → PassesOver old new before after result → is ≡ was
-    → PrintsOne station looks old new start after start.failures was is result
-passed station looks old new start before after was is (Ok done) so_far same passes unchanged = record {
+passed : (format : Format) (station : Start) (looks : List (Option Seated)) (old new : Seated) (start before after : Printed) (was is : Option Recording) (result : Result (Unit {0}) WriteFault)
+    → Appends start.taken before.taken (texts format station looks) → before.failures ≡ start.failures → PassesOver old new before after result → is ≡ was
+    → PrintsOne format station looks old new start after start.failures was is result
+passed format station looks old new start before after was is (Ok done) so_far same passes unchanged = record {
   look = None;
   looked = inl (refl, passes.same_seat);
-  takes = subst (λ (p : Printed). Appends start.taken p.taken (texts station (looks ++ None ∷ []))) (sym passes.same_sink)
-      (subst (Appends start.taken before.taken) (sym (texts_snoc station looks None ∙ append-nil (texts station looks))) so_far);
+  takes = subst (λ (p : Printed). Appends start.taken p.taken (texts format station (looks ++ None ∷ []))) (sym passes.same_sink)
+      (subst (Appends start.taken before.taken) (sym (texts_snoc format station looks None ∙ append-nil (texts format station looks))) so_far);
   failures = ap (λ (p : Printed). p.failures) passes.same_sink ∙ same;
   records = no-more-records was is unchanged;
 }
-passed station looks old new start before after was is (Err fault) so_far same passes unchanged = absurd (search rules)
+passed format station looks old new start before after was is (Err fault) so_far same passes unchanged = absurd (search rules)
 
-pub printed_at_most : (station : Start) (looks : List (Option Seated)) (old new : Seated) (start before after : Printed) (was is : Option Recording) (result : Result (Unit {0}) WriteFault)
-    → Appends start.taken before.taken (texts station looks) → before.failures ≡ start.failures → PrintsAndRecords station old new before after was is result
-    → PrintsOne station looks old new start after start.failures was is result
-printed_at_most station looks old new start before after was is result so_far same (inl prints) = printed station looks old new start before after was is result so_far same prints.0 prints.1
-printed_at_most station looks old new start before after was is result so_far same (inr passes) = passed station looks old new start before after was is result so_far same passes.0 passes.1
+pub printed_at_most : (format : Format) (station : Start) (looks : List (Option Seated)) (old new : Seated) (start before after : Printed) (was is : Option Recording) (result : Result (Unit {0}) WriteFault)
+    → Appends start.taken before.taken (texts format station looks) → before.failures ≡ start.failures → PrintsAndRecords format station old new before after was is result
+    → PrintsOne format station looks old new start after start.failures was is result
+printed_at_most format station looks old new start before after was is result so_far same (inl prints) = printed format station looks old new start before after was is result so_far same prints.0 prints.1
+printed_at_most format station looks old new start before after was is result so_far same (inr passes) = passed format station looks old new start before after was is result so_far same passes.0 passes.1
 
 -- the showings so far, by the times that a clock gave after the first ones, and what is due next
-pub record ReportsTo (station : Start) (pace : Pace) (last : ℕ) (due : Due) (given given_now : Option (List ℕ)) (old new : Seated) (before after : Printed) (was is : Option Recording) (has_failed : Bool) : Type 0 where
+pub record ReportsTo (station : Start) (tables : Tables) (last : ℕ) (due : Due) (given given_now : Option (List ℕ)) (old new : Seated) (before after : Printed) (was is : Option Recording) (has_failed : Bool) : Type 0 where
   pub moments : List ℕ
   pub are_given : Appends given given_now moments
-  pub due_is : due ≡ due_after pace (after_table pace last) moments
-  pub reports : Reports station pace last moments old new before after was is has_failed
+  pub due_is : due ≡ due_after tables.pace (after_table tables.pace last) moments
+  pub reports : Reports station tables last moments old new before after was is has_failed
 
-pub no_moment : (station : Start) (pace : Pace) (last : ℕ) (seat : Seated) (sink : Printed) (was : Option Recording) → Reports station pace last [] seat seat sink sink was was false
-no_moment station pace last seat sink was = record { showings = []; keeps = record { due = refl; walk = refl }; takes = Appends-nil sink.taken; failures = refl; records = no-records was }
+pub no_moment : (station : Start) (tables : Tables) (last : ℕ) (seat : Seated) (sink : Printed) (was : Option Recording) → Reports station tables last [] seat seat sink sink was was false
+no_moment station tables last seat sink was = record { showings = []; keeps = record { due = refl; walk = refl }; takes = Appends-nil sink.taken; failures = refl; records = no-records was }
 
 -- the acts up to one more time
 acts-then : (pace : Pace) (last : ℕ) (due next : Due) (now : ℕ) (moments : List ℕ) (acts : List Acting) → due ≡ due_after pace (after_table pace last) moments → OneMore pace due next now acts
@@ -187,19 +189,19 @@ due-then pace last due next now moments acts is more =
     sym (due_after-append pace (after_table pace last) moments (now ∷ []) ∙ ap (λ (d : Due). due_after pace d (now ∷ [])) (sym is) ∙ more.after)
 
 -- nothing is done at a time at which nothing is due
-pub one_more_sleep : (station : Start) (pace : Pace) (last : ℕ) (due : Due) (now : ℕ) (given given_before given_now : Option (List ℕ)) (old new : Seated) (before after : Printed) (was is : Option Recording) (has_failed : Bool)
-    → ReportsTo station pace last due given given_before old new before after was is has_failed → Appends given_before given_now (now ∷ []) → now < due.table → has_come due.tick now ≡ false
-    → ReportsTo station pace last due given given_now old new before after was is has_failed
-one_more_sleep station pace last due now given given_before given_now old new before after was is has_failed so_far gives early none =
-    let more = nothing-due pace due now early none in
+pub one_more_sleep : (station : Start) (tables : Tables) (last : ℕ) (due : Due) (now : ℕ) (given given_before given_now : Option (List ℕ)) (old new : Seated) (before after : Printed) (was is : Option Recording) (has_failed : Bool)
+    → ReportsTo station tables last due given given_before old new before after was is has_failed → Appends given_before given_now (now ∷ []) → now < due.table → has_come due.tick now ≡ false
+    → ReportsTo station tables last due given given_now old new before after was is has_failed
+one_more_sleep station tables last due now given given_before given_now old new before after was is has_failed so_far gives early none =
+    let more = nothing-due tables.pace due now early none in
     record {
       moments = so_far.moments ++ now ∷ [];
       are_given = Appends-trans given given_before given_now _ _ so_far.are_given gives;
-      due_is = due-then pace last due due now so_far.moments [] so_far.due_is more;
+      due_is = due-then tables.pace last due due now so_far.moments [] so_far.due_is more;
       reports = record {
         showings = so_far.reports.showings;
         keeps = record {
-          due = so_far.reports.keeps.due ∙ sym (acts-then pace last due due now so_far.moments [] so_far.due_is more ∙ append-nil (due_moments pace (after_table pace last) so_far.moments));
+          due = so_far.reports.keeps.due ∙ sym (acts-then tables.pace last due due now so_far.moments [] so_far.due_is more ∙ append-nil (due_moments tables.pace (after_table tables.pace last) so_far.moments));
           walk = so_far.reports.keeps.walk;
         };
         takes = so_far.reports.takes;
@@ -209,28 +211,28 @@ one_more_sleep station pace last due now given given_before given_now old new be
     }
 
 -- a tick alone, at a time at which only that is due
-pub one_more_tick : (station : Start) (pace : Pace) (last : ℕ) (due : Due) (now : ℕ) (given given_before given_now : Option (List ℕ)) (old mid new : Seated) (start before : Printed) (first was : Option Recording)
-    → ReportsTo station pace last due given given_before old mid start before first was false → Appends given_before given_now (now ∷ []) → now < due.table → has_come due.tick now ≡ true
+pub one_more_tick : (station : Start) (tables : Tables) (last : ℕ) (due : Due) (now : ℕ) (given given_before given_now : Option (List ℕ)) (old mid new : Seated) (start before : Printed) (first was : Option Recording)
+    → ReportsTo station tables last due given given_before old mid start before first was false → Appends given_before given_now (now ∷ []) → now < due.table → has_come due.tick now ≡ true
     → Ticks station mid now new
-    → ReportsTo station pace last (after_tick pace due now) given given_now old new start before first was false
-one_more_tick station pace last due now given given_before given_now old mid new start before first was so_far gives early come ticks =
-    let more = tick-due pace due now early come in
+    → ReportsTo station tables last (after_tick tables.pace due now) given given_now old new start before first was false
+one_more_tick station tables last due now given given_before given_now old mid new start before first was so_far gives early come ticks =
+    let more = tick-due tables.pace due now early come in
     let showings = so_far.reports.showings in
     let showing : Showing = record { acting = record { at = now; has_table = false }; ticked = new; look = None } in
     let shows : IsShowing station mid showing = record { ticks = ticks; looks = tt; alone = λ _. refl } in
     record {
       moments = so_far.moments ++ now ∷ [];
       are_given = Appends-trans given given_before given_now _ _ so_far.are_given gives;
-      due_is = due-then pace last due (after_tick pace due now) now so_far.moments _ so_far.due_is more;
+      due_is = due-then tables.pace last due (after_tick tables.pace due now) now so_far.moments _ so_far.due_is more;
       reports = record {
         showings = showings ++ showing ∷ [];
         keeps = record {
           due = acts_snoc showings showing ∙ ap (λ (acts : List Acting). acts ++ showing.acting ∷ []) so_far.reports.keeps.due
-              ∙ sym (acts-then pace last due (after_tick pace due now) now so_far.moments _ so_far.due_is more);
+              ∙ sym (acts-then tables.pace last due (after_tick tables.pace due now) now so_far.moments _ so_far.due_is more);
           walk = Showings_snoc station old mid showings showing so_far.reports.keeps.walk shows;
         };
-        takes = subst (λ ls. TakesTexts station ls start.taken before.taken false) (sym (looks_snoc showings showing))
-            (subst (Appends start.taken before.taken) (sym (texts_snoc station (looks_of showings) None ∙ append-nil (texts station (looks_of showings)))) so_far.reports.takes);
+        takes = subst (λ ls. TakesTexts tables.format station ls start.taken before.taken false) (sym (looks_snoc showings showing))
+            (subst (Appends start.taken before.taken) (sym (texts_snoc tables.format station (looks_of showings) None ∙ append-nil (texts tables.format station (looks_of showings)))) so_far.reports.takes);
         failures = so_far.reports.failures;
         records = subst (λ (ls : List (Option Seated)). IfRecording (Records (seen_by ls)) first was) (sym (looks_snoc showings showing))
             (one-more-look (looks_of showings) None first was was so_far.reports.records (no-more-records was was refl));
@@ -255,29 +257,29 @@ pub ticks_of : {N : Type 0} (station : Start) (old new : Seated) (at : ℕ) (nam
 ticks_of station old new at name n (Ok receipt) accepted refused = inl (receipt, accepted.1)
 ticks_of station old new at name n (Err refusal) accepted refused = inr (refusal, refused)
 
-pub one_more_showing : (station : Start) (pace : Pace) (last : ℕ) (due : Due) (now : ℕ) (given given_before given_now : Option (List ℕ)) (old mid ticked new : Seated) (start before after : Printed) (first was is : Option Recording) (result : Result (Unit {0}) WriteFault)
-    → ReportsTo station pace last due given given_before old mid start before first was false → Appends given_before given_now (now ∷ []) → due.table ≤ now
-    → Ticks station mid now ticked → PrintsAndRecords station ticked new before after was is result
-    → ReportsTo station pace last (after_table pace now) given given_now old new start after first is (is_err result)
-one_more_showing station pace last due now given given_before given_now old mid ticked new start before after first was is result so_far gives late ticks prints =
-    let more = table-due pace due now late in
+pub one_more_showing : (station : Start) (tables : Tables) (last : ℕ) (due : Due) (now : ℕ) (given given_before given_now : Option (List ℕ)) (old mid ticked new : Seated) (start before after : Printed) (first was is : Option Recording) (result : Result (Unit {0}) WriteFault)
+    → ReportsTo station tables last due given given_before old mid start before first was false → Appends given_before given_now (now ∷ []) → due.table ≤ now
+    → Ticks station mid now ticked → PrintsAndRecords tables.format station ticked new before after was is result
+    → ReportsTo station tables last (after_table tables.pace now) given given_now old new start after first is (is_err result)
+one_more_showing station tables last due now given given_before given_now old mid ticked new start before after first was is result so_far gives late ticks prints =
+    let more = table-due tables.pace due now late in
     let showings = so_far.reports.showings in
-    let p = printed_at_most station (looks_of showings) ticked new start before after was is result so_far.reports.takes so_far.reports.failures prints in
+    let p = printed_at_most tables.format station (looks_of showings) ticked new start before after was is result so_far.reports.takes so_far.reports.failures prints in
     let showing : Showing = record { acting = record { at = now; has_table = true }; ticked = ticked; look = p.look } in
     let shows : IsShowing station mid showing = record { ticks = ticks; looks = looked_is station ticked new p.look p.looked; alone = λ (e : true ≡ false). absurd (search rules) } in
     record {
       moments = so_far.moments ++ now ∷ [];
       are_given = Appends-trans given given_before given_now _ _ so_far.are_given gives;
-      due_is = due-then pace last due (after_table pace now) now so_far.moments _ so_far.due_is more;
+      due_is = due-then tables.pace last due (after_table tables.pace now) now so_far.moments _ so_far.due_is more;
       reports = record {
         showings = showings ++ showing ∷ [];
         keeps = record {
           due = acts_snoc showings showing ∙ ap (λ (acts : List Acting). acts ++ showing.acting ∷ []) so_far.reports.keeps.due
-              ∙ sym (acts-then pace last due (after_table pace now) now so_far.moments _ so_far.due_is more);
+              ∙ sym (acts-then tables.pace last due (after_table tables.pace now) now so_far.moments _ so_far.due_is more);
           walk = subst (Showings station old (showings ++ showing ∷ [])) (end_of station ticked new now p.look p.looked)
               (Showings_snoc station old mid showings showing so_far.reports.keeps.walk shows);
         };
-        takes = subst (λ ls. TakesTexts station ls start.taken after.taken (is_err result)) (sym (looks_snoc showings showing)) p.takes;
+        takes = subst (λ ls. TakesTexts tables.format station ls start.taken after.taken (is_err result)) (sym (looks_snoc showings showing)) p.takes;
         failures = p.failures;
         records = subst (λ (ls : List (Option Seated)). IfRecording (Records (seen_by ls)) first is) (sym (looks_snoc showings showing))
             (one-more-look (looks_of showings) p.look first was is so_far.reports.records p.records);

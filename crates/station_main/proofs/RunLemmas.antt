@@ -26,7 +26,7 @@ use Rattle.clap.specs.declared.builder.value_parser.ValueParser.TheVariants.{Sig
 use Rattle.clap.specs.declared.parser.matches.ValueSource.{ValueSource}
 use Rattle.clap.specs.declared.parser.matches.ValueSource.TheVariants.{CommandLine, DefaultValue}
 use Rattle.clap.proofs.OnLiterals.{clap_on_literals}
-use Rattle.station_main.specs.Command.{IsGiven, IsNumberUpTo, every, number, path, record_file, replay, rounds, run, station, tick}
+use Rattle.station_main.specs.Command.{FormatNames, IsGiven, IsNumberUpTo, every, format, json_folder, number, path, record_file, replay, rounds, run, station, tick}
 use Rattle.station_main.proofs.WalkedLemmas.{Keeps, both_none, not_none, settles, walks}
 
 -- ---- rows
@@ -35,13 +35,13 @@ use Rattle.station_main.proofs.WalkedLemmas.{Keeps, both_none, not_none, settles
 abbrev pub IsNumber : Text → ℕ → Row → Type 0
 IsNumber id most r = (r.id ≡ id) × (r.reading ≡ WithoutMinus) × ((v : Text) × (r.values ≡ v ∷ []) × (is_signed_in (pos 1) (pos most) v ≡ true))
 
--- the row of `--every`, `--tick`, `--rounds`, PATH or `--record` after an accepted use or a default
+-- the row of `--every`, `--tick`, `--rounds`, PATH, `--record`, `--format` or `--json` after an accepted use or a default
 abbrev pub Good : Row → Type 0
 Good r = IsNumber (codes "every") 3600000 r
     ⊎ (IsNumber (codes "tick") 60000 r
     ⊎ (IsNumber (codes "rounds") 1000 r
     ⊎ (((r.id ≡ codes "path") × (1 ≤ length r.values) × (length r.values ≤ 8))
-    ⊎ (r.id ≡ codes "record"))))
+    ⊎ ((r.id ≡ codes "record") ⊎ ((r.id ≡ codes "format") ⊎ (r.id ≡ codes "json"))))))
 
 abbrev pub Fine : List Row → Type 0
 Fine [] = ⊤
@@ -113,6 +113,12 @@ rounds_rule = with_index 1 (filled rounds)
 
 abbrev pub record_rule : Rule
 record_rule = with_index 1 (filled record_file)
+
+abbrev pub format_rule : FormatNames → Rule
+format_rule names = with_index 1 (filled (format names))
+
+abbrev pub json_rule : Rule
+json_rule = with_index 1 (filled json_folder)
 
 abbrev pub path_rule : Rule
 path_rule = with_index 1 (filled path)
@@ -187,7 +193,25 @@ keeps_record (v ∷ vs) rows e f =
     let counted = both_none (range_kinds 1 1 (length (v ∷ vs))) (set_fault false record_rule (v ∷ vs) rows) e in
     let parts = both_none (repeat_fault false (codes "record") rows) (values_fault record_rule (v ∷ vs)) counted.1 in
     let none = not_repeated (has_row (codes "record") rows) parts.0 in
-    subst Fine (sym (set_adds (codes "record") AsWritten (v ∷ vs) rows none)) (fine_snoc rows (row_for CommandLine (codes "record") AsWritten (v ∷ vs)) f (inr (inr (inr (inr refl)))))
+    subst Fine (sym (set_adds (codes "record") AsWritten (v ∷ vs) rows none)) (fine_snoc rows (row_for CommandLine (codes "record") AsWritten (v ∷ vs)) f (inr (inr (inr (inr (inl refl))))))
+
+keeps_format : (names : FormatNames) (values : List Text) (rows : List Row) → use_fault false (format_rule names) values rows ≡ [] → Fine rows → Fine (used (format_rule names) values rows)
+unfolding row_for
+keeps_format names [] rows e f = absurd (not_none _ _ e)
+keeps_format names (v ∷ vs) rows e f =
+    let counted = both_none (range_kinds 1 1 (length (v ∷ vs))) (set_fault false (format_rule names) (v ∷ vs) rows) e in
+    let parts = both_none (repeat_fault false (codes "format") rows) (values_fault (format_rule names) (v ∷ vs)) counted.1 in
+    let none = not_repeated (has_row (codes "format") rows) parts.0 in
+    subst Fine (sym (set_adds (codes "format") AsWritten (v ∷ vs) rows none)) (fine_snoc rows (row_for CommandLine (codes "format") AsWritten (v ∷ vs)) f (inr (inr (inr (inr (inr (inl refl)))))))
+
+keeps_json : (values : List Text) (rows : List Row) → use_fault false json_rule values rows ≡ [] → Fine rows → Fine (used json_rule values rows)
+unfolding row_for
+keeps_json [] rows e f = absurd (not_none _ _ e)
+keeps_json (v ∷ vs) rows e f =
+    let counted = both_none (range_kinds 1 1 (length (v ∷ vs))) (set_fault false json_rule (v ∷ vs) rows) e in
+    let parts = both_none (repeat_fault false (codes "json") rows) (values_fault json_rule (v ∷ vs)) counted.1 in
+    let none = not_repeated (has_row (codes "json") rows) parts.0 in
+    subst Fine (sym (set_adds (codes "json") AsWritten (v ∷ vs) rows none)) (fine_snoc rows (row_for CommandLine (codes "json") AsWritten (v ∷ vs)) f (inr (inr (inr (inr (inr (inr refl)))))))
 
 keeps_help : (values : List Text) (rows : List Row) → use_fault false help_flag values rows ≡ [] → Fine rows → Fine (used help_flag values rows)
 keeps_help values rows e f = absurd (not_none _ _ (both_none (range_kinds 0 0 (length values)) (kind.DisplayHelp ∷ []) e).1)
@@ -204,25 +228,27 @@ pub among : {X : Type 0} (test : X → Bool) (xs : List X) (a : X) → find test
 among test [] a e = absurd (none_some a e)
 among test (x ∷ xs) a e = among_step (test x) x (find test xs) xs a e (among test xs a)
 
-abbrev run_rules : List Rule
-run_rules = every_rule ∷ tick_rule ∷ rounds_rule ∷ record_rule ∷ path_rule ∷ help_flag ∷ []
+abbrev run_rules : FormatNames → List Rule
+run_rules names = every_rule ∷ tick_rule ∷ format_rule names ∷ json_rule ∷ rounds_rule ∷ record_rule ∷ path_rule ∷ help_flag ∷ []
 
-keeps_among : (a : Rule) (values : List Text) (rows : List Row) → Among a run_rules → use_fault false a values rows ≡ [] → Fine rows → Fine (used a values rows)
-keeps_among a values rows (inl same) e f = subst (λ b. Fine (used b values rows)) same (keeps_every values rows (subst (λ b. use_fault false b values rows ≡ []) (sym same) e) f)
-keeps_among a values rows (inr (inl same)) e f = subst (λ b. Fine (used b values rows)) same (keeps_tick values rows (subst (λ b. use_fault false b values rows ≡ []) (sym same) e) f)
-keeps_among a values rows (inr (inr (inl same))) e f = subst (λ b. Fine (used b values rows)) same (keeps_rounds values rows (subst (λ b. use_fault false b values rows ≡ []) (sym same) e) f)
-keeps_among a values rows (inr (inr (inr (inl same)))) e f = subst (λ b. Fine (used b values rows)) same (keeps_record values rows (subst (λ b. use_fault false b values rows ≡ []) (sym same) e) f)
-keeps_among a values rows (inr (inr (inr (inr (inl same))))) e f = subst (λ b. Fine (used b values rows)) same (keeps_path values rows (subst (λ b. use_fault false b values rows ≡ []) (sym same) e) f)
-keeps_among a values rows (inr (inr (inr (inr (inr (inl same)))))) e f = subst (λ b. Fine (used b values rows)) same (keeps_help values rows (subst (λ b. use_fault false b values rows ≡ []) (sym same) e) f)
-keeps_among a values rows (inr (inr (inr (inr (inr (inr none)))))) e f = absurd none
+keeps_among : (names : FormatNames) (a : Rule) (values : List Text) (rows : List Row) → Among a (run_rules names) → use_fault false a values rows ≡ [] → Fine rows → Fine (used a values rows)
+keeps_among names a values rows (inl same) e f = subst (λ b. Fine (used b values rows)) same (keeps_every values rows (subst (λ b. use_fault false b values rows ≡ []) (sym same) e) f)
+keeps_among names a values rows (inr (inl same)) e f = subst (λ b. Fine (used b values rows)) same (keeps_tick values rows (subst (λ b. use_fault false b values rows ≡ []) (sym same) e) f)
+keeps_among names a values rows (inr (inr (inl same))) e f = subst (λ b. Fine (used b values rows)) same (keeps_format names values rows (subst (λ b. use_fault false b values rows ≡ []) (sym same) e) f)
+keeps_among names a values rows (inr (inr (inr (inl same)))) e f = subst (λ b. Fine (used b values rows)) same (keeps_json values rows (subst (λ b. use_fault false b values rows ≡ []) (sym same) e) f)
+keeps_among names a values rows (inr (inr (inr (inr (inl same))))) e f = subst (λ b. Fine (used b values rows)) same (keeps_rounds values rows (subst (λ b. use_fault false b values rows ≡ []) (sym same) e) f)
+keeps_among names a values rows (inr (inr (inr (inr (inr (inl same)))))) e f = subst (λ b. Fine (used b values rows)) same (keeps_record values rows (subst (λ b. use_fault false b values rows ≡ []) (sym same) e) f)
+keeps_among names a values rows (inr (inr (inr (inr (inr (inr (inl same))))))) e f = subst (λ b. Fine (used b values rows)) same (keeps_path values rows (subst (λ b. use_fault false b values rows ≡ []) (sym same) e) f)
+keeps_among names a values rows (inr (inr (inr (inr (inr (inr (inr (inl same)))))))) e f = subst (λ b. Fine (used b values rows)) same (keeps_help values rows (subst (λ b. use_fault false b values rows ≡ []) (sym same) e) f)
+keeps_among names a values rows (inr (inr (inr (inr (inr (inr (inr (inr none)))))))) e f = absurd none
 
 -- ---- the command line of `run`
 
-abbrev pub run_shape : Shape
-run_shape = built_leaf (inherited (with_leaf_noted (marked_built station.top)) run.top)
+abbrev pub run_shape : FormatNames → Shape
+run_shape names = built_leaf (inherited (with_leaf_noted (marked_built (station names).top)) (run names).top)
 
-keeps_run : Keeps run_shape.rules run_shape.args_override_self Fine
-keeps_run a values rows found e f = keeps_among a values rows (among found.0 run_shape.rules a found.1) e f
+keeps_run : (names : FormatNames) → Keeps (run_shape names).rules (run_shape names).args_override_self Fine
+keeps_run names a values rows found e f = keeps_among names a values rows (among found.0 (run_shape names).rules a found.1) e f
 
 either_way : (b : Bool) (rows : List Row) → (if b then rows else rows) ≡ rows
 either_way true rows = refl
@@ -247,16 +273,20 @@ rounds_default false rows is f =
     let added = absent (codes "rounds") (more_values DefaultValue (codes "1" ∷ [])) (row ∷ []) rows is in
     (subst Fine (sym added) (fine_snoc rows row f (inr (inr (inl (refl, refl, (codes "1", refl, refl)))))), ap (has_row (codes "rounds")) added ∙ has_last (codes "rounds") rows row refl)
 
-finished_is : (rows : List Row) → fold with_default rows run_rules ≡ with_default rows rounds_rule
-finished_is rows =
+finished_is : (names : FormatNames) (rows : List Row) → fold with_default rows (run_rules names) ≡ with_default rows rounds_rule
+finished_is names rows =
     let after = with_default rows rounds_rule in
     let of_every = either_way (has_row (codes "every") rows) rows in
     let of_tick = either_way (has_row (codes "tick") rows) rows in
+    let of_format = either_way (has_row (codes "format") rows) rows in
+    let of_json = either_way (has_row (codes "json") rows) rows in
     let of_record = either_way (has_row (codes "record") after) after in
     let of_path = either_way (has_row (codes "path") after) after in
     let of_help = either_way (has_row (codes "help") after) after in
-    ap (λ t. fold with_default t (tick_rule ∷ rounds_rule ∷ record_rule ∷ path_rule ∷ help_flag ∷ [])) of_every
-    ∙ ap (λ t. fold with_default t (rounds_rule ∷ record_rule ∷ path_rule ∷ help_flag ∷ [])) of_tick
+    ap (λ t. fold with_default t (tick_rule ∷ format_rule names ∷ json_rule ∷ rounds_rule ∷ record_rule ∷ path_rule ∷ help_flag ∷ [])) of_every
+    ∙ ap (λ t. fold with_default t (format_rule names ∷ json_rule ∷ rounds_rule ∷ record_rule ∷ path_rule ∷ help_flag ∷ [])) of_tick
+    ∙ ap (λ t. fold with_default t (json_rule ∷ rounds_rule ∷ record_rule ∷ path_rule ∷ help_flag ∷ [])) of_format
+    ∙ ap (λ t. fold with_default t (rounds_rule ∷ record_rule ∷ path_rule ∷ help_flag ∷ [])) of_json
     ∙ ap (λ t. fold with_default t (path_rule ∷ help_flag ∷ [])) of_record
     ∙ ap (λ t. fold with_default t (help_flag ∷ [])) of_path ∙ of_help
 
@@ -272,20 +302,20 @@ there (Some r) e = (r, refl)
 abbrev HasAll : List Row → Type 0
 HasAll rows = Fine rows × (is_given (codes "every") rows ≡ true) × (has_row (codes "rounds") rows ≡ true) × (is_given (codes "path") rows ≡ true)
 
-run_level : (words : List Text) → level_fault run_shape [] nothing_held words false [] ≡ [] → HasAll (rows_after run_shape.rules [] words)
-run_level words e =
-    let end = (walk run_shape.rules [] nothing_held words).held in
-    let walked_on = both_none (walk_fault run_shape [] (walk_from nothing_held) words) (or_else (settle_fault run_shape.rules false end) (or_else (defaults_fault (settled run_shape.rules end).rows run_shape.rules) (check_fault run_shape (finished run_shape.rules end) false))) e in
-    let ended = both_none (settle_fault run_shape.rules false end) (or_else (defaults_fault (settled run_shape.rules end).rows run_shape.rules) (check_fault run_shape (finished run_shape.rules end) false)) walked_on.1 in
-    let checked = both_none (defaults_fault (settled run_shape.rules end).rows run_shape.rules) (check_fault run_shape (finished run_shape.rules end) false) ended.1 in
-    let fine_end = walks run_shape Fine keeps_run [] (walk_from nothing_held) words walked_on.0 tt in
-    let fine_settled = settles run_shape Fine keeps_run end ended.0 fine_end in
-    let settled_is = (settled run_shape.rules end).rows in
+run_level : (names : FormatNames) (words : List Text) → level_fault (run_shape names) [] nothing_held words false [] ≡ [] → HasAll (rows_after (run_shape names).rules [] words)
+run_level names words e =
+    let end = (walk (run_shape names).rules [] nothing_held words).held in
+    let walked_on = both_none (walk_fault (run_shape names) [] (walk_from nothing_held) words) (or_else (settle_fault (run_shape names).rules false end) (or_else (defaults_fault (settled (run_shape names).rules end).rows (run_shape names).rules) (check_fault (run_shape names) (finished (run_shape names).rules end) false))) e in
+    let ended = both_none (settle_fault (run_shape names).rules false end) (or_else (defaults_fault (settled (run_shape names).rules end).rows (run_shape names).rules) (check_fault (run_shape names) (finished (run_shape names).rules end) false)) walked_on.1 in
+    let checked = both_none (defaults_fault (settled (run_shape names).rules end).rows (run_shape names).rules) (check_fault (run_shape names) (finished (run_shape names).rules end) false) ended.1 in
+    let fine_end = walks (run_shape names) Fine (keeps_run names) [] (walk_from nothing_held) words walked_on.0 tt in
+    let fine_settled = settles (run_shape names) Fine (keeps_run names) end ended.0 fine_end in
+    let settled_is = (settled (run_shape names).rules end).rows in
     let by_default = rounds_default (has_row (codes "rounds") settled_is) settled_is refl fine_settled in
-    let fine = subst Fine (sym (finished_is settled_is)) by_default.0 in
-    let rows = finished run_shape.rules end in
+    let fine = subst Fine (sym (finished_is names settled_is)) by_default.0 in
+    let rows = finished (run_shape names).rules end in
     let given = both_given (is_given (codes "every") rows) (is_given (codes "path") rows) kind.MissingRequiredArgument checked.1 in
-    (fine, given.0, ap (has_row (codes "rounds")) (finished_is settled_is) ∙ by_default.1, given.1)
+    (fine, given.0, ap (has_row (codes "rounds")) (finished_is names settled_is) ∙ by_default.1, given.1)
 
 -- ---- from the whole line down to `run`
 
@@ -308,29 +338,29 @@ level_down : (a : App) (stop : Option (Text × List Text)) (name : Text) (rows :
 level_down a None name rows e f = absurd (none_some (name, rows) e)
 level_down a (Some p) name rows e f = level_found (find (λ s. answers_to p.0 (label_of s)) a.subs) _ a.subs p.1 name rows refl e f
 
-abbrev pub replay_shape : Shape
-replay_shape = built_leaf (inherited (with_leaf_noted (marked_built station.top)) replay.top)
+abbrev pub replay_shape : FormatNames → Shape
+replay_shape names = built_leaf (inherited (with_leaf_noted (marked_built (station names).top)) (replay names).top)
 
-run_among : (s : Shape) (words : List Text) (rows : List Row) → Among s (replay_shape ∷ run_shape ∷ built_leaf help_shape ∷ []) → s.name ≡ codes "run"
+run_among : (names : FormatNames) (s : Shape) (words : List Text) (rows : List Row) → Among s (replay_shape names ∷ run_shape names ∷ built_leaf help_shape ∷ []) → s.name ≡ codes "run"
     → level_fault s [] nothing_held words false [] ≡ [] → rows_after s.rules [] words ≡ rows → HasAll rows
-run_among s words rows (inl same) name_is passes rows_are = let bad : 6 ≡ 3 = ap (λ (t : Text). length t) (ap (λ (t : Shape). t.name) same ∙ name_is) in absurd (omega (arith, bad))
-run_among s words rows (inr (inl same)) name_is passes rows_are =
+run_among names s words rows (inl same) name_is passes rows_are = let bad : 6 ≡ 3 = ap (λ (t : Text). length t) (ap (λ (t : Shape). t.name) same ∙ name_is) in absurd (omega (arith, bad))
+run_among names s words rows (inr (inl same)) name_is passes rows_are =
     let level = subst (λ t. level_fault t [] nothing_held words false [] ≡ []) (sym same) passes in
-    subst HasAll (ap (λ t. rows_after t.rules [] words) same ∙ rows_are) (run_level words level)
-run_among s words rows (inr (inr (inl same))) name_is passes rows_are = let bad : 4 ≡ 3 = ap (λ (t : Text). length t) (ap (λ (t : Shape). t.name) same ∙ name_is) in absurd (omega (arith, bad))
-run_among s words rows (inr (inr (inr none))) name_is passes rows_are = absurd none
+    subst HasAll (ap (λ t. rows_after t.rules [] words) same ∙ rows_are) (run_level names words level)
+run_among names s words rows (inr (inr (inl same))) name_is passes rows_are = let bad : 4 ≡ 3 = ap (λ (t : Text). length t) (ap (λ (t : Shape). t.name) same ∙ name_is) in absurd (omega (arith, bad))
+run_among names s words rows (inr (inr (inr none))) name_is passes rows_are = absurd none
 
-pub shapes_are : (built station).subs ≡ replay_shape ∷ run_shape ∷ built_leaf help_shape ∷ []
+pub shapes_are : (names : FormatNames) → (built (station names)).subs ≡ replay_shape names ∷ run_shape names ∷ built_leaf help_shape ∷ []
 unfolding clap_on_literals
-shapes_are = refl
+shapes_are names = refl
 
-has_all : (words : List Text) (rows : List Row) → subcommand_of station words ≡ Some (codes "run", rows) → fault_of station words ≡ [] → HasAll rows
-has_all words rows named passes =
-    let a = built station in
-    let stop = (walk a.top.rules (names_of a) nothing_held (argument_words station words)).stopped in
-    let below = (both_none (entered_fault a stop) _ (both_none (walk_fault a.top (names_of a) (walk_from nothing_held) (argument_words station words)) _ passes).1).0 in
+has_all : (names : FormatNames) (words : List Text) (rows : List Row) → subcommand_of (station names) words ≡ Some (codes "run", rows) → fault_of (station names) words ≡ [] → HasAll rows
+has_all names words rows named passes =
+    let a = built (station names) in
+    let stop = (walk a.top.rules (names_of a) nothing_held (argument_words (station names) words)).stopped in
+    let below = (both_none (entered_fault a stop) _ (both_none (walk_fault a.top (names_of a) (walk_from nothing_held) (argument_words (station names) words)) _ passes).1).0 in
     let level = level_down a stop (codes "run") rows named below in
-    run_among level.shape level.words rows (subst (Among level.shape) shapes_are level.is_among) level.name_is level.passes level.rows_are
+    run_among names level.shape level.words rows (subst (Among level.shape) (shapes_are names) level.is_among) level.name_is level.passes level.rows_are
 
 -- ---- the values
 
@@ -369,28 +399,36 @@ every_row r (inl h) e = h
 every_row r (inr (inl h)) e = let bad : false ≡ true = ap (λ t. bytes_eq t (codes "every")) (sym h.0) ∙ e in absurd (search rules)
 every_row r (inr (inr (inl h))) e = let bad : false ≡ true = ap (λ t. bytes_eq t (codes "every")) (sym h.0) ∙ e in absurd (search rules)
 every_row r (inr (inr (inr (inl h)))) e = let bad : false ≡ true = ap (λ t. bytes_eq t (codes "every")) (sym h.0) ∙ e in absurd (search rules)
-every_row r (inr (inr (inr (inr h)))) e = let bad : false ≡ true = ap (λ t. bytes_eq t (codes "every")) (sym h) ∙ e in absurd (search rules)
+every_row r (inr (inr (inr (inr (inl h))))) e = let bad : false ≡ true = ap (λ t. bytes_eq t (codes "every")) (sym h) ∙ e in absurd (search rules)
+every_row r (inr (inr (inr (inr (inr (inl h)))))) e = let bad : false ≡ true = ap (λ t. bytes_eq t (codes "every")) (sym h) ∙ e in absurd (search rules)
+every_row r (inr (inr (inr (inr (inr (inr h)))))) e = let bad : false ≡ true = ap (λ t. bytes_eq t (codes "every")) (sym h) ∙ e in absurd (search rules)
 
 tick_row : (r : Row) → Good r → bytes_eq r.id (codes "tick") ≡ true → IsNumber (codes "tick") 60000 r
 tick_row r (inl h) e = let bad : false ≡ true = ap (λ t. bytes_eq t (codes "tick")) (sym h.0) ∙ e in absurd (search rules)
 tick_row r (inr (inl h)) e = h
 tick_row r (inr (inr (inl h))) e = let bad : false ≡ true = ap (λ t. bytes_eq t (codes "tick")) (sym h.0) ∙ e in absurd (search rules)
 tick_row r (inr (inr (inr (inl h)))) e = let bad : false ≡ true = ap (λ t. bytes_eq t (codes "tick")) (sym h.0) ∙ e in absurd (search rules)
-tick_row r (inr (inr (inr (inr h)))) e = let bad : false ≡ true = ap (λ t. bytes_eq t (codes "tick")) (sym h) ∙ e in absurd (search rules)
+tick_row r (inr (inr (inr (inr (inl h))))) e = let bad : false ≡ true = ap (λ t. bytes_eq t (codes "tick")) (sym h) ∙ e in absurd (search rules)
+tick_row r (inr (inr (inr (inr (inr (inl h)))))) e = let bad : false ≡ true = ap (λ t. bytes_eq t (codes "tick")) (sym h) ∙ e in absurd (search rules)
+tick_row r (inr (inr (inr (inr (inr (inr h)))))) e = let bad : false ≡ true = ap (λ t. bytes_eq t (codes "tick")) (sym h) ∙ e in absurd (search rules)
 
 rounds_row : (r : Row) → Good r → bytes_eq r.id (codes "rounds") ≡ true → IsNumber (codes "rounds") 1000 r
 rounds_row r (inl h) e = let bad : false ≡ true = ap (λ t. bytes_eq t (codes "rounds")) (sym h.0) ∙ e in absurd (search rules)
 rounds_row r (inr (inl h)) e = let bad : false ≡ true = ap (λ t. bytes_eq t (codes "rounds")) (sym h.0) ∙ e in absurd (search rules)
 rounds_row r (inr (inr (inl h))) e = h
 rounds_row r (inr (inr (inr (inl h)))) e = let bad : false ≡ true = ap (λ t. bytes_eq t (codes "rounds")) (sym h.0) ∙ e in absurd (search rules)
-rounds_row r (inr (inr (inr (inr h)))) e = let bad : false ≡ true = ap (λ t. bytes_eq t (codes "rounds")) (sym h) ∙ e in absurd (search rules)
+rounds_row r (inr (inr (inr (inr (inl h))))) e = let bad : false ≡ true = ap (λ t. bytes_eq t (codes "rounds")) (sym h) ∙ e in absurd (search rules)
+rounds_row r (inr (inr (inr (inr (inr (inl h)))))) e = let bad : false ≡ true = ap (λ t. bytes_eq t (codes "rounds")) (sym h) ∙ e in absurd (search rules)
+rounds_row r (inr (inr (inr (inr (inr (inr h)))))) e = let bad : false ≡ true = ap (λ t. bytes_eq t (codes "rounds")) (sym h) ∙ e in absurd (search rules)
 
 path_values : (r : Row) → Good r → bytes_eq r.id (codes "path") ≡ true → (1 ≤ length r.values) × (length r.values ≤ 8)
 path_values r (inl h) e = let bad : false ≡ true = ap (λ t. bytes_eq t (codes "path")) (sym h.0) ∙ e in absurd (search rules)
 path_values r (inr (inl h)) e = let bad : false ≡ true = ap (λ t. bytes_eq t (codes "path")) (sym h.0) ∙ e in absurd (search rules)
 path_values r (inr (inr (inl h))) e = let bad : false ≡ true = ap (λ t. bytes_eq t (codes "path")) (sym h.0) ∙ e in absurd (search rules)
 path_values r (inr (inr (inr (inl h)))) e = (h.1, h.2)
-path_values r (inr (inr (inr (inr h)))) e = let bad : false ≡ true = ap (λ t. bytes_eq t (codes "path")) (sym h) ∙ e in absurd (search rules)
+path_values r (inr (inr (inr (inr (inl h))))) e = let bad : false ≡ true = ap (λ t. bytes_eq t (codes "path")) (sym h) ∙ e in absurd (search rules)
+path_values r (inr (inr (inr (inr (inr (inl h)))))) e = let bad : false ≡ true = ap (λ t. bytes_eq t (codes "path")) (sym h) ∙ e in absurd (search rules)
+path_values r (inr (inr (inr (inr (inr (inr h)))))) e = let bad : false ≡ true = ap (λ t. bytes_eq t (codes "path")) (sym h) ∙ e in absurd (search rules)
 
 abbrev GivesNumber : Text → ℕ → List Row → Type 0
 GivesNumber id most rows = (v : Text) × (one_of id rows ≡ Some v) × IsNumberUpTo most v
@@ -435,5 +473,5 @@ given_values rows h =
       few = counts.1;
     }
 
-pub run_given : (words : List Text) (rows : List Row) → subcommand_of station words ≡ Some (codes "run", rows) → fault_of station words ≡ [] → IsGiven rows
-run_given words rows named passes = given_values rows (has_all words rows named passes)
+pub run_given : (names : FormatNames) (words : List Text) (rows : List Row) → subcommand_of (station names) words ≡ Some (codes "run", rows) → fault_of (station names) words ≡ [] → IsGiven rows
+run_given names words rows named passes = given_values rows (has_all names words rows named passes)

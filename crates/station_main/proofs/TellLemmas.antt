@@ -1,5 +1,5 @@
 -- What is printed, one line after another.
-use Rattle.std.proofs.Common.{◌≡◌, ◌∙◌, ℕ, ◌+◌, ◌<◌, List, [], ◌∷◌, ◌++◌, Option, Some, Result, length, map, take, get_or, refl, sym, ap, subst}
+use Rattle.std.proofs.Common.{◌≡◌, ◌∙◌, ◌⊎◌, inl, inr, Bor, ℕ, ◌+◌, ◌<◌, List, [], ◌∷◌, ◌++◌, Option, Some, Result, length, map, take, get_or, refl, sym, ap, subst}
 use Rattle.std.specs.Prelude.{fold, max}
 use Rattle.std.specs.List.{flat_map}
 use Rattle.std.proofs.KnownBytes.{Appends-nil, Appends-trans}
@@ -8,7 +8,9 @@ use Rattle.std.proofs.lemmas.List.Sums.{fold_more}
 use Rattle.station_lines.specs.declared.pumping.PumpFault.{PumpFault}
 use Rattle.station_lines.specs.declared.tally.Tally.{Tally}
 use Rattle.station_main.specs.Status.{answer_status, status_of}
-use Rattle.station_main.specs.Telling.{Tells, Told, answer_lines, pump_lines}
+use Rattle.station_main.specs.Telling.{Tells, Told, answer_lines, cannot_record, fault_line, line_of, pump_lines}
+use Rattle.station_main.specs.declared.faults.Fault.{Fault}
+use Rattle.station_main.specs.declared.faults.Fault.TheVariants as fault
 
 pub tells_nothing : (a : Told) → Tells a a []
 tells_nothing a = record { told = λ well. (well, Appends-nil a.taken) }
@@ -44,3 +46,9 @@ one_more_status {W} answer ws i w x status one new inside at is so_far one_is ne
     let before = fold worst 0 (take i ws) in
     new_is ∙ ap (λ n. max n one) so_far ∙ ap (λ n. max before n) (one_is ∙ sym (ap answer_status is)) ∙ ap (λ v. worst before v) at
     ∙ sym (fold_more worst 0 ws i w inside)
+
+-- no memory for a record, or a file that takes none
+pub record_fault_told : (a b : Told) (f : Fault) (path : Bor (List ℕ)) (file : List ℕ) → (f ≡ fault.NoMemory) ⊎ (f ≡ fault.CannotRecord path) → path.now ≡ file → Tells a b (fault_line f)
+    → Tells a b (fault_line fault.NoMemory) ⊎ Tells a b (line_of (cannot_record file))
+record_fault_told a b f path file (inl memory) is told = inl (subst (λ g. Tells a b (fault_line g)) memory told)
+record_fault_told a b f path file (inr refused) is told = inr (subst (λ p. Tells a b (line_of (cannot_record p))) is (subst (λ g. Tells a b (fault_line g)) refused told))

@@ -1,5 +1,5 @@
 -- From what `clap` ensures of its getters to the job.
-use Rattle.std.proofs.Common.{inl, inr, ◌≡◌, ◌∙◌, ℕ, ◌≤◌, ◌<◌, ◌^◌, List, Option, Some, None, IfSome, Result, Ok, Err, true, arith, map, option_map, refl, sym, ap, ap₂, length, codes}
+use Rattle.std.proofs.Common.{inl, inr, ◌⊎◌, ◌≡◌, ◌∙◌, ℕ, ◌≤◌, ◌<◌, ◌^◌, List, Option, Some, None, IfSome, Result, Ok, Err, true, arith, map, option_map, refl, sym, ap, ap₂, length, codes}
 use Rattle.std.specs.Prelude.{unwrap_or}
 use Rattle.std.specs.Box.{box_value}
 use Rattle.clap.specs.declared.parser.matches.ArgMatches.{ArgMatches}
@@ -9,19 +9,19 @@ use Rattle.station_main.specs.declared.words.Job.TheVariants.{Replay, Run}
 use Rattle.std.proofs.lemmas.List.{length-map}
 use Rattle.std.proofs.lemmas.Option.{none-some}
 use Rattle.std.specs.Str.Parse.{ParsesUnsigned}
-use Rattle.clap.specs.Words.{ReadsOne, Row, Text, found_of, is_simple, rows_of, subcommand_name_of, subcommand_of, subcommand_rows_of}
+use Rattle.clap.specs.Words.{App, ReadsOne, Row, Text, found_of, is_simple, rows_of, subcommand_name_of, subcommand_of, subcommand_rows_of}
 use Rattle.clap.specs.Faults.{is_simple_and_free}
 use Rattle.station_main.proofs.JobLemmas.{NamesJobOf}
 use Rattle.clap.proofs.OnLiterals.{clap_on_literals}
-use Rattle.station_main.specs.Command.{GivesJob, IsNumberUpTo, NamesJob, number, number_if_given, station}
+use Rattle.station_main.specs.Command.{FormatNames, GivesJob, IsNumberUpTo, NamesJob, number, number_if_given, station}
 
-pub is_simple-station : is_simple station ≡ true
+pub is_simple-station : (names : FormatNames) → is_simple (station names) ≡ true
 unfolding clap_on_literals
-is_simple-station = refl
+is_simple-station names = refl
 
-pub is_free-station : is_simple_and_free station ≡ true
+pub is_free-station : (names : FormatNames) → is_simple_and_free (station names) ≡ true
 unfolding clap_on_literals
-is_free-station = refl
+is_free-station names = refl
 
 -- what `get_one` read is the number of the text
 pub reads_number : {E : Type 0} (k : ℕ) (G : List ℕ → Result ℕ E → Type 0) (one : Option (List ℕ)) (every : ℕ)
@@ -66,10 +66,10 @@ known_rows m name rows n r =
     both_known (λ b. (out-SubCommand (box_value b)).name.now) (λ b. rows_of (found_of (out-SubCommand (box_value b)).matches)) (out-ArgMatches m).subcommand name rows n r
 
 -- the job of `run` is the one that the words name
-pub names_run : (words : List Text) (rows : List Row) → subcommand_of station words ≡ Some (codes "run", rows)
-    → (job : Job) → GivesJob rows job → NamesJob words job
-names_run words rows is Replay given = absurd given
-names_run words rows is (Run pace times paths file) given = (rows, is, given)
+pub names_run : (app : App) (words : List Text) (rows : List Row) → subcommand_of app words ≡ Some (codes "run", rows)
+    → (job : Job) → GivesJob rows job → NamesJob app words job
+names_run app words rows is (Replay tables) given = absurd given
+names_run app words rows is (Run pace times paths file tables folder) given = (rows, is, given)
 
 name_first : {B : Type 0} (f : B → Text) (g : B → List Row) (o : Option B) → option_map {T = Text × List Row} (λ p. p.0) (option_map {U = Text × List Row} (λ b. (f b, g b)) o) ≡ option_map f o
 name_first f g None = refl
@@ -79,7 +79,6 @@ pub name_of_rows : (m : ArgMatches) → option_map {T = Text × List Row} (λ p.
 name_of_rows m = name_first (λ b. (out-SubCommand (box_value b)).name.now) (λ b. rows_of (found_of (out-SubCommand (box_value b)).matches)) (out-ArgMatches m).subcommand
 
 -- the job that isn't `run` is `replay`
-pub names_replay : (words : List Text) (name : Text) → option_map {T = Text × List Row} (λ p. p.0) (subcommand_of station words) ≡ Some name → NamesJobOf name → (name ≡ codes "run" → ⊥)
-    → option_map {T = Text × List Row} (λ p. p.0) (subcommand_of station words) ≡ Some (codes "replay")
-names_replay words name said (inl replay_is) other = said ∙ ap Some replay_is
-names_replay words name said (inr run_is) other = absurd (other run_is)
+pub is_replay : (name : Text) → NamesJobOf name → (name ≡ codes "run" → ⊥) → name ≡ codes "replay"
+is_replay name (inl replay_is) other = replay_is
+is_replay name (inr run_is) other = absurd (other run_is)

@@ -1,17 +1,25 @@
 -- The command line as `clap` reads it, and the job that it names.
-use Rattle.std.specs.Prelude.{◌≡◌, ◌≤◌, ℕ, List, [], ◌∷◌, Option, IfSome, Some, codes, true, false, pos, map, length, option_map, ⊤}
+use Rattle.std.specs.Prelude.{◌≡◌, ◌≤◌, ℕ, List, [], ◌∷◌, Option, IfSome, Some, None, codes, true, false, pos, map, length, option_map, if◌then◌else◌, ⊤}
+use Rattle.std.specs.Borrow.{Bor}
+use Rattle.std.specs.Str.{bytes_eq}
 use Rattle.std.specs.String.{string_bytes}
 use Rattle.std.specs.Str.Parse.{IsNumeral, digits_value, without_leading_plus}
-use Rattle.clap.specs.Words.{App, Row, Rule, Text, all_of, first_of, new_app, new_rule, one_of, subcommand_of}
+use Rattle.clap.specs.Words.{App, IsAmong, Row, Rule, Text, all_of, fault_of, first_of, kind_of, new_app, new_rule, one_of, subcommand_of}
 use Rattle.clap.specs.Words.{app_of, rule_of, with_rule, with_subcommand}
 use Rattle.clap.specs.declared.builder.arg.Arg.{Arg}
 use Rattle.clap.specs.declared.builder.command.Command.{Command}
 use Rattle.clap.specs.declared.builder.command.Command.TheViews.{out-Command}
 use Rattle.clap.specs.declared.builder.action.ArgAction.TheVariants.{Set}
-use Rattle.clap.specs.declared.builder.value_parser.ValueParser.TheVariants.{Signed}
+use Rattle.clap.specs.declared.builder.value_parser.ValueParser.TheVariants.{Names, Signed}
+use Rattle.station_report.specs.declared.formats.Format.{Format}
+use Rattle.station_report.specs.declared.formats.Format.TheVariants as Formats
 use Rattle.station_main.specs.declared.words.Job.{Job}
 use Rattle.station_main.specs.declared.words.Job.TheVariants.{Replay, Run}
+use Rattle.station_main.specs.declared.words.WordsFault.{WordsFault}
+use Rattle.station_main.specs.declared.words.WordsFault.TheVariants as words_fault
 use Rattle.station_main.specs.declared.schedule.Pace.{Pace}
+use Rattle.station_main.specs.declared.table_format.TableFormat.{TableFormat}
+use Rattle.station_main.specs.declared.table_format.TableFormat.TheVariants as form
 
 -- `--every MS`: required, a whole number of milliseconds from 1 to 3,600,000
 abbrev pub every : Rule
@@ -46,6 +54,28 @@ record_file = record (new_rule (codes "record")) {
   value_names = 1;
 }
 
+-- the words of `--format`, where the program keeps them
+abbrev pub FormatNames : Type 0
+FormatNames = Bor (List (Bor Text))
+
+abbrev pub AreFormatNames : FormatNames → Type 0
+AreFormatNames names = map (λ (name : Bor Text). name.now) names.now ≡ codes "text" ∷ codes "json" ∷ []
+
+-- `--format FORMAT`: one of these words, at most once, and not required
+abbrev pub format : FormatNames → Rule
+format names = record (new_rule (codes "format")) {
+  long = Some (codes "format");
+  value_names = 1;
+  parser = Some (Names names);
+}
+
+-- `--json DIR`: any text, at most once, and not required
+abbrev pub json_folder : Rule
+json_folder = record (new_rule (codes "json")) {
+  long = Some (codes "json");
+  value_names = 1;
+}
+
 -- `PATH..`: required, 1 to 8 of them, one after another
 abbrev pub path : Rule
 path = record (new_rule (codes "path")) {
@@ -55,26 +85,33 @@ path = record (new_rule (codes "path")) {
   required = true;
 }
 
-abbrev pub replay : App
-replay = new_app (codes "replay")
+abbrev pub replay : FormatNames → App
+replay names = with_rule (new_app (codes "replay")) (format names)
 
--- `run` with its times, with all its options, and then with PATH too
+-- `run` with its times, with the formats of its tables, with all its options, and then with PATH too
 abbrev pub run_times : App
 run_times = with_rule (with_rule (new_app (codes "run")) every) tick
 
-abbrev pub run_options : App
-run_options = with_rule (with_rule run_times rounds) record_file
+abbrev pub run_formats : FormatNames → App
+run_formats names = with_rule (with_rule run_times (format names)) json_folder
 
-abbrev pub run : App
-run = with_rule run_options path
+abbrev pub run_options : FormatNames → App
+run_options names = with_rule (with_rule (run_formats names) rounds) record_file
+
+abbrev pub run : FormatNames → App
+run names = with_rule (run_options names) path
 
 -- the whole command line needs a subcommand, and has `--version`
 abbrev pub with_version : App → App
 with_version a = record a { top = record a.top { has_version = true; subcommand_required = true } }
 
 -- the whole command line: one of the two subcommands
-abbrev pub station : App
-station = with_subcommand (with_subcommand (with_version (new_app (codes "groundstation"))) replay.top) run.top
+abbrev pub station : FormatNames → App
+station names = with_subcommand (with_subcommand (with_version (new_app (codes "groundstation"))) (replay names).top) (run names).top
+
+-- this is the whole command line, wherever the words of `--format` are kept
+abbrev pub IsStation : App → Type 0
+IsStation app = (names : FormatNames) × AreFormatNames names × (app ≡ station names)
 
 -- the argument has this rule, and is not global
 abbrev pub IsArg : Rule → Arg → Type 0
@@ -88,13 +125,23 @@ IsMade app c = (app_of c ≡ app) × ((out-Command c).has_globals ≡ false)
 abbrev pub number : Text → ℕ
 number text = digits_value 10 (without_leading_plus text)
 
+-- the format that a text names, and columns where there is none
+abbrev pub format_named : Option Text → TableFormat
+format_named None = form.Text
+format_named (Some text) = if bytes_eq text (codes "json") then form.Json else form.Text
+
+-- the same of tables whose clock begins at a time, in milliseconds since 1970
+abbrev pub format_since : TableFormat → ℕ → Format
+format_since form.Text origin = Formats.Text
+format_since form.Json origin = Formats.Json origin
+
 -- the number of each text of an option that may be missing
 abbrev pub number_if_given : Option Text → Option ℕ
 number_if_given given = option_map number given
 
--- the values of `--every`, `--tick`, `--rounds`, PATH and `--record` in a command line of `run`: the paths in their order,
--- and a tick and a file only if they are given
-pub record GivesRun (rows : List Row) (pace : Pace) (times : ℕ) (paths : List Text) (file : Option Text) : Type 0 where
+-- the values of the options and of PATH in a command line of `run`: the paths in their order, and a tick and a file only if
+-- they are given
+pub record GivesRun (rows : List Row) (pace : Pace) (times : ℕ) (paths : List Text) (file : Option Text) (tables : TableFormat) (folder : Option Text) : Type 0 where
   pub text : Text
   pub every : one_of (codes "every") rows ≡ Some text
   pub every_is : pace.every ≡ number text
@@ -104,6 +151,8 @@ pub record GivesRun (rows : List Row) (pace : Pace) (times : ℕ) (paths : List 
   pub rounds_is : times ≡ number rounds_text
   pub paths_are : all_of (codes "path") rows ≡ Some paths
   pub file_is : file ≡ first_of (codes "record") rows
+  pub folder_is : folder ≡ first_of (codes "json") rows
+  pub format_is : tables ≡ format_named (first_of (codes "format") rows)
 
 -- a decimal number from 1 up to a limit
 pub record IsNumberUpTo (limit : ℕ) (text : Text) : Type 0 where
@@ -126,16 +175,23 @@ pub record IsGiven (rows : List Row) : Type 0 where
   pub few : length paths ≤ 8
 
 abbrev pub GivesJob : List Row → Job → Type 0
-GivesJob rows Replay = ⊥
-GivesJob rows (Run pace times paths file) =
-    GivesRun rows pace times (map string_bytes paths.items) (option_map string_bytes file)
+GivesJob rows (Replay tables) = ⊥
+GivesJob rows (Run pace times paths file tables folder) =
+    GivesRun rows pace times (map string_bytes paths.items) (option_map string_bytes file) tables (option_map string_bytes folder)
 
 -- the job is the one that the command line names
-abbrev pub NamesJob : List Text → Job → Type 0
-NamesJob words Replay = option_map (λ p. p.0) (subcommand_of station words) ≡ Some (codes "replay")
-NamesJob words (Run pace times paths file) =
-    (rows : List Row) × (subcommand_of station words ≡ Some (codes "run", rows))
-    × GivesRun rows pace times (map string_bytes paths.items) (option_map string_bytes file)
+abbrev pub NamesJob : App → List Text → Job → Type 0
+NamesJob app words (Replay tables) =
+    (rows : List Row) × (subcommand_of app words ≡ Some (codes "replay", rows)) × (tables ≡ format_named (first_of (codes "format") rows))
+NamesJob app words (Run pace times paths file tables folder) =
+    (rows : List Row) × (subcommand_of app words ≡ Some (codes "run", rows))
+    × GivesRun rows pace times (map string_bytes paths.items) (option_map string_bytes file) tables (option_map string_bytes folder)
+
+-- why there is no job: out of memory, or `clap` finds a fault of this kind in the command line, or help or the version is asked
+-- for
+abbrev pub IsWordsFault : App → List Text → WordsFault → Type 0
+IsWordsFault app words words_fault.NoMemory = ⊤
+IsWordsFault app words (words_fault.Clap error) = IsAmong (kind_of error) (fault_of app words)
 
 -- a table every 1 to 3,600,000 milliseconds, and a tick, if any, every 1 to 60,000
 pub record IsPace (pace : Pace) : Type 0 where
@@ -145,6 +201,6 @@ pub record IsPace (pace : Pace) : Type 0 where
 
 -- such a pace, 1 to 1,000 rounds, and 1 to 8 paths
 abbrev pub IsInRange : Job → Type 0
-IsInRange Replay = ⊤
-IsInRange (Run pace times paths file) = IsPace pace × (1 ≤ times) × (times ≤ 1000)
+IsInRange (Replay tables) = ⊤
+IsInRange (Run pace times paths file tables folder) = IsPace pace × (1 ≤ times) × (times ≤ 1000)
     × (1 ≤ length paths.items) × (length paths.items ≤ 8)

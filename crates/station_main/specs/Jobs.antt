@@ -1,36 +1,75 @@
 -- What a job leaves: its output, what it printed on standard error, and its status.
-use Rattle.std.specs.Prelude.{◌≡◌, ◌⊎◌, ℕ, ◌-◌, List, Option, Some, None, is_some, length}
-use Rattle.clap.specs.Words.{Text}
-use Rattle.station_main.specs.Command.{NamesJob}
+use Rattle.std.specs.Prelude.{◌≡◌, ◌⊎◌, ℕ, ◌-◌, Bool, true, false, List, [], Option, Some, None, is_some, map, option_map}
+use Rattle.std.specs.String.{string_bytes}
+use Rattle.clap.specs.Words.{App, IsAmong, Text, fault_of}
+use Rattle.clap.specs.declared.error.kind.ErrorKind.{ErrorKind}
+use Rattle.clap.specs.declared.error.kind.ErrorKind.TheVariants as kind
+use Rattle.station_report.specs.Sink.{AppendsFront}
+use Rattle.station_main.specs.Command.{IsStation, NamesJob, format_since}
 use Rattle.station_main.specs.Limits.{program_limits}
 use Rattle.station_main.specs.Replay.{EndsReplay}
-use Rattle.station_main.specs.Rounds.{RunsAsked}
-use Rattle.station_main.specs.Run.{EndsEarly}
-use Rattle.station_main.specs.Telling.{Tells, Told, fault_line}
-use Rattle.station_main.specs.declared.faults.Fault.TheVariants as fault
+use Rattle.station_main.specs.Rounds.{RunsAsked, RunsForDisplays}
+use Rattle.station_main.specs.Telling.{OutOfMemory, Tells, Told}
 use Rattle.station_main.specs.declared.words.Job.{Job}
 use Rattle.station_main.specs.declared.words.Job.TheVariants.{Replay, Run}
 
--- a job is done, beside a standard error for what is reported at once; a replay that leaves no output has read nothing
-abbrev pub IsDone : Job → Option (List ℕ) → Option (List ℕ) → Option (Option (List ℕ)) → Option (List ℕ) → Told → Told → ℕ → Type 0
-IsDone Replay input before None alarm err_old err_new status = EndsEarly err_old err_new status
-IsDone Replay input before (Some after) alarm err_old err_new status = EndsReplay program_limits input before after err_old err_new status
-IsDone (Run pace rounds paths file) input before after alarm err_old err_new status =
-    RunsAsked (is_some file) (record { pace = pace; inputs = length paths.items }) (rounds - 1) before after alarm err_old err_new status
+-- a job is done, beside a standard error for what is reported at once; a replay that leaves no output has read nothing;
+-- JSON of a run counts from the origin, in milliseconds since 1970, and of a replay from 0
+abbrev pub IsDone : Job → (origin : ℕ) → Option (List ℕ) → Option (List ℕ) → Option (Option (List ℕ)) → Option (List ℕ) → Told → Told → ℕ → Type 0
+IsDone (Replay form) origin input before None alarm err_old err_new status = OutOfMemory err_old err_new status
+IsDone (Replay form) origin input before (Some after) alarm err_old err_new status = EndsReplay (format_since form 0) program_limits input before after err_old err_new status
+IsDone (Run pace rounds paths file form folder) origin input before after alarm err_old err_new status =
+    RunsForDisplays (is_some folder)
+    (RunsAsked (option_map string_bytes file) (record { tables = record { pace = pace; format = format_since form origin }; paths = map string_bytes paths.items }) (rounds - 1) before after alarm err_old err_new)
+    after err_old err_new status
 
--- the job that the command line names is done
-pub record DoesJob (words : List Text) (input before : Option (List ℕ)) (after : Option (Option (List ℕ))) (alarm : Option (List ℕ)) (err_old err_new : Told) (status : ℕ) : Type 0 where
+-- `clap` accepts the command line, and the job that it names is done
+pub record DoesJob (app : App) (words : List Text) (origin : ℕ) (input before : Option (List ℕ)) (after : Option (Option (List ℕ))) (alarm : Option (List ℕ)) (err_old err_new : Told) (status : ℕ) : Type 0 where
+  pub accepted : fault_of app words ≡ []
   pub job : Job
-  pub named : NamesJob words job
-  pub done : IsDone job input before after alarm err_old err_new status
+  pub named : NamesJob app words job
+  pub done : IsDone job origin input before after alarm err_old err_new status
 
 -- an allocation for reading the command line was refused, and only that is printed
 pub record HasNoMemory (after : Option (Option (List ℕ))) (err_old err_new : Told) (status : ℕ) : Type 0 where
   pub out : after ≡ None
-  pub told : Tells err_old err_new (fault_line fault.NoMemory)
-  pub status_is : status ≡ 1
+  pub only : OutOfMemory err_old err_new status
 
--- what an accepted command line leaves
-abbrev pub IsAnswered : List Text → Option (List ℕ) → Option (List ℕ) → Option (Option (List ℕ)) → Option (List ℕ) → Told → Told → ℕ → Type 0
-IsAnswered words input before after alarm err_old err_new status =
-    DoesJob words input before after alarm err_old err_new status ⊎ HasNoMemory after err_old err_new status
+-- the answer of `clap` is help or the version, which go to the output
+abbrev pub is_shown : ErrorKind → Bool
+is_shown kind.DisplayHelp = true
+is_shown kind.DisplayVersion = true
+is_shown _ = false
+
+-- a text is all that is written: help or the version to the output, with status 0; why the words are refused to standard
+-- error, with status 2. A write of the output that fails ends it.
+abbrev pub Says : Bool → List ℕ → Option (List ℕ) → Option (Option (List ℕ)) → Told → Told → ℕ → Type 0
+Says true text before after err_old err_new status =
+    (status ≡ 0) × (err_new ≡ err_old) × ((left : Option (List ℕ)) × (after ≡ Some left) × AppendsFront before left text)
+Says false text before after err_old err_new status =
+    (status ≡ 2) × (after ≡ Some before) × Tells err_old err_new text
+
+-- what a command line leaves that asks for help or the version, or that `clap` refuses; the kinds are those that it may give
+pub record IsRefused (app : App) (words : List Text) (before : Option (List ℕ)) (after : Option (Option (List ℕ))) (err_old err_new : Told) (status : ℕ) : Type 0 where
+  pub kind : ErrorKind
+  pub given : IsAmong kind (fault_of app words)
+  pub text : List ℕ
+  pub says : Says (is_shown kind) text before after err_old err_new status
+
+-- what a command line leaves that is accepted
+abbrev pub IsAnswered : App → List Text → (origin : ℕ) → Option (List ℕ) → Option (List ℕ) → Option (Option (List ℕ)) → Option (List ℕ) → Told → Told → ℕ → Type 0
+IsAnswered app words origin input before after alarm err_old err_new status =
+    DoesJob app words origin input before after alarm err_old err_new status ⊎ HasNoMemory after err_old err_new status
+
+-- what any command line leaves
+abbrev pub IsObeyed : App → List Text → (origin : ℕ) → Option (List ℕ) → Option (List ℕ) → Option (Option (List ℕ)) → Option (List ℕ) → Told → Told → ℕ → Type 0
+IsObeyed app words origin input before after alarm err_old err_new status =
+    IsAnswered app words origin input before after alarm err_old err_new status ⊎ IsRefused app words before after err_old err_new status
+
+-- a status that a command line gives over these streams, whatever is left of them: there was no memory for its words, or it is
+-- obeyed, and JSON of a run counts from some origin
+abbrev pub GivesStatus : List Text → Option (List ℕ) → Option (List ℕ) → Option (List ℕ) → Option (List ℕ) → ℕ → Type 0
+GivesStatus words input before alarm err status =
+    ((err_new : Told) × OutOfMemory (record { taken = err; has_failed = false }) err_new status)
+    ⊎ ((app : App) × IsStation app × (origin : ℕ) × (after : Option (Option (List ℕ))) × (err_new : Told)
+    × IsObeyed app words origin input before after alarm (record { taken = err; has_failed = false }) err_new status)

@@ -14,6 +14,7 @@ use Rattle.station_main.specs.declared.schedule.Act.{Act}
 use Rattle.station_main.specs.declared.schedule.Act.TheVariants as act
 use Rattle.station_main.specs.declared.schedule.Due.{Due}
 use Rattle.station_main.specs.declared.schedule.Pace.{Pace}
+use Rattle.station_main.specs.declared.schedule.Tables.{Tables}
 
 -- ---- when it acts, in milliseconds since its start
 
@@ -99,14 +100,14 @@ pub record KeepsTime (start : Start) (pace : Pace) (last : ℕ) (moments : List 
   pub walk : Showings start old showings new
 
 -- a reporter whose clock gave these times, from one seat to another; the record goes on with what its looks have seen
-pub record Reports (start : Start) (pace : Pace) (last : ℕ) (moments : List ℕ) (old new : Seated) (before after : Printed) (was is : Option Recording) (has_failed : Bool) : Type 0 where
+pub record Reports (start : Start) (tables : Tables) (last : ℕ) (moments : List ℕ) (old new : Seated) (before after : Printed) (was is : Option Recording) (has_failed : Bool) : Type 0 where
   pub showings : List Showing
-  pub keeps : KeepsTime start pace last moments old showings new
-  pub takes : TakesTexts start (looks_of showings) before.taken after.taken has_failed
+  pub keeps : KeepsTime start tables.pace last moments old showings new
+  pub takes : TakesTexts tables.format start (looks_of showings) before.taken after.taken has_failed
   pub failures : after.failures ≡ failures_after has_failed before.failures
   pub records : IfRecording (Records (seen_by (looks_of showings))) was is
 
 -- a reporter by some clock
-abbrev pub ReportsByAClock : Start → Pace → ℕ → Seated → Seated → Printed → Printed → Option Recording → Option Recording → Bool → Type 0
-ReportsByAClock start pace last old new before after was is has_failed =
-    (moments : List ℕ) × Reports start pace last moments old new before after was is has_failed
+abbrev pub ReportsByAClock : Start → Tables → ℕ → Seated → Seated → Printed → Printed → Option Recording → Option Recording → Bool → Type 0
+ReportsByAClock start tables last old new before after was is has_failed =
+    (moments : List ℕ) × Reports start tables last moments old new before after was is has_failed

@@ -2,24 +2,24 @@
 use Rattle.std.specs.Prelude.{◌≡◌, ℕ, Bool, true, false, List, [], ◌∷◌, ◌++◌, Option, Some, None, Result, Ok}
 use Rattle.std.specs.Io.KnownBytes.{Appends}
 use Rattle.station_journal.specs.declared.entry.Entry.{Entry}
-use Rattle.station_journal.specs.Log.{clock_of, table_of}
 use Rattle.station_report.specs.Sink.{TakesAll, counted}
-use Rattle.station_report.specs.Text.{text}
+use Rattle.station_report.specs.declared.formats.Format.{Format}
 use Rattle.station_report.specs.declared.sinks.WriteFault.{WriteFault}
+use Rattle.station_desk.specs.Replay.{table_in}
 use Rattle.station_desk.specs.Start.{Start, log_of}
 use Rattle.station_shared.specs.Seats.{Seated, Looks}
 use Rattle.station_main.specs.Output.{Printed}
 
--- the text of the table of these entries
-abbrev pub text_of : Start → List Entry → List ℕ
-text_of start seen = text (table_of (log_of start seen)) (clock_of (log_of start seen))
+-- the table of these entries, in a format
+abbrev pub text_of : Format → Start → List Entry → List ℕ
+text_of format start seen = table_in format (log_of start seen)
 
 -- ---- one table
 
 -- the seat looks, and the table of all that it has seen by then is written
-pub record Prints (start : Start) (old new : Seated) (before after : Printed) (result : Result (Unit {0}) WriteFault) : Type 0 where
+pub record Prints (format : Format) (start : Start) (old new : Seated) (before after : Printed) (result : Result (Unit {0}) WriteFault) : Type 0 where
   pub looks : Looks start old new
-  pub takes : TakesAll before.taken after.taken before.failures after.failures (text_of start new.seen) result
+  pub takes : TakesAll before.taken after.taken before.failures after.failures (text_of format start new.seen) result
 
 -- the look is refused, and nothing is written
 pub record PassesOver (old new : Seated) (before after : Printed) (result : Result (Unit {0}) WriteFault) : Type 0 where
@@ -30,29 +30,29 @@ pub record PassesOver (old new : Seated) (before after : Printed) (result : Resu
 -- ---- many tables
 
 -- the text of a look; a refused one has none
-abbrev pub shown : Start → Option Seated → List ℕ
-shown start None = []
-shown start (Some look) = text_of start look.seen
+abbrev pub shown : Format → Start → Option Seated → List ℕ
+shown format start None = []
+shown format start (Some look) = text_of format start look.seen
 
 -- the texts of looks, one after another
-abbrev pub texts : Start → List (Option Seated) → List ℕ
-texts start [] = []
-texts start (look ∷ looks) = shown start look ++ texts start looks
+abbrev pub texts : Format → Start → List (Option Seated) → List ℕ
+texts format start [] = []
+texts format start (look ∷ looks) = shown format start look ++ texts format start looks
 
 -- the sink took the texts before the last look's, and failed within that one
-pub record FailsAtLast (start : Start) (looks : List (Option Seated)) (old new : Option (List ℕ)) : Type 0 where
+pub record FailsAtLast (format : Format) (start : Start) (looks : List (Option Seated)) (old new : Option (List ℕ)) : Type 0 where
   pub front : List (Option Seated)
   pub last : Seated
   pub taken : List ℕ
   pub rest : List ℕ
   pub parts : looks ≡ front ++ Some last ∷ []
-  pub cut : text_of start last.seen ≡ taken ++ rest
-  pub grown : Appends old new (texts start front ++ taken)
+  pub cut : text_of format start last.seen ≡ taken ++ rest
+  pub grown : Appends old new (texts format start front ++ taken)
 
 -- the sink took the texts of all looks and nothing else, or failed at the last
-abbrev pub TakesTexts : Start → List (Option Seated) → Option (List ℕ) → Option (List ℕ) → Bool → Type 0
-TakesTexts start looks old new false = Appends old new (texts start looks)
-TakesTexts start looks old new true = FailsAtLast start looks old new
+abbrev pub TakesTexts : Format → Start → List (Option Seated) → Option (List ℕ) → Option (List ℕ) → Bool → Type 0
+TakesTexts format start looks old new false = Appends old new (texts format start looks)
+TakesTexts format start looks old new true = FailsAtLast format start looks old new
 
 -- the count of failures rises by one if the sink failed
 abbrev pub failures_after : Bool → ℕ → ℕ

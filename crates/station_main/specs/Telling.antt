@@ -26,19 +26,35 @@ pub record Tells (old new : Told) (text : List ℕ) : Type 0 where
 
 -- ---- lines
 
+-- what is printed if this path can't be opened, or can't take a record
+abbrev pub cannot_open : List ℕ → List ℕ
+cannot_open path = codes "cannot open " ++ path
+
+abbrev pub cannot_record : List ℕ → List ℕ
+cannot_record path = codes "cannot record to " ++ path
+
 abbrev pub fault_words : Fault → List ℕ
 fault_words fault.Read = codes "read failed"
 fault_words fault.Write = codes "write failed"
 fault_words fault.TooManyReads = codes "too many reads"
 fault_words fault.NoMemory = codes "no memory"
-fault_words (fault.CannotOpen path) = codes "cannot open " ++ path.now
+fault_words (fault.CannotOpen path) = cannot_open path.now
 fault_words fault.ThreadNotStarted = codes "thread not started"
-fault_words fault.SeatLost = codes "seat lost"
-fault_words (fault.CannotRecord path) = codes "cannot record to " ++ path.now
+fault_words (fault.CannotRecord path) = cannot_record path.now
 fault_words fault.Record = codes "record failed"
+fault_words (fault.CannotWrite path) = codes "cannot write " ++ path.now
+
+-- a line of these words
+abbrev pub line_of : List ℕ → List ℕ
+line_of words = codes "groundstation: " ++ words ++ 10 ∷ []
 
 abbrev pub fault_line : Fault → List ℕ
-fault_line fault = codes "groundstation: " ++ fault_words fault ++ 10 ∷ []
+fault_line fault = line_of (fault_words fault)
+
+-- an allocation was refused, and only that is printed
+pub record OutOfMemory (err_old err_new : Told) (status : ℕ) : Type 0 where
+  pub told : Tells err_old err_new (fault_line fault.NoMemory)
+  pub status_is : status ≡ 1
 
 -- each number after its name
 abbrev pub tally_line : Tally → List ℕ

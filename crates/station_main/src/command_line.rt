@@ -1,17 +1,19 @@
 //! The whole program, over any streams.
-ghost use Rattle.clap.specs.Words.{kind_of, takes};
-ghost use Rattle.clap.specs.declared.error.kind.ErrorKind.TheVariants.{DisplayHelp, DisplayVersion};
-ghost use Rattle.station_main.specs.Command.{IsInRange, station};
-ghost use Rattle.station_main.specs.Jobs.{IsAnswered, IsDone};
+ghost use Rattle.clap.specs.Words.{App, kind_of, takes};
+ghost use Rattle.station_main.specs.Command.{IsInRange, IsStation};
+ghost use Rattle.station_main.specs.Jobs.{GivesStatus, HasNoMemory, IsAnswered, IsDone, IsObeyed, Says, is_shown};
 ghost use Rattle.station_main.specs.Telling.{told_of};
-ghost use Rattle.std.specs.Prelude.{◌≡◌, ◌≢◌, ◌≤◌, map, option_map, true};
+ghost use Rattle.std.specs.Prelude.{◌≡◌, ◌≤◌, ◌⊎◌, ℕ, List, map, option_map, true};
 
+use crate::display_job::run_for_displays;
 use crate::faults::Fault;
 use crate::output::{Ran, without_output};
 use crate::replay_job::replay_input;
-use crate::run_job::{Asked, run_paths};
+use crate::run_job::Asked;
+use crate::schedule::{Tables, milliseconds_since_1970};
 use crate::standard_error::StandardError;
 use crate::words::{Job, WordsFault, read_words};
+use station_report::{ToWrite, write_all};
 use std::alloc::Global;
 use std::fs::File;
 use std::io::{Read, Write};
@@ -20,6 +22,22 @@ use std::sync::Wait;
 use std::thread::Threads;
 use std::time::Clock;
 
+/// Runs a command line, which begins with the program's name, over these streams. Answers the exit status, as [`obey`]
+/// does. `err` is a handle that can be copied, as that of a process is: two threads may write to it.
+pub fn program<
+    R: Threads + Wait + Clock + Files<File = File, Dir: Send> + Sync,
+    I: Read + Drop,
+    O: Write + Send + Drop,
+    E: Write + Copy + Send + Drop,
+>(rt: &R, alloc: Global, words: &[&str], input: I, out: O, err: E) -> u8
+    ensures { GivesStatus (map (λ w. w.now) words.now) (I.remaining input) (O.Write.contents out)
+        (E.Write.contents err) (E.Write.contents err) result }
+{
+    let origin = milliseconds_since_1970(rt);
+    let mut last = StandardError::new(err);
+    obey(rt, alloc, words, origin, input, out, err, err, &mut last).status
+}
+
 /// Runs a command line, which begins with the program's name. Answers the output, unless nothing was read, and the exit
 /// status:
 ///
@@ -27,10 +45,14 @@ use std::time::Clock;
 /// - 1 after a fault;
 /// - 2 if the arguments are refused.
 ///
-/// Arguments that are accepted name the job that is done. If there is no memory to read them, only that is printed.
-/// `alarm` is a second standard error, for what is reported at once while the threads of a run work.
-pub fn program<
-    R: Threads + Wait + Clock + Files<File = File> + Sync,
+/// Arguments that are accepted name the job that is done. For others only the text of `clap` is written: help and the
+/// version to the output, and why they are refused to standard error. If there is no memory for that, only that is printed.
+///
+/// `origin` is the time of the system at the start of the program, in milliseconds since 1970. JSON of `run` counts from it.
+/// `alarm` and `display_alarm` are two more standard errors, for what is reported at once while the threads of a run work.
+/// A failed write of the record goes to the first, and one for displays to the second.
+pub fn obey<
+    R: Threads + Wait + Clock + Files<File = File, Dir: Send> + Sync,
     I: Read + Drop,
     O: Write + Send + Drop,
     A: Write + Send + Drop,
@@ -39,78 +61,119 @@ pub fn program<
     rt: &R,
     alloc: Global,
     words: &[&str],
+    origin: u64,
     input: I,
     out: O,
     alarm: A,
+    display_alarm: A,
     err: &mut StandardError<E>,
 ) -> Ran<O>
     ensures status { result.status ≤ 2 }
-    ensures taken { takes station (map (λ w. w.now) words.now) ≡ true → result.status ≤ 1 }
-    ensures done { takes station (map (λ w. w.now) words.now) ≡ true →
-        IsAnswered (map (λ w. w.now) words.now) (I.remaining input) (O.Write.contents out)
+    ensures obeyed { (app : App) × IsStation app × (takes app (map (λ w. w.now) words.now) ≡ true → (result.status ≤ 1)
+        × IsAnswered app (map (λ w. w.now) words.now) origin (I.remaining input) (O.Write.contents out)
+        (option_map (λ left. O.Write.contents left) result.out) (A.Write.contents alarm)
+        (told_of E.contents err.old) (told_of E.contents err.new) result.status)
+        × IsObeyed app (map (λ w. w.now) words.now) origin (I.remaining input) (O.Write.contents out)
         (option_map (λ left. O.Write.contents left) result.out) (A.Write.contents alarm)
         (told_of E.contents err.old) (told_of E.contents err.new) result.status }
 {
     match read_words(alloc, words) {
-        Ok(job) => do_job(rt, alloc, job, input, out, alarm, err),
+        Ok(job) => do_job(
+            rt,
+            alloc,
+            job,
+            origin,
+            input,
+            out,
+            alarm,
+            display_alarm,
+            err,
+        ),
         Err(WordsFault::NoMemory) => without_output(err, Fault::NoMemory),
-        Err(WordsFault::Clap(error)) => write_answer(&error, out, err),
+        Err(WordsFault::Clap(error)) => write_answer(alloc, &error, out, err),
     }
 }
 
 // Does the job that the arguments name.
 fn do_job<
-    R: Threads + Wait + Clock + Files<File = File> + Sync,
+    R: Threads + Wait + Clock + Files<File = File, Dir: Send> + Sync,
     I: Read + Drop,
     O: Write + Send + Drop,
     A: Write + Send + Drop,
     E: Write,
->(rt: &R, alloc: Global, job: Job, input: I, out: O, alarm: A, err: &mut StandardError<E>) -> Ran<O>
+>(
+    rt: &R,
+    alloc: Global,
+    job: Job,
+    origin: u64,
+    input: I,
+    out: O,
+    alarm: A,
+    display_alarm: A,
+    err: &mut StandardError<E>,
+) -> Ran<O>
     requires { IsInRange job }
     ensures most { result.status ≤ 1 }
-    ensures done { IsDone job (I.remaining input) (O.Write.contents out)
+    ensures done { IsDone job origin (I.remaining input) (O.Write.contents out)
         (option_map (λ left. O.Write.contents left) result.out) (A.Write.contents alarm)
         (told_of E.contents err.old) (told_of E.contents err.new) result.status }
 {
     match job {
-        Job::Replay => replay_input(rt, alloc, input, out, err),
+        Job::Replay { format } => replay_input(rt, alloc, format.since(0), input, out, err),
         Job::Run {
             pace,
             rounds,
             paths,
             record,
+            format,
+            displays,
         } => {
-            let asked = Asked {
+            let tables = Tables {
                 pace,
+                format: format.since(origin),
+            };
+            let asked = Asked {
+                tables,
                 rounds,
+                origin,
                 record: &record,
+                displays: &displays,
                 paths: &paths,
             };
-            run_paths(rt, alloc, asked, out, alarm, err)
+            run_for_displays(rt, alloc, asked, out, alarm, display_alarm, err)
         }
     }
 }
 
 // Writes help or the version to standard output with status 0, and any other answer of `clap` to standard error with status 2.
+// If there is no memory for its text, only that is printed.
 fn write_answer<O: Write + Drop, E: Write>(
+    alloc: Global,
     error: &clap::Error,
-    mut out: O,
+    out: O,
     err: &mut StandardError<E>,
 ) -> Ran<O>
     ensures most { result.status ≤ 2 }
-    ensures help { kind_of error.now ≡ DisplayHelp → result.status ≡ 0 }
-    ensures version { kind_of error.now ≡ DisplayVersion → result.status ≡ 0 }
-    ensures fault { kind_of error.now ≢ DisplayHelp → kind_of error.now ≢ DisplayVersion → result.status ≡ 2 }
+    ensures says { HasNoMemory (option_map (λ left. O.contents left) result.out)
+        (told_of E.contents err.old) (told_of E.contents err.new) result.status
+        ⊎ ((text : List ℕ) × Says (is_shown (kind_of error.now)) text (O.contents out)
+        (option_map (λ left. O.contents left) result.out)
+        (told_of E.contents err.old) (told_of E.contents err.new) result.status) }
 {
-    let status = if error.use_stderr() {
-        err.text(format_args!("{error}"));
-        2
-    } else {
-        let _ = write!(out, "{error}");
-        0
+    let Ok(text) = error.to_string(alloc) else {
+        return without_output(err, Fault::NoMemory);
     };
+    if error.use_stderr() {
+        err.text(text);
+        return Ran {
+            status: 2,
+            out: Some(out),
+        };
+    }
+    let mut sink = ToWrite::new(out);
+    let _ = write_all(&mut sink, text.as_bytes());
     Ran {
-        status,
-        out: Some(out),
+        status: 0,
+        out: Some(sink.into_inner()),
     }
 }

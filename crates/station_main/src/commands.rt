@@ -1,7 +1,8 @@
 //! The commands that `clap` reads: their options, and what help says of them.
-ghost use Rattle.station_main.specs.Command.{IsArg, IsMade, every, path, record_file, replay, rounds, run, run_options, run_times, station, tick};
+ghost use Rattle.station_main.specs.Command.{IsArg, IsMade, every, format, json_folder, path, record_file, replay, rounds, run, run_formats, run_options, run_times, station, tick};
 ghost use Rattle.std.specs.Prelude.{◌≡◌, IfOk};
 
+use clap::builder::ValueParser;
 use clap::{Arg, ArgAction, Command, value_parser};
 use std::alloc::{AllocError, Global};
 
@@ -56,6 +57,7 @@ const AFTER_RUN_HELP: &str = concat!(
     "With --tick the clock also moves between tables, and --every may be an hour.\n",
     "When every path has ended, the last table is written, and a line of counts for\n",
     "each path goes to standard error.\n",
+    "--json writes each table to DIR/aircraft.json too, which displays read.\n",
     "--record writes all that was accepted to FILE, with a ? for each table:\n",
     "'groundstation replay < FILE' prints the tables again.\n",
     "A round has room for 16777216 accepted frames and ticks. When it is full, all\n",
@@ -63,44 +65,58 @@ const AFTER_RUN_HELP: &str = concat!(
     "Formats: docs/FORMATS.md. Receivers that drop: docs/USING.md.",
 );
 
-/// The whole command line: one of the two jobs, help, or the version. Refused if out of memory.
-pub fn station_command<'a>(alloc: Global) -> Result<Command<'a>, AllocError>
-    ensures { IfOk result (IsMade station) }
+/// The whole command line: one of the two jobs, help, or the version. `names` are the words of `--format`. Refused if out of
+/// memory.
+pub fn station_command<'a>(alloc: Global, names: &'a [&'a str]) -> Result<Command<'a>, AllocError>
+    ensures { IfOk result (IsMade (station names.entry)) }
 {
     let top = Command::new(alloc, "groundstation")
         .about("Decodes Mode S frames and keeps a table of aircraft")
         .version(VERSION)
         .after_help(AFTER_HELP)
         .subcommand_required(true);
-    let with_replay = top.subcommand(replay_command(alloc))?;
-    let run = run_command(alloc)?;
+    let replay = replay_command(alloc, names)?;
+    let run = run_command(alloc, names)?;
+    let with_replay = top.subcommand(replay)?;
     with_replay.subcommand(run)
 }
 
-fn replay_command<'a>(alloc: Global) -> Command<'a>
-    ensures { IsMade replay result }
+fn replay_command<'a>(alloc: Global, names: &'a [&'a str]) -> Result<Command<'a>, AllocError>
+    ensures { IfOk result (IsMade (replay names.entry)) }
 {
-    Command::new(alloc, "replay")
+    let format = format_arg(alloc, names);
+    let bare = Command::new(alloc, "replay")
         .about("Reads standard input, and writes the table at each line that is ?")
-        .after_help(AFTER_REPLAY_HELP)
+        .after_help(AFTER_REPLAY_HELP);
+    bare.arg(format)
 }
 
-fn run_command<'a>(alloc: Global) -> Result<Command<'a>, AllocError>
-    ensures { IfOk result (IsMade run) }
+fn run_command<'a>(alloc: Global, names: &'a [&'a str]) -> Result<Command<'a>, AllocError>
+    ensures { IfOk result (IsMade (run names.entry)) }
 {
     let path = path_arg(alloc);
-    let with_options = run_with_options(alloc)?;
+    let with_options = run_with_options(alloc, names)?;
     with_options.arg(path)
 }
 
-fn run_with_options<'a>(alloc: Global) -> Result<Command<'a>, AllocError>
-    ensures { IfOk result (IsMade run_options) }
+fn run_with_options<'a>(alloc: Global, names: &'a [&'a str]) -> Result<Command<'a>, AllocError>
+    ensures { IfOk result (IsMade (run_options names.entry)) }
 {
     let rounds = rounds_arg(alloc);
     let file = record_arg(alloc);
-    let with_times = run_with_times(alloc)?;
-    let with_rounds = with_times.arg(rounds)?;
+    let with_formats = run_with_formats(alloc, names)?;
+    let with_rounds = with_formats.arg(rounds)?;
     with_rounds.arg(file)
+}
+
+fn run_with_formats<'a>(alloc: Global, names: &'a [&'a str]) -> Result<Command<'a>, AllocError>
+    ensures { IfOk result (IsMade (run_formats names.entry)) }
+{
+    let format = format_arg(alloc, names);
+    let folder = json_arg(alloc);
+    let with_times = run_with_times(alloc)?;
+    let with_format = with_times.arg(format)?;
+    with_format.arg(folder)
 }
 
 fn run_with_times<'a>(alloc: Global) -> Result<Command<'a>, AllocError>
@@ -140,6 +156,27 @@ fn tick_arg<'a>(alloc: Global) -> Arg<'a>
         .value_parser(milliseconds)
 }
 
+// `--format FORMAT`
+fn format_arg<'a>(alloc: Global, names: &'a [&'a str]) -> Arg<'a>
+    ensures { IsArg (format names.entry) result }
+{
+    Arg::new(alloc, "format")
+        .long("format")
+        .value_name("FORMAT")
+        .help("How tables are written")
+        .value_parser(ValueParser::Names(names))
+}
+
+// `--json DIR`
+fn json_arg<'a>(alloc: Global) -> Arg<'a>
+    ensures { IsArg json_folder result }
+{
+    Arg::new(alloc, "json")
+        .long("json")
+        .value_name("DIR")
+        .help("Folder for each table as aircraft.json, for displays")
+}
+
 // `--rounds R`
 fn rounds_arg<'a>(alloc: Global) -> Arg<'a>
     ensures { IsArg rounds result }
@@ -148,7 +185,7 @@ fn rounds_arg<'a>(alloc: Global) -> Arg<'a>
     Arg::new(alloc, "rounds")
         .long("rounds")
         .value_name("R")
-        .help("How many times to read the paths, 1 to 1000")
+        .help("How often to read the paths, 1 to 1000")
         .default_value("1")
         .value_parser(times)
 }

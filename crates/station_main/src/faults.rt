@@ -22,12 +22,12 @@ pub enum Fault<'a> {
     CannotOpen(&'a str),
     /// The reporter's thread couldn't be started.
     ThreadNotStarted,
-    /// A station got back other seats than it had given, between two rounds.
-    SeatLost,
     /// This file, as it was given, can't take a record.
     CannotRecord(&'a str),
     /// The record couldn't be written.
     Record,
+    /// This file for displays couldn't be written.
+    CannotWrite(&'a str),
 }
 
 impl Display for Fault<'_> {
@@ -44,9 +44,9 @@ impl Display for Fault<'_> {
             Fault::NoMemory => f.write_str("no memory"),
             Fault::CannotOpen(path) => write!(f, "cannot open {path}"),
             Fault::ThreadNotStarted => f.write_str("thread not started"),
-            Fault::SeatLost => f.write_str("seat lost"),
             Fault::CannotRecord(path) => write!(f, "cannot record to {path}"),
             Fault::Record => f.write_str("record failed"),
+            Fault::CannotWrite(path) => write!(f, "cannot write {path}"),
         }
     }
 }

@@ -17,6 +17,6 @@ pub const FORGET_AT: u64 = 12_582_912;
 /// The most reads of one input.
 pub const TURNS: u32 = u32::MAX;
 
-/// The room of a run's output buffer, in bytes. A full table has 512 rows of 74 bytes, and at most 112 bytes above
-/// them.
-pub const TABLE_ROOM: usize = 65_536;
+/// The room of a run's output buffer, in bytes. A full table has 512 rows, each of 74 bytes as text and of at most
+/// 229 bytes as JSON, and at most 112 bytes around them.
+pub const TABLE_ROOM: usize = 131_072;

@@ -1,20 +1,27 @@
 //! The program over the arguments of its process.
+ghost use Rattle.std.specs.Prelude.{◌≡◌, ◌≢◌, ◌≤◌, IfErr, IfOk, map};
+ghost use Rattle.std.specs.Process.{exit_status};
+ghost use Rattle.std.specs.String.{string_bytes};
+ghost use Rattle.station_main.specs.Jobs.{GivesStatus};
 
-use crate::command_line::program;
+use crate::command_line::obey;
 use crate::faults::{Fault, tell};
+use crate::schedule::milliseconds_since_1970;
 use crate::standard_error::StandardError;
 use std::alloc::{AllocError, Global};
 use std::env;
 use std::fs::File;
 use std::io::{ErrorKind, Read, Write};
+use std::process::ExitCode;
 use std::rt::{Env, Files};
 use std::sync::Wait;
 use std::thread::Threads;
 use std::time::Clock;
 
-/// Runs the program on its arguments, or says why they couldn't be read. Answers the exit status.
-pub fn answer<
-    R: Threads + Wait + Clock + Files<File = File> + Sync,
+/// Runs the program on its arguments. Answers the exit code that its process ends with: 1 if there was no memory for the
+/// arguments, 2 if one isn't UTF-8, and else that of [`obey`](crate::obey).
+pub fn exit_code<
+    R: Threads + Wait + Clock + Files<File = File, Dir: Send> + Sync,
     I: Read + Drop,
     O: Write + Send + Drop,
     A: Write + Send + Drop,
@@ -26,8 +33,40 @@ pub fn answer<
     input: I,
     out: O,
     alarm: A,
+    display_alarm: A,
     err: E,
-) -> u8 {
+) -> ExitCode
+    ensures given { IfOk owned (λ words. GivesStatus (map string_bytes words.items) (I.remaining input)
+        (O.Write.contents out) (A.Write.contents alarm) (E.Write.contents err) (exit_status result)) }
+    ensures memory { IfErr owned (λ kind. kind ≡ ErrorKind.OutOfMemory → exit_status result ≡ 1) }
+    ensures text { IfErr owned (λ kind. kind ≢ ErrorKind.OutOfMemory → exit_status result ≡ 2) }
+{
+    let status = answer(rt, alloc, owned, input, out, alarm, display_alarm, err);
+    ExitCode::from(status)
+}
+
+// Runs the program on its arguments, and answers the exit status. Of arguments that can't be had, only that is printed.
+fn answer<
+    R: Threads + Wait + Clock + Files<File = File, Dir: Send> + Sync,
+    I: Read + Drop,
+    O: Write + Send + Drop,
+    A: Write + Send + Drop,
+    E: Write + Drop,
+>(
+    rt: &R,
+    alloc: Global,
+    owned: Result<Vec<String>, ErrorKind>,
+    input: I,
+    out: O,
+    alarm: A,
+    display_alarm: A,
+    err: E,
+) -> u8
+    ensures given { IfOk owned (λ words. GivesStatus (map string_bytes words.items) (I.remaining input)
+        (O.Write.contents out) (A.Write.contents alarm) (E.Write.contents err) result) }
+    ensures memory { IfErr owned (λ kind. kind ≡ ErrorKind.OutOfMemory → result ≡ 1) }
+    ensures text { IfErr owned (λ kind. kind ≢ ErrorKind.OutOfMemory → result ≡ 2) }
+{
     let mut err = StandardError::new(err);
     let owned = match owned {
         Ok(owned) => owned,
@@ -37,10 +76,24 @@ pub fn answer<
     let Ok(words) = borrowed(alloc, &owned) else {
         return tell(&mut err, Fault::NoMemory);
     };
-    program(rt, alloc, words.as_slice(), input, out, alarm, &mut err).status
+    let origin = milliseconds_since_1970(rt);
+    obey(
+        rt,
+        alloc,
+        words.as_slice(),
+        origin,
+        input,
+        out,
+        alarm,
+        display_alarm,
+        &mut err,
+    )
+    .status
 }
 
-fn not_text<E: Write>(err: &mut StandardError<E>) -> u8 {
+fn not_text<E: Write>(err: &mut StandardError<E>) -> u8
+    ensures { result ≡ 2 }
+{
     err.text(format_args!("error: a word of the command line is not UTF-8\n"));
     2
 }
@@ -60,7 +113,9 @@ pub fn own_words(rt: &(impl Env + AllocGlobal)) -> Result<Vec<String>, ErrorKind
     Ok(owned)
 }
 
-fn borrowed(alloc: Global, owned: &Vec<String>) -> Result<Vec<&str>, AllocError> {
+fn borrowed(alloc: Global, owned: &Vec<String>) -> Result<Vec<&str>, AllocError>
+    ensures { IfOk result (λ words. map (λ w. w.now) words.items ≡ map string_bytes owned.now.items) }
+{
     let mut words = Vec::new(alloc);
     for word in owned {
         words.push(word.as_str())?;

@@ -4,9 +4,8 @@ ghost use Rattle.std.specs.Io.Buffered.{writer_contents};
 ghost use Rattle.station_main.specs.Limits.{program_limits};
 ghost use Rattle.station_main.specs.Output.{GivesBack};
 ghost use Rattle.station_main.specs.Replay.{EndsReplay};
-ghost use Rattle.station_main.specs.Run.{EndsEarly};
 ghost use Rattle.station_main.specs.Status.{fault_status, status_of};
-ghost use Rattle.station_main.specs.Telling.{Tells, replay_lines, told_of};
+ghost use Rattle.station_main.specs.Telling.{OutOfMemory, Tells, replay_lines, told_of};
 
 use crate::faults::{Fault, tell_after, write_tally};
 use crate::limits::{AIRCRAFT, FORGET_AT, LIMITS, TURNS};
@@ -19,19 +18,20 @@ use std::alloc::Global;
 use std::io::{BufReader, BufWriter, Read, Write};
 use std::sync::Wait;
 
-/// Reads the lines of the input, and writes the tables that they ask for. Then prints what was counted, and a fault if
-/// there is one. Answers the output, unless nothing was read.
+/// Reads the lines of the input, and writes the tables that they ask for in this format. Then prints what was counted, and
+/// a fault if there is one. Answers the output, unless nothing was read.
 pub fn replay_input<R: Wait, I: Read + Drop, O: Write + Drop, E: Write>(
     rt: &R,
     alloc: Global,
+    format: Format,
     input: I,
     out: O,
     err: &mut StandardError<E>,
 ) -> Ran<O>
     ensures most { result.status ≤ 1 }
     ensures gone { result.out ≡ None →
-        EndsEarly (told_of E.contents err.old) (told_of E.contents err.new) result.status }
-    ensures ended { IfSome result.out (λ left. EndsReplay program_limits
+        OutOfMemory (told_of E.contents err.old) (told_of E.contents err.new) result.status }
+    ensures ended { IfSome result.out (λ left. EndsReplay format program_limits
         (I.remaining input) (O.Write.contents out) (O.Write.contents left)
         (told_of E.contents err.old) (told_of E.contents err.new) result.status) }
 {
@@ -43,15 +43,7 @@ pub fn replay_input<R: Wait, I: Read + Drop, O: Write + Drop, E: Write>(
     };
     let mut from = FromRead::new(input);
     let mut to = ToWrite::new(output);
-    let answer = replay_forgetting(
-        rt,
-        FORGET_AT,
-        &mut desk,
-        &mut from,
-        &mut to,
-        Format::Text,
-        TURNS,
-    );
+    let answer = replay_forgetting(rt, FORGET_AT, &mut desk, &mut from, &mut to, format, TURNS);
     desk.end(rt);
     let Written { out, has_failed } = take_out(to.into_inner(), &answer);
     Ran {

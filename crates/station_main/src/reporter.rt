@@ -8,11 +8,15 @@ ghost use Rattle.station_main.specs.Tables.{text_of};
 ghost use Rattle.station_report.specs.Sink.{TakesAll};
 
 use crate::bell::Bell;
-use crate::recorder::{Recorder, record_look};
-use crate::schedule::{Act, Moments, Pace, Since, act_at};
-use station_report::{Sink, WriteFault, flush_after, table};
+use crate::beside::Beside;
+use crate::displays::{put_table, table_for};
+use crate::recorder::record_look;
+use crate::schedule::{Act, Moments, Since, Tables, act_at};
+use station_report::{Format, Sink, WriteFault, flush_after, table_as};
 use station_shared::{Look, Seat, Station, StationName};
+use std::fs::File;
 use std::io::Write;
+use std::rt::Files;
 use std::snapshot::Snapshot;
 use std::sync::Wait;
 use std::thread::Promise;
@@ -23,7 +27,7 @@ use std::time::{Clock, Instant};
 pub struct Reported<S, O, K> {
     pub seat: S,
     pub out: O,
-    pub recorder: K,
+    pub beside: K,
     /// Whether a write of the output failed.
     pub has_failed: bool,
 }
@@ -31,54 +35,62 @@ pub struct Reported<S, O, K> {
 /// What a reporter starts from. Its promise is that it reports from there.
 #[derive(Drop)]
 pub struct Given<S, O, K> {
-    pub pace: Pace,
+    pub tables: Tables,
     /// The time of the last tick before.
     pub last: u64,
     pub seat: Snapshot<S>,
     pub out: Snapshot<O>,
-    pub recorder: Snapshot<K>,
+    pub beside: Snapshot<K>,
 }
 
 impl<const N: usize, L: StationName, S: Sink, T: Sink, A: Write> Promise<
-    Reported<Seat<N, L>, S, Option<Recorder<T, A>>>,
-> for Given<Seat<N, L>, S, Option<Recorder<T, A>>> {
+    Reported<Seat<N, L>, S, Beside<T, A>>,
+> for Given<Seat<N, L>, S, Beside<T, A>> {
     ghost use Rattle.station_main.specs.Output.{sink_of};
     ghost use Rattle.station_main.specs.Reporter.{ReportsByAClock};
 
-    ghost kept_by = { λ given reported. ReportsByAClock L.start given.pace given.last given.seat.value reported.seat
+    ghost kept_by = { λ given reported. ReportsByAClock L.start given.tables given.last given.seat.value reported.seat
         (sink_of S.taken S.failures given.out.value) (sink_of S.taken S.failures reported.out)
-        given.recorder.value reported.recorder
+        given.beside.value.record reported.beside.record
         reported.has_failed };
 }
 
-/// Ticks, prints the table and records it each time that the pace's interval has passed, in milliseconds since `start`.
-/// Between tables it ticks alone, if the pace has ticks. `last` is the time of the last tick before it. Ends when all receivers have ended or a write of the output failed. Answers the seat, the sink, which has taken the
-/// tables of its looks and nothing else, and the record, which has gone on with what these looks saw.
-pub fn report<const N: usize, L: StationName, R: Wait + Clock, S: Sink, T: Sink, A: Write>(
+/// Ticks, prints the table and records it each time that it is due, in milliseconds since `start`.
+/// Between tables it ticks alone, if ticks are asked for. `last` is the time of the last tick before it. Ends when all
+/// receivers have ended or a write of the output failed. Answers the seat, the sink, which has taken the tables of its looks
+/// and nothing else, and what is written beside: the record has gone on with what these looks saw.
+pub fn report<
+    const N: usize,
+    L: StationName,
+    R: Wait + Clock + Files<File = File>,
+    S: Sink,
+    T: Sink,
+    A: Write,
+>(
     rt: &R,
     station: &Station<N, L>,
     ended: &Bell,
     start: Option<Instant>,
-    pace: Pace,
+    tables: Tables,
     last: u64,
     seat: Seat<N, L>,
     out: S,
-    recorder: Option<Recorder<T, A>>,
-) -> Reported<Seat<N, L>, S, Option<Recorder<T, A>>>
-    ensures { ReportsByAClock L.start pace last seat result.seat (sink_of S.taken S.failures out)
-        (sink_of S.taken S.failures result.out) recorder
-        result.recorder result.has_failed }
+    beside: Beside<T, A>,
+) -> Reported<Seat<N, L>, S, Beside<T, A>>
+    ensures { ReportsByAClock L.start tables last seat result.seat (sink_of S.taken S.failures out)
+        (sink_of S.taken S.failures result.out) beside.record
+        result.beside.record result.has_failed }
 {
     let mut moments = Since { rt, start };
     report_at(
         rt,
         station,
         ended,
-        pace,
+        tables,
         last,
         seat,
         out,
-        recorder,
+        beside,
         &mut moments,
     )
 }
@@ -87,7 +99,7 @@ pub fn report<const N: usize, L: StationName, R: Wait + Clock, S: Sink, T: Sink,
 fn report_at<
     const N: usize,
     L: StationName,
-    R: Wait + Clock,
+    R: Wait + Clock + Files<File = File>,
     S: Sink,
     T: Sink,
     A: Write,
@@ -96,18 +108,19 @@ fn report_at<
     rt: &R,
     station: &Station<N, L>,
     ended: &Bell,
-    pace: Pace,
+    tables: Tables,
     last: u64,
     mut seat: Seat<N, L>,
     mut out: S,
-    mut recorder: Option<Recorder<T, A>>,
+    mut beside: Beside<T, A>,
     moments: &mut M,
-) -> Reported<Seat<N, L>, S, Option<Recorder<T, A>>>
+) -> Reported<Seat<N, L>, S, Beside<T, A>>
     ensures { (given : List ℕ) × Appends (M.given moments.old) (M.given moments.new) given
-        × Reports L.start pace last given seat result.seat (sink_of S.taken S.failures out)
-        (sink_of S.taken S.failures result.out) recorder
-        result.recorder result.has_failed }
+        × Reports L.start tables last given seat result.seat (sink_of S.taken S.failures out)
+        (sink_of S.taken S.failures result.out) beside.record
+        result.beside.record result.has_failed }
 {
+    let Tables { pace, format } = tables;
     let mut has_failed = false;
     let mut due = pace.after_table(last);
     for _ in rt.forever() {
@@ -122,7 +135,14 @@ fn report_at<
             }
             Act::Print { at, next_due } => {
                 let _ = station.tick(rt, &mut seat, at);
-                let (shown, written) = print_and_record(rt, station, seat, &mut out, &mut recorder);
+                let (shown, written) = print_and_record(
+                    rt,
+                    station,
+                    seat,
+                    format,
+                    &mut out,
+                    &mut beside,
+                );
                 seat = shown;
                 has_failed = written.is_err();
                 due = next_due;
@@ -132,29 +152,39 @@ fn report_at<
     Reported {
         seat,
         out,
-        recorder,
+        beside,
         has_failed,
     }
 }
 
-/// Prints the table as the seat sees it, and hands the seat back. Then it records what was seen, if there is a record. A
-/// refused look prints and records nothing.
-pub fn print_and_record<const N: usize, L: StationName, R: Wait, S: Sink, T: Sink, A: Write>(
+/// Prints the table as the seat sees it, in this format, and hands the seat back. Then it records what was seen, if there is
+/// a record, and puts the table where displays find it, if that is asked. A refused look prints and records nothing.
+pub fn print_and_record<
+    const N: usize,
+    L: StationName,
+    R: Wait + Files<File = File>,
+    S: Sink,
+    T: Sink,
+    A: Write,
+>(
     rt: &R,
     station: &Station<N, L>,
     seat: Seat<N, L>,
+    format: Format,
     out: &mut S,
-    recorder: &mut Option<Recorder<T, A>>,
+    beside: &mut Beside<T, A>,
 ) -> (Seat<N, L>, Result<(), WriteFault>)
-    ensures { PrintsAndRecords L.start seat result.0 (sink_of S.taken S.failures out.old)
-        (sink_of S.taken S.failures out.new) recorder.old
-        recorder.new result.1 }
+    ensures { PrintsAndRecords format L.start seat result.0 (sink_of S.taken S.failures out.old)
+        (sink_of S.taken S.failures out.new) beside.old.record
+        beside.new.record result.1 }
 {
     match seat.look() {
         Ok(look) => {
             let count = look.entries();
-            let (seat, written) = write_table(look, out);
-            record_look(recorder, rt, station, &seat, count);
+            let for_displays = table_for(&beside.displays, &look);
+            let (seat, written) = write_table(look, format, out);
+            record_look(&mut beside.record, rt, station, &seat, count);
+            put_table(&mut beside.displays, rt, for_displays);
             (seat, written)
         }
         Err(seat) => (seat, Ok(())),
@@ -165,13 +195,14 @@ pub fn print_and_record<const N: usize, L: StationName, R: Wait, S: Sink, T: Sin
 // blocks no receiver.
 fn write_table<const N: usize, L: StationName, S: Sink>(
     look: Look<N, L>,
+    format: Format,
     out: &mut S,
 ) -> (Seat<N, L>, Result<(), WriteFault>)
     ensures seat { result.0 ≡ look }
     ensures takes { TakesAll (S.taken out.old) (S.taken out.new) (S.failures out.old) (S.failures out.new)
-        (text_of L.start look.seen) result.1 }
+        (text_of format L.start look.seen) result.1 }
 {
-    let written = table(&look, look.now(), out);
+    let written = table_as(format, &look, look.now(), look.entries(), out);
     let seat = look.done();
     (seat, flush_after(written, out))
 }

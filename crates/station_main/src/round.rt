@@ -1,31 +1,35 @@
 //! One round of the job `run`: the work of one station.
-ghost use Rattle.std.specs.Prelude.{◌≡◌, ◌+◌, ◌≤◌, All, IfErr, IfOk, is_some, length, option_map, reverse, true};
+ghost use Rattle.std.specs.Prelude.{◌≡◌, ◌+◌, ◌≤◌, ◌∷◌, All, IfErr, IfOk, is_some, length, map, option_map, reverse, true};
 ghost use Rattle.station_journal.specs.Resume.{IsSound};
 ghost use Rattle.station_desk.specs.History.{base_of};
+ghost use Rattle.station_shared.specs.Closing.{EachOnce};
 ghost use Rattle.station_shared.specs.Seats.{newcomer};
+ghost use Rattle.station_main.specs.Inputs.{IsUnread, path_of};
 ghost use Rattle.station_main.specs.Limits.{program_limits};
 ghost use Rattle.station_main.specs.Output.{buffered_of};
 ghost use Rattle.station_main.specs.Rounds.{EndsRound, IsLast, given_of};
-ghost use Rattle.station_main.specs.Run.{HavePumped, IsEarly, Leaves};
+ghost use Rattle.station_main.specs.Run.{HaveAnswers, IsUnstarted, Leaves};
 ghost use Rattle.station_main.specs.Telling.{told_of};
 
 mod ending;
 mod opening;
 
+use crate::beside::Beside;
 use crate::faults::Fault;
 use crate::kept::Kept;
 use crate::limits::AIRCRAFT;
 use crate::output::{Ran, Written, without_output};
-use crate::recorder::Recorder;
 use crate::round::ending::{finish, hand_on};
 use crate::round::opening::begin;
-use crate::schedule::Pace;
+use crate::schedule::Tables;
 use crate::standard_error::StandardError;
 use crate::threads::{Input, Output, Receiver, print_last, run_threads};
 use station_report::Sink;
 use station_shared::{Places, Seat, Station, StationName};
 use std::alloc::Global;
+use std::fs::File;
 use std::io::Write;
+use std::rt::Files;
 use std::sync::Wait;
 use std::sync::ledger::Blank;
 use std::thread::Threads;
@@ -36,8 +40,8 @@ use std::time::{Clock, Instant};
 pub struct Plan<O: Write + Drop> {
     /// The start of the program, if the clock could be read.
     pub start: Option<Instant>,
-    /// How often the reporter acts.
-    pub pace: Pace,
+    /// When tables are due, and how they are written.
+    pub tables: Tables,
     /// What the round goes on from.
     pub kept: Kept,
     /// At most 8.
@@ -65,7 +69,7 @@ struct Worked<L: StationName, O> {
 /// Runs a round that is not the last. It hands on the recent entries, unless a fault was printed.
 pub fn run_round<
     L: StationName + Send + Sync,
-    R: Threads + Wait + Clock + Sync,
+    R: Threads + Wait + Clock + Files<File = File, Dir: Send> + Sync,
     O: Write + Send + Drop,
     T: Sink + Send + Drop,
     A: Write + Send + Drop,
@@ -76,10 +80,11 @@ pub fn run_round<
     plan: Plan<O>,
     blank: Blank,
     places: Places<AIRCRAFT>,
-    recorder: &mut Option<Recorder<T, A>>,
+    beside: &mut Beside<T, A>,
     err: &mut StandardError<E>,
 ) -> Round<O>
     requires few { length plan.inputs.items ≤ 8 }
+    requires unread { All IsUnread plan.inputs.items }
     requires ledger { (blank.name ≡ L.name) × (blank.parts ≡ L.parts) }
     requires seats { (L.parts ≡ length plan.inputs.items + 1)
         × (L.seats ≡ length plan.inputs.items + 1)
@@ -89,13 +94,13 @@ pub fn run_round<
     requires base { base_of places.history ≡ plan.kept.recent.base }
     requires limits { L.start.limits ≡ program_limits }
     requires sound { IsSound program_limits plan.kept.recent.base (reverse plan.kept.recent.entries.items) }
-    ensures { EndsRound O.contents (record { pace = plan.pace; inputs = length plan.inputs.items })
+    ensures { EndsRound O.contents (record { tables = plan.tables; paths = map path_of plan.inputs.items })
         (given_of plan.kept) (buffered_of O.contents plan.out).taken
-        recorder.old recorder.new
+        beside.old.record beside.new.record
         (told_of E.contents err.old) (told_of E.contents err.new) result }
 {
-    match work::<L, _, _, _, _>(rt, alloc, plan, blank, places, recorder) {
-        Ok(worked) => hand_on(rt, alloc, worked, recorder, err),
+    match work::<L, _, _, _, _>(rt, alloc, plan, blank, places, beside) {
+        Ok(worked) => hand_on(rt, alloc, worked, beside, err),
         Err(fault) => Round::Over(without_output(err, fault)),
     }
 }
@@ -103,7 +108,7 @@ pub fn run_round<
 /// Runs the last round.
 pub fn run_last<
     L: StationName + Send + Sync,
-    R: Threads + Wait + Clock + Sync,
+    R: Threads + Wait + Clock + Files<File = File, Dir: Send> + Sync,
     O: Write + Send + Drop,
     T: Sink + Send + Drop,
     A: Write + Send + Drop,
@@ -114,10 +119,11 @@ pub fn run_last<
     plan: Plan<O>,
     blank: Blank,
     places: Places<AIRCRAFT>,
-    recorder: &mut Option<Recorder<T, A>>,
+    beside: &mut Beside<T, A>,
     err: &mut StandardError<E>,
 ) -> Ran<O>
     requires few { length plan.inputs.items ≤ 8 }
+    requires unread { All IsUnread plan.inputs.items }
     requires ledger { (blank.name ≡ L.name) × (blank.parts ≡ L.parts) }
     requires seats { (L.parts ≡ length plan.inputs.items + 1)
         × (L.seats ≡ length plan.inputs.items + 1)
@@ -128,13 +134,13 @@ pub fn run_last<
     requires limits { L.start.limits ≡ program_limits }
     requires sound { IsSound program_limits plan.kept.recent.base (reverse plan.kept.recent.entries.items) }
     ensures most { result.status ≤ 1 }
-    ensures last { IsLast (record { pace = plan.pace; inputs = length plan.inputs.items })
+    ensures last { IsLast (record { tables = plan.tables; paths = map path_of plan.inputs.items })
         (given_of plan.kept) (buffered_of O.contents plan.out).taken
         (option_map (λ left. O.contents left) result.out)
-        recorder.old recorder.new
+        beside.old.record beside.new.record
         (told_of E.contents err.old) (told_of E.contents err.new) result.status }
 {
-    match work::<L, _, _, _, _>(rt, alloc, plan, blank, places, recorder) {
+    match work::<L, _, _, _, _>(rt, alloc, plan, blank, places, beside) {
         Ok(worked) => finish(rt, worked, err),
         Err(fault) => without_output(err, fault),
     }
@@ -143,7 +149,7 @@ pub fn run_last<
 // Starts a station, runs its threads to their ends, and prints the last table.
 fn work<
     L: StationName + Send + Sync,
-    R: Threads + Wait + Clock + Sync,
+    R: Threads + Wait + Clock + Files<File = File, Dir: Send> + Sync,
     O: Write + Send + Drop,
     T: Sink + Send + Drop,
     A: Write + Send + Drop,
@@ -153,9 +159,10 @@ fn work<
     plan: Plan<O>,
     blank: Blank,
     places: Places<AIRCRAFT>,
-    recorder: &mut Option<Recorder<T, A>>,
+    beside: &mut Beside<T, A>,
 ) -> Result<Worked<L, O>, Fault<'static>>
     requires few { length plan.inputs.items ≤ 8 }
+    requires unread { All IsUnread plan.inputs.items }
     requires ledger { (blank.name ≡ L.name) × (blank.parts ≡ L.parts) }
     requires seats { (L.parts ≡ length plan.inputs.items + 1)
         × (L.seats ≡ length plan.inputs.items + 1)
@@ -165,20 +172,21 @@ fn work<
     requires base { base_of places.history ≡ plan.kept.recent.base }
     requires limits { L.start.limits ≡ program_limits }
     requires sound { IsSound program_limits plan.kept.recent.base (reverse plan.kept.recent.entries.items) }
-    ensures early { IfErr result IsEarly }
+    ensures unstarted { IfErr result IsUnstarted }
     ensures answered { IfOk result (λ worked. All (λ r. is_some r.answer ≡ true) worked.receivers.items) }
-    ensures many { IfOk result (λ worked. length worked.receivers.items ≡ length plan.inputs.items) }
-    ensures pumped { IfOk result (λ worked. HavePumped L.start plan.kept.recent.entries.items
-        (λ r. r.seat) (λ r. r.source) (λ r. r.answer) plan.inputs.items worked.receivers.items) }
-    ensures output { IfOk result (λ worked. Leaves L.start plan.pace plan.kept.last_tick
+    ensures pumped { IfOk result (λ worked. HaveAnswers L.start plan.kept.recent.entries.items
+        (map path_of plan.inputs.items) (λ r. r.seat) (λ r. r.answer) worked.receivers.items) }
+    ensures once { IfOk result (λ worked.
+        EachOnce L.seats (worked.reporter ∷ map (λ r. r.seat) worked.receivers.items)) }
+    ensures output { IfOk result (λ worked. Leaves L.start plan.tables plan.kept.last_tick
         (newcomer plan.kept.recent.entries.items (length plan.inputs.items)) worked.reporter
         (buffered_of O.contents plan.out).taken (O.contents worked.written.out)
-        recorder.old recorder.new
+        beside.old.record beside.new.record
         worked.written.has_failed) }
 {
     let Plan {
         start,
-        pace,
+        tables,
         kept,
         inputs,
         out,
@@ -192,17 +200,17 @@ fn work<
         rt,
         &station,
         start,
-        pace,
+        tables,
         last,
         receivers,
         reporter,
         out,
-        recorder.take(),
+        beside.take(),
     ) else {
         station.end(rt);
         return Err(Fault::ThreadNotStarted);
     };
-    let (reporter, written) = print_last(rt, &station, reported, recorder);
+    let (reporter, written) = print_last(rt, &station, tables.format, reported, beside);
     Ok(Worked {
         station,
         receivers,

@@ -4,7 +4,17 @@ ghost use Rattle.std.specs.Duration.{as_nanos};
 ghost use Rattle.std.specs.Io.KnownBytes.{Appends};
 ghost use Rattle.station_main.specs.Reporter.{IsActAt, after_table, first_of, has_come, next_moment, next_tick};
 
+use station_report::Format;
 use std::time::{Clock, Duration, Instant};
+
+/// What a reporter's tables are.
+#[derive(Clone, Copy, Debug, PartialEq, Eq)]
+pub struct Tables {
+    /// When they are due.
+    pub pace: Pace,
+    /// How they are written.
+    pub format: Format,
+}
 
 /// The pace of a reporter, in milliseconds.
 #[derive(Clone, Copy, Debug, PartialEq, Eq)]
@@ -147,6 +157,14 @@ impl<R: Clock> Moments for Since<'_, R> {
             Some(Ok(passed)) => milliseconds(passed),
             _ => 0,
         }
+    }
+}
+
+/// The time of the system in milliseconds since 1970, UTC, or 0 if it can't be read.
+pub fn milliseconds_since_1970<R: Clock>(rt: &R) -> u64 {
+    match rt.since_1970() {
+        Ok(passed) => milliseconds(passed),
+        Err(_) => 0,
     }
 }
 

@@ -5,15 +5,17 @@ ghost use Rattle.station_main.specs.Reporter.{ReportsByAClock};
 ghost use Rattle.station_main.specs.Run.{HaveWorked, PrintsLast};
 
 use crate::bell::Bell;
+use crate::beside::Beside;
 use crate::limits::{AIRCRAFT, TURNS};
+use crate::opened::Opened;
 use crate::output::{Written, give_up, unbuffered};
-use crate::recorder::Recorder;
 use crate::reporter::{Given, Reported, print_and_record, report};
-use crate::schedule::Pace;
-use station_report::{Sink, ToWrite};
+use crate::schedule::Tables;
+use station_report::{Format, Sink, ToWrite};
 use station_shared::{FromBuffer, Seat, Station, StationName, Worker, run_receivers};
 use std::fs::File;
 use std::io::{BufWriter, Write};
+use std::rt::Files;
 use std::snapshot::Snapshot;
 use std::sync::Wait;
 use std::thread;
@@ -21,7 +23,7 @@ use std::thread::Threads;
 use std::time::{Clock, Instant};
 
 /// A path that a receiver reads.
-pub type Input = FromBuffer<File>;
+pub type Input = FromBuffer<Opened>;
 
 /// The output of a run, in its buffer.
 pub type Output<O> = ToWrite<BufWriter<O>>;
@@ -35,7 +37,7 @@ type Ended<L, O, K> = Reported<Seat<AIRCRAFT, L>, Output<O>, K>;
 /// thread can't be started, and then nothing is read.
 pub fn run_threads<
     L: StationName + Send + Sync,
-    R: Threads + Wait + Clock + Sync,
+    R: Threads + Wait + Clock + Files<File = File, Dir: Send> + Sync,
     S: Sink + Send + Drop,
     T: Sink + Send + Drop,
     A: Write + Send + Drop,
@@ -43,24 +45,24 @@ pub fn run_threads<
     rt: &R,
     station: &Station<AIRCRAFT, L>,
     start: Option<Instant>,
-    pace: Pace,
+    tables: Tables,
     last: u64,
     mut receivers: Vec<Receiver<L>>,
     seat: Seat<AIRCRAFT, L>,
     out: S,
-    recorder: Option<Recorder<T, A>>,
+    beside: Beside<T, A>,
 ) -> Option<
     (
         Vec<Receiver<L>>,
-        Reported<Seat<AIRCRAFT, L>, S, Option<Recorder<T, A>>>,
+        Reported<Seat<AIRCRAFT, L>, S, Beside<T, A>>,
     ),
 >
     ensures answered { IfSome result (λ ended. All (λ r. is_some r.answer ≡ true) ended.0.items) }
     ensures receivers { IfSome result (λ ended. HaveWorked L.start (λ r. r.seat) (λ r. r.source) (λ r. r.answer)
         receivers.items ended.0.items) }
-    ensures reporter { IfSome result (λ ended. ReportsByAClock L.start pace last seat ended.1.seat
+    ensures reporter { IfSome result (λ ended. ReportsByAClock L.start tables last seat ended.1.seat
         (sink_of S.taken S.failures out) (sink_of S.taken S.failures ended.1.out)
-        recorder ended.1.recorder
+        beside.record ended.1.beside.record
         ended.1.has_failed) }
 {
     let bell = Bell::new();
@@ -71,27 +73,27 @@ pub fn run_threads<
         move |scope| -> Option<
             (
                 Vec<Receiver<L>>,
-                Reported<Seat<AIRCRAFT, L>, S, Option<Recorder<T, A>>>,
+                Reported<Seat<AIRCRAFT, L>, S, Beside<T, A>>,
             ),
         >
             ensures answered { IfSome result (λ ended. All (λ r. is_some r.answer ≡ true) ended.0.items) }
             ensures receivers { IfSome result (λ ended. HaveWorked L.start (λ r. r.seat) (λ r. r.source) (λ r. r.answer)
                 receivers.items ended.0.items) }
-            ensures reporter { IfSome result (λ ended. ReportsByAClock L.start pace last seat ended.1.seat
+            ensures reporter { IfSome result (λ ended. ReportsByAClock L.start tables last seat ended.1.seat
                 (sink_of S.taken S.failures out) (sink_of S.taken S.failures ended.1.out)
-                recorder ended.1.recorder
+                beside.record ended.1.beside.record
                 ended.1.has_failed) }
         {
             let given = Given {
-                pace,
+                tables,
                 last,
                 seat: Snapshot::of(&seat),
                 out: Snapshot::of(&out),
-                recorder: Snapshot::of(&recorder),
+                beside: Snapshot::of(&beside),
             };
             match scope.spawn_with(
                 given,
-                move || report(rt, station, ended, start, pace, last, seat, out, recorder),
+                move || report(rt, station, ended, start, tables, last, seat, out, beside),
             ) {
                 Ok(reporter) => {
                     run_receivers(rt, station, receivers.as_mut_slice(), TURNS);
@@ -104,29 +106,36 @@ pub fn run_threads<
     )
 }
 
-/// Prints the last table and records it, unless a write of the output failed before, and takes the output out of its
-/// buffer. The recorder is put back.
-pub fn print_last<L: StationName, R: Wait, O: Write + Drop, T: Sink + Drop, A: Write + Drop>(
+/// Prints the last table, records it and puts it where displays find it, unless a write of the output failed before. Takes
+/// the output out of its buffer, and puts back what is written beside it.
+pub fn print_last<
+    L: StationName,
+    R: Wait + Files<File = File>,
+    O: Write + Drop,
+    T: Sink + Drop,
+    A: Write + Drop,
+>(
     rt: &R,
     station: &Station<AIRCRAFT, L>,
-    reported: Ended<L, O, Option<Recorder<T, A>>>,
-    recorder: &mut Option<Recorder<T, A>>,
+    format: Format,
+    reported: Ended<L, O, Beside<T, A>>,
+    beside: &mut Beside<T, A>,
 ) -> (Seat<AIRCRAFT, L>, Written<O>)
-    ensures { PrintsLast L.start reported.seat result.0 (buffered_of O.contents reported.out) reported.has_failed
-        (O.contents result.1.out) reported.recorder
-        recorder.new result.1.has_failed }
+    ensures { PrintsLast format L.start reported.seat result.0 (buffered_of O.contents reported.out) reported.has_failed
+        (O.contents result.1.out) reported.beside.record
+        beside.new.record result.1.has_failed }
 {
     let Reported {
         seat,
         mut out,
-        recorder: left,
+        beside: left,
         has_failed,
     } = reported;
-    *recorder = left;
+    *beside = left;
     if has_failed {
         return (seat, give_up(out.into_inner()));
     }
-    let (seat, written) = print_and_record(rt, station, seat, &mut out, recorder);
+    let (seat, written) = print_and_record(rt, station, seat, format, &mut out, beside);
     match written {
         Ok(()) => (seat, unbuffered(out.into_inner())),
         Err(_) => (seat, give_up(out.into_inner())),

@@ -1,12 +1,13 @@
 //! The command line.
-ghost use Rattle.clap.specs.Words.{found_of, rows_of, takes};
-ghost use Rattle.station_main.specs.Command.{GivesJob, IsGiven, IsInRange, NamesJob, station};
+ghost use Rattle.clap.specs.Words.{App, fault_of, found_of, rows_of, takes};
+ghost use Rattle.station_main.specs.Command.{AreFormatNames, GivesJob, IsGiven, IsInRange, IsStation, IsWordsFault, NamesJob, station};
 ghost use Rattle.station_main.specs.declared.words.WordsFault.TheVariants.{NoMemory};
-ghost use Rattle.std.specs.Prelude.{◌≡◌, IfErr, IfOk, map, option_map, true};
+ghost use Rattle.std.specs.Prelude.{◌≡◌, [], IfErr, IfOk, map, option_map, true};
 ghost use Rattle.std.specs.String.{string_bytes};
 
 use crate::commands::station_command;
 use crate::schedule::Pace;
+use crate::table_format::TableFormat;
 use clap::ArgMatches;
 use clap::error::ErrorKind;
 use std::alloc::{AllocError, Global};
@@ -15,7 +16,9 @@ use std::alloc::{AllocError, Global};
 #[derive(Debug, Drop)]
 pub enum Job {
     /// Read standard input, and write the tables that its lines ask for.
-    Replay,
+    Replay {
+        format: TableFormat,
+    },
     /// Read the paths, each by a receiver of its own, and write a table at an interval.
     Run {
         /// A table every 1 to 3,600,000 ms, and where it is asked a tick every 1 to 60,000 ms between two tables.
@@ -26,6 +29,9 @@ pub enum Job {
         paths: Vec<String>,
         /// The file that the run is recorded to, if one is given.
         record: Option<String>,
+        format: TableFormat,
+        /// The folder in which displays find the tables, if one is given.
+        displays: Option<String>,
     },
 }
 
@@ -52,10 +58,11 @@ impl From<AllocError> for WordsFault {
 impl From<clap::Error> for WordsFault {
     ghost use Rattle.clap.specs.Words.{kind_of};
     ghost use Rattle.clap.specs.declared.error.kind.ErrorKind.TheVariants.{OutOfMemory};
-    ghost use Rattle.std.specs.Prelude.{◌≡◌};
-    ghost use Rattle.station_main.specs.declared.words.WordsFault.TheVariants.{NoMemory};
+    ghost use Rattle.std.specs.Prelude.{◌≡◌, ◌≢◌, ◌⊎◌};
+    ghost use Rattle.station_main.specs.declared.words.WordsFault.TheVariants.{Clap, NoMemory};
 
-    ghost from_gives = { λ error fault. kind_of error ≡ OutOfMemory → fault ≡ NoMemory };
+    ghost from_gives = { λ error fault. ((kind_of error ≡ OutOfMemory) × (fault ≡ NoMemory))
+        ⊎ ((kind_of error ≢ OutOfMemory) × (fault ≡ Clap error)) };
 
     fn from(error: clap::Error) -> WordsFault {
         if error.kind() == ErrorKind::OutOfMemory {
@@ -65,21 +72,49 @@ impl From<clap::Error> for WordsFault {
     }
 }
 
-/// Reads a command line, which begins with the program's name, by `clap`: the subcommand, and for `run` the values of
-/// `--every`, `--tick`, `--rounds`, `--record` and PATH. Arguments that `clap` accepts are refused only if out of memory.
+/// Reads a command line, which begins with the program's name, by `clap`: the subcommand, the format, and for `run` the
+/// values of its options and PATH. Arguments that `clap` accepts are refused only if out of memory.
 pub fn read_words<'a>(alloc: Global, words: &'a [&'a str]) -> Result<Job, WordsFault>
-    ensures job { IfOk result (NamesJob (map (λ w. w.now) words.entry.now)) }
+    ensures job { (app : App) × IsStation app
+        × IfOk result (λ job. (fault_of app (map (λ w. w.now) words.entry.now) ≡ [])
+        × NamesJob app (map (λ w. w.now) words.entry.now) job)
+        × IfErr result (λ fault. IsWordsFault app (map (λ w. w.now) words.entry.now) fault
+        × (takes app (map (λ w. w.now) words.entry.now) ≡ true → fault ≡ NoMemory)) }
     ensures range { IfOk result IsInRange }
-    ensures taken { IfErr result (λ fault. takes station (map (λ w. w.now) words.entry.now) ≡ true → fault ≡ NoMemory) }
 {
-    let matches = station_command(alloc)?.try_get_matches_from(words)?;
+    read_named(alloc, format_names(), words)
+}
+
+// The words of `--format`.
+fn format_names<'a>() -> &'a [&'a str]
+    ensures { AreFormatNames result }
+{
+    &["text", "json"]
+}
+
+// The same beside the words of `--format`.
+fn read_named<'a>(
+    alloc: Global,
+    names: &'a [&'a str],
+    words: &'a [&'a str],
+) -> Result<Job, WordsFault>
+    ensures job { IfOk result (λ job. (fault_of (station names.entry) (map (λ w. w.now) words.entry.now) ≡ [])
+        × NamesJob (station names.entry) (map (λ w. w.now) words.entry.now) job) }
+    ensures range { IfOk result IsInRange }
+    ensures refused { IfErr result (λ fault.
+        IsWordsFault (station names.entry) (map (λ w. w.now) words.entry.now) fault
+        × (takes (station names.entry) (map (λ w. w.now) words.entry.now) ≡ true → fault ≡ NoMemory)) }
+{
+    let matches = station_command(alloc, names)?.try_get_matches_from(words)?;
     let Some((name, given)) = matches.subcommand() else {
         unreachable!()
     };
     if name == "run" {
         return Ok(read_run(alloc, given)?);
     }
-    Ok(Job::Replay)
+    Ok(Job::Replay {
+        format: TableFormat::named(given.get_str("format")),
+    })
 }
 
 fn read_run(alloc: Global, given: &ArgMatches<'_>) -> Result<Job, AllocError>
@@ -98,12 +133,16 @@ fn read_run(alloc: Global, given: &ArgMatches<'_>) -> Result<Job, AllocError>
         unreachable!()
     };
     let paths = owned(alloc, texts)?;
+    let format = TableFormat::named(given.get_str("format"));
     let file = owned_if_given(alloc, given.get_str("record"))?;
+    let folder = owned_if_given(alloc, given.get_str("json"))?;
     Ok(Job::Run {
         pace: Pace { every, tick },
         rounds,
         paths,
         record: file,
+        format,
+        displays: folder,
     })
 }
 

@@ -31,6 +31,7 @@ Fed-none x y same = record {
   many = refl;
   accepted = omega (arith, ap (λ (s : Seated). s.accepted) same);
   number = ap (λ (s : Seated). s.number) same;
+  place = ap (λ (s : Seated). s.can_look) same;
 }
 
 -- a step, and what was fed after it
@@ -46,6 +47,7 @@ Fed-step start x z y f fs (Ok taken) us step fed =
       many = omega (arith, fed.many, count_first (Ok taken) us);
       accepted = omega (arith, fed.accepted, a.accepted, count_first (Ok taken) us);
       number = fed.number ∙ a.number;
+      place = fed.place ∙ a.place;
     }
 Fed-step start x z y f fs (Err refusal) us step fed = record {
   more = step.later.0 ++ fed.more;
@@ -54,6 +56,7 @@ Fed-step start x z y f fs (Err refusal) us step fed = record {
   many = omega (arith, fed.many, count_first (Err refusal) us);
   accepted = omega (arith, fed.accepted, step.accepted, count_first (Err refusal) us);
   number = fed.number ∙ step.number;
+  place = fed.place ∙ step.place;
 }
 
 pub Fed-steps : (start : Start) (x y : Seated) (fs : List (List ℕ)) (us : List (Result (Unit {0}) Refusal)) → Feeds (SeatSteps start) x fs us y → Fed x y fs us

@@ -42,6 +42,7 @@ pub record Fed (old new : Seated) (frames : List (List ℕ)) (answers : List (Re
   pub many : length (accepted_frames frames answers) ≡ count_by is_ok answers
   pub accepted : new.accepted ≡ old.accepted + count_by is_ok answers
   pub number : new.number ≡ old.number
+  pub place : new.can_look ≡ old.can_look
 
 -- a pump fed the seat by its steps, whether the answer is a tally or a fault: what the seat has seen since contains the
 -- accepted frames in their order, and it had as many calls accepted as the tally counts

@@ -33,17 +33,18 @@ impl<const N: usize, L: StationName> Model for Look<N, L>
 where
     PublishRule: Protocol<PublishedTable<N>, Option<Mark>>,
 {
+    ghost use Rattle.std.specs.Prelude.{true};
     ghost use Rattle.left_right.specs.Sides.{view as view_of};
     ghost use Rattle.station_journal.specs.Log.{IsLegal};
     ghost use Rattle.station_book.specs.Matching.{Matches};
     ghost use Rattle.station_desk.specs.History.{base_of};
     ghost use Rattle.station_desk.specs.Start.{log_of};
-    ghost use Rattle.station_shared.specs.Seats.{Seated};
+    ghost use Rattle.station_shared.specs.Seats.{Seated, seated};
     ghost use Rattle.station_desk.specs.Published.{IsOf};
 
     ghost Value = { Seated };
 
-    ghost view = { λ l. l.standing };
+    ghost view = { λ l. seated l.standing true };
 
     ghost invariant = { λ l. IsOf L.start (view_of l.looking.place)
         × Matches N (base_of L.start.history) l.looking.part.value.book l.standing.seen
@@ -77,7 +78,7 @@ impl<const N: usize, L: StationName> Seat<N, L> {
     /// - no reader is let in;
     /// - the published table lacks an entry that the seat has seen.
     ///
-    /// The seat comes back as it was then.
+    /// The seat comes back as it was then, with its place if it has one.
     pub fn look(self) -> Result<Look<N, L>, Seat<N, L>>
         ensures { MatchResult result (λ look. Looks L.start self look) (λ seat. seat ≡ self) }
     {
@@ -130,7 +131,7 @@ impl<const N: usize, L: StationName> Look<N, L> {
         self.looking.get().book.entries()
     }
 
-    /// Ends the look. The seat has seen what the look showed.
+    /// Ends the look. The seat has seen what the look showed, and keeps its place.
     pub fn done(self) -> Seat<N, L>
         ensures { result ≡ self }
     {

@@ -1,9 +1,9 @@
 //! A seat at a station.
-ghost use Rattle.std.specs.Prelude.{◌≡◌, ◌≤◌, IfSome};
+ghost use Rattle.std.specs.Prelude.{◌≡◌, ◌≤◌, IfSome, is_some};
 ghost use Rattle.station_journal.specs.Log.{IsLegal};
 ghost use Rattle.station_desk.specs.Start.{log_of};
 ghost use Rattle.left_right.specs.Sides.{view as view_of};
-ghost use Rattle.station_shared.specs.Seats.{Told, count_of, own};
+ghost use Rattle.station_shared.specs.Seats.{Told, count_of, own, seated, stands};
 ghost use Rattle.station_desk.specs.Published.{IsOf};
 ghost use Rattle.station_desk.specs.Desk.{most_aircraft};
 
@@ -16,7 +16,8 @@ use std::marker::Model;
 
 /// The right to call a station, as one of its seats. A seat that has a place among the readers can also look.
 ///
-/// Contracts see its number, how many of its calls were accepted, and what it has seen of the journal.
+/// Contracts see its number, how many of its calls were accepted, whether it has a place, and what it has seen of the
+/// journal.
 pub struct Seat<const N: usize, L: StationName>
 where
     PublishRule: Protocol<PublishedTable<N>, Option<Mark>>,
@@ -30,14 +31,14 @@ impl<const N: usize, L: StationName> Model for Seat<N, L>
 where
     PublishRule: Protocol<PublishedTable<N>, Option<Mark>>,
 {
-    ghost use Rattle.std.specs.Prelude.{IfSome};
+    ghost use Rattle.std.specs.Prelude.{IfSome, is_some};
     ghost use Rattle.left_right.specs.Sides.{view as view_of};
-    ghost use Rattle.station_shared.specs.Seats.{Seated};
+    ghost use Rattle.station_shared.specs.Seats.{Seated, seated};
     ghost use Rattle.station_desk.specs.Published.{IsOf};
 
     ghost Value = { Seated };
 
-    ghost view = { λ s. s.standing };
+    ghost view = { λ s. seated s.standing (is_some s.place) };
 
     ghost invariant = { λ s. IfSome s.place (λ p. IsOf L.start (view_of p.place)) };
 }
@@ -71,7 +72,7 @@ impl<const N: usize, L: StationName> Seat<N, L> {
 
     /// Takes the seat apart: what it keeps whether it looks or not, and its place among the readers, if it has one.
     pub(crate) fn apart(self) -> (Standing<L>, Option<ReaderPlace<N>>)
-        ensures standing { result.0 ≡ self }
+        ensures standing { seated result.0 (is_some result.1) ≡ self }
         ensures place { IfSome result.1 (λ p. IsOf L.start (view_of p.place)) }
     {
         let Seat { standing, place } = self;
@@ -80,7 +81,7 @@ impl<const N: usize, L: StationName> Seat<N, L> {
 
     /// What the seat keeps whether it looks or not. Its place among the readers is dropped.
     pub(crate) fn into_standing(self) -> Standing<L>
-        ensures { result ≡ self }
+        ensures { result ≡ stands self }
     {
         let Seat { standing, place: _ } = self;
         standing

@@ -24,9 +24,9 @@ impl<L: StationName> Model for Standing<L> {
     ghost use Rattle.std.specs.Prelude.{◌≡◌, ◌≤◌};
     ghost use Rattle.station_journal.specs.Log.{IsLegal};
     ghost use Rattle.station_desk.specs.Start.{log_of};
-    ghost use Rattle.station_shared.specs.Seats.{Seated, count_of, own};
+    ghost use Rattle.station_shared.specs.Seats.{Stands, count_of, own};
 
-    ghost Value = { Seated };
+    ghost Value = { Stands };
 
     ghost view = { λ s. record {
       number = s.number;

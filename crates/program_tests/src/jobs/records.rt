@@ -19,7 +19,7 @@ const RECORD_FAILED: &str = "groundstation: record failed\n";
 
 // Runs over the two files, with a record in this file.
 fn run_recorded<
-    R: Threads + Wait + Clock + Files<File = File> + Sync + AllocGlobal,
+    R: Threads + Wait + Clock + Files<File = File, Dir: Send> + Sync + AllocGlobal,
     O: Write + Send + Drop,
 >(rt: &R, files: &TwoFiles, options: &str, record: &str, out: O) -> Result<Told, AllocError> {
     let alloc = rt.alloc();
@@ -35,10 +35,9 @@ fn record_path(alloc: Global, files: &TwoFiles, name: &str) -> Result<String, Al
 }
 
 // The bytes of a file, and what `replay` prints of them.
-fn shown_again<R: Threads + Wait + Clock + Files<File = File> + Sync + AllocGlobal + Abort>(
-    rt: &R,
-    record: &str,
-) -> io::Result<(Vec<u8>, Vec<u8>)> {
+fn shown_again<
+    R: Threads + Wait + Clock + Files<File = File, Dir: Send> + Sync + AllocGlobal + Abort,
+>(rt: &R, record: &str) -> io::Result<(Vec<u8>, Vec<u8>)> {
     let lines = fs::read(rt, record)?;
     let shown = replay(rt, lines.as_slice());
     Ok((lines, shown.out))

@@ -22,7 +22,7 @@ const ONE_FRAME_REFUSED_EACH: &str = concat!(
 
 // Rounds over these paths, with a table at the end of each.
 fn run_rounds<
-    R: Threads + Wait + Clock + Files<File = File> + Sync + AllocGlobal,
+    R: Threads + Wait + Clock + Files<File = File, Dir: Send> + Sync + AllocGlobal,
     O: Write + Send + Drop,
 >(rt: &R, rounds: u16, paths: &[&str], out: O) -> Result<Told, AllocError> {
     let alloc = rt.alloc();

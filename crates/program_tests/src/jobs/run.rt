@@ -133,7 +133,7 @@ pub fn path_text(path: &PathBuf) -> Result<&str, AllocError> {
     }
 }
 
-fn run_two<R: Threads + Wait + Clock + Files<File = File> + Sync + AllocGlobal + Abort>(
+fn run_two<R: Threads + Wait + Clock + Files<File = File, Dir: Send> + Sync + AllocGlobal + Abort>(
     rt: &R,
     first: &str,
     second: &str,
@@ -233,7 +233,7 @@ fn tallies_stand_in_the_order_of_the_paths(rt: HostRuntime) -> io::Result<()> {
 }
 
 // Whether a run over these paths ends with status 1 and says this alone.
-fn says_alone<R: Threads + Wait + Clock + Files<File = File> + Sync + AllocGlobal>(
+fn says_alone<R: Threads + Wait + Clock + Files<File = File, Dir: Send> + Sync + AllocGlobal>(
     rt: &R,
     paths: &[&str],
     told: &str,

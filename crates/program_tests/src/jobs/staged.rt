@@ -12,7 +12,8 @@ use std::thread::{self, Threads, join};
 use std::time::{Clock, Duration, Instant};
 
 /// A runtime whose clock shows one time after another, in milliseconds: each reading shows the next. The last one
-/// repeats, and the reading after it sets the flag. `hold_at` stops the clock earlier.
+/// repeats, and the reading after it sets the flag. `hold_at` stops the clock earlier. The time since 1970 is always
+/// 1,700,000,000,000 ms.
 #[derive(Drop)]
 pub struct Staged<'a, R> {
     rt: &'a R,
@@ -66,7 +67,7 @@ impl<'a, R: Clock> Clock for Staged<'a, R> {
     }
 
     fn since_1970(&self) -> io::Result<Duration> {
-        self.monotonic()
+        Ok(Duration::from_millis(1_700_000_000_000))
     }
 
     fn sleep(&self, duration: Duration) {
@@ -186,7 +187,7 @@ pub struct Lasted {
 /// The job `run` by a clock, over one path that lasts until it is fed.
 pub fn run_lasting<
     R: Threads + Clock + Files + Sync + AllocGlobal + Abort,
-    C: Threads + Wait + Clock + Files<File = File> + Sync,
+    C: Threads + Wait + Clock + Files<File = File, Dir: Send> + Sync,
     O: Write + Send + Drop,
 >(rt: &R, clock: &C, line: &str, out: O, feed: Feed<'_>) -> io::Result<Lasted> {
     let lasting = lasting_path(rt, rt.alloc())?;

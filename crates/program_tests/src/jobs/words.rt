@@ -1,6 +1,6 @@
 //! Command lines that are refused, or that ask for help.
 use super::{NO_LINES, run_words, text, words_of};
-use station_main::{Job, Pace, WordsFault, read_words};
+use station_main::{Job, Pace, TableFormat, WordsFault, program, read_words};
 use std::alloc::{AllocError, Global};
 
 // The lines that each refusal begins with. All end in the same way.
@@ -49,6 +49,20 @@ fn words_are_refused(rt: HostRuntime) -> Result<(), AllocError> {
             "error: invalid value '60001' for '--tick <MS>': 60001 is not in 1..=60000\n",
         ),
         (
+            "groundstation replay --format xml",
+            concat!(
+                "error: invalid value 'xml' for '--format <FORMAT>'\n",
+                "  [possible values: text, json]\n",
+            ),
+        ),
+        (
+            "groundstation run --every 5 --format JSON x",
+            concat!(
+                "error: invalid value 'JSON' for '--format <FORMAT>'\n",
+                "  [possible values: text, json]\n",
+            ),
+        ),
+        (
             "groundstation run --every 5 --record f --record g x",
             concat!(
                 "error: the argument '--record <FILE>' cannot be used multiple times\n",
@@ -79,7 +93,7 @@ fn rounds_of(alloc: Global, line: &str) -> Result<u16, WordsFault> {
     let words = words_of(alloc, line, [].as_slice())?;
     match read_words(alloc, words.as_slice())? {
         Job::Run { rounds, .. } => Ok(rounds),
-        Job::Replay => Ok(0),
+        Job::Replay { .. } => Ok(0),
     }
 }
 
@@ -100,7 +114,7 @@ fn pace_of(alloc: Global, line: &str) -> Result<Option<Pace>, WordsFault> {
     let words = words_of(alloc, line, [].as_slice())?;
     match read_words(alloc, words.as_slice())? {
         Job::Run { pace, .. } => Ok(Some(pace)),
-        Job::Replay => Ok(None),
+        Job::Replay { .. } => Ok(None),
     }
 }
 
@@ -126,12 +140,46 @@ fn ticks_are_only_where_they_are_given(rt: HostRuntime) -> Result<(), WordsFault
     Ok(())
 }
 
+// The format that a line asks for.
+fn format_of(alloc: Global, line: &str) -> Result<TableFormat, WordsFault> {
+    let words = words_of(alloc, line, [].as_slice())?;
+    match read_words(alloc, words.as_slice())? {
+        Job::Run { format, .. } => Ok(format),
+        Job::Replay { format } => Ok(format),
+    }
+}
+
+#[test]
+fn tables_are_text_where_no_format_is_given(rt: HostRuntime) -> Result<(), WordsFault> {
+    for (line, format) in [
+        ("groundstation replay", TableFormat::Text),
+        ("groundstation replay --format text", TableFormat::Text),
+        ("groundstation replay --format=json", TableFormat::Json),
+        ("groundstation run --every 5 x", TableFormat::Text),
+        (
+            "groundstation run --every 5 --format text x",
+            TableFormat::Text,
+        ),
+        (
+            "groundstation run x --format json --every 5",
+            TableFormat::Json,
+        ),
+        (
+            "groundstation run --every 5 -- x --format json",
+            TableFormat::Text,
+        ),
+    ] {
+        assert_eq!(rt; format_of(rt.alloc(), line)?, format, "{line}");
+    }
+    Ok(())
+}
+
 // Whether a line asks to record to this file, or to none.
 fn is_recorded_to(alloc: Global, line: &str, file: Option<&str>) -> Result<bool, WordsFault> {
     let words = words_of(alloc, line, [].as_slice())?;
     match read_words(alloc, words.as_slice())? {
         Job::Run { record, .. } => Ok(record.as_deref() == file),
-        Job::Replay => Ok(false),
+        Job::Replay { .. } => Ok(false),
     }
 }
 
@@ -188,11 +236,13 @@ const RUN_HELP: &str = concat!(
     "Arguments:\n",
     "  <PATH>...  1 to 8 files or named pipes, each read by a receiver of its own\n\n",
     "Options:\n",
-    "      --every <MS>     Milliseconds from one table to the next, 1 to 3600000\n",
-    "      --tick <MS>      Milliseconds between ticks without a table, 1 to 60000\n",
-    "      --rounds <R>     How many times to read the paths, 1 to 1000 [default: 1]\n",
-    "      --record <FILE>  File to record the run to, for replay\n",
-    "  -h, --help           Print help\n\n",
+    "      --every <MS>       Milliseconds from one table to the next, 1 to 3600000\n",
+    "      --tick <MS>        Milliseconds between ticks without a table, 1 to 60000\n",
+    "      --format <FORMAT>  How tables are written [possible values: text, json]\n",
+    "      --json <DIR>       Folder for each table as aircraft.json, for displays\n",
+    "      --rounds <R>       How often to read the paths, 1 to 1000 [default: 1]\n",
+    "      --record <FILE>    File to record the run to, for replay\n",
+    "  -h, --help             Print help\n\n",
     "Lines of a path, one of each kind:\n",
 );
 
@@ -243,6 +293,29 @@ fn the_version_is_written_to_standard_output(rt: HostRuntime) -> Result<(), Allo
         let told = run_words(&rt, words.as_slice(), NO_LINES);
         assert_eq!(rt; text(&told.out), "groundstation 1.0.0\n", "{line}");
         assert!(rt; told.err.is_empty() && told.status == 0, "{line}");
+    }
+    Ok(())
+}
+
+// The call with one standard error, which two threads may hold.
+#[test]
+fn a_status_is_that_of_the_words(rt: HostRuntime) -> Result<(), AllocError> {
+    for (line, version) in [
+        ("groundstation --version", "groundstation 1.0.0\n"),
+        ("groundstation replay", ""),
+    ] {
+        let words = words_of(rt.alloc(), line, [].as_slice())?;
+        let mut out = Vec::new(rt.alloc());
+        let status = program(
+            &rt,
+            rt.alloc(),
+            words.as_slice(),
+            NO_LINES,
+            &mut out,
+            rt.stderr(),
+        );
+        assert_eq!(rt; text(&out), version, "{line}");
+        assert_eq!(rt; status, 0, "{line}");
     }
     Ok(())
 }

@@ -1,7 +1,7 @@
 //! How a running book takes entries.
 
 ghost use Rattle.std.specs.Prelude.{◌≡◌, ◌⊎◌, ◌&&◌, not, ℕ, ◌<◌, ◌≤◌, true, List, [], ◌∷◌, ◌++◌};
-ghost use Rattle.std.specs.Prelude.{length, OnOk, IfErr, Ok};
+ghost use Rattle.std.specs.Prelude.{length, take, OnOk, IfErr, Ok};
 ghost use Rattle.station_book.specs.declared.decoded_entry.DecodedEntry.TheVariants as decoded;
 ghost use Rattle.modes_frame.specs.Claims.{is_unassigned};
 ghost use Rattle.station_journal.specs.declared.entry.Entry.{Entry};
@@ -75,13 +75,16 @@ impl<const N: usize> Book<N> {
         address != 0 && address != 0xFF_FFFF && (place.is_ok() || !self.table.is_full())
     }
 
-    /// Applies the entries in their order, as long as they fit. `Err` has the place of the first that doesn't.
+    /// Applies the entries in their order, as long as they fit. `Err` has the place of the first that doesn't. The book has
+    /// then applied those before it.
     pub fn take_all(&mut self, base: u64, entries: &[Entry]) -> Result<(), u64>
         requires starts { self.old ≡ starting base }
         requires few { length entries.now ≤ most_entries }
         ensures ok { OnOk result (self.new ≡ book_after base entries.now) }
         ensures matches { OnOk result (Matches N base self.new entries.now) }
         ensures err { IfErr result (λ place. IsFirstUnsound N base entries.now place) }
+        ensures kept { IfErr result (λ place. (self.new ≡ book_after base (take place entries.now))
+            × Matches N base self.new (take place entries.now)) }
     {
         for entry in entries {
             if !self.fits(entry) {

@@ -1,23 +1,25 @@
 //! How a round ends: it prints what was counted, and keeps the recent entries or drops them.
-ghost use Rattle.std.specs.Prelude.{◌≡◌, ◌≤◌, ◌∷◌, ℕ, List, Option, All, IfErr, IfOk, is_some, length, option_map, true};
-ghost use Rattle.station_shared.specs.Seats.{Seated, newcomer};
+ghost use Rattle.std.specs.Prelude.{◌≡◌, ◌≤◌, ◌∷◌, ℕ, List, Option, All, IfErr, IfOk, is_some, length, map, option_map, true};
+ghost use Rattle.station_shared.specs.Closing.{EachOnce};
+ghost use Rattle.station_shared.specs.Seats.{newcomer};
 ghost use Rattle.station_main.specs.Recorded.{Recording};
-ghost use Rattle.station_main.specs.Rounds.{Asked, EndsRound, Given, GoesOnFrom, IsBetween, KeepsRecent, IsLast, given_of};
-ghost use Rattle.station_main.specs.Run.{Leaves};
+ghost use Rattle.station_main.specs.Rounds.{Asked, EndsRound, Given, GoesOnFrom, IsLast, KeepsRecent, given_of};
+ghost use Rattle.station_main.specs.Run.{HaveAnswers, Leaves};
 ghost use Rattle.station_main.specs.Telling.{told_of};
 
+use crate::beside::Beside;
 use crate::faults::{Fault, tell};
 use crate::kept::Kept;
 use crate::limits::AIRCRAFT;
 use crate::output::{Ran, Written};
-use crate::recorder::{Recorder, record_rest};
+use crate::recorder::record_rest;
 use crate::round::{Round, Worked};
 use crate::standard_error::StandardError;
 use crate::tallies::tell_end;
 use crate::threads::Receiver;
 use station_journal::NoMemory;
 use station_report::Sink;
-use station_shared::{Missing, Seat, Station, StationName, Worker};
+use station_shared::{Seat, Station, StationName, Worker};
 use std::alloc::Global;
 use std::io::Write;
 use std::sync::Wait;
@@ -31,8 +33,9 @@ pub(super) fn finish<L: StationName, R: Wait, O: Write + Drop, E: Write>(
     requires { All (λ r. is_some r.answer ≡ true) worked.receivers.items }
     ensures most { result.status ≤ 1 }
     ensures last { (asked : Asked) (given : Given) (before : Option (List ℕ)) (was is : Option Recording) →
-        length worked.receivers.items ≡ asked.inputs → GoesOnFrom given L.start →
-        Leaves L.start asked.pace given.last_tick (newcomer given.entries asked.inputs) worked.reporter
+        HaveAnswers L.start given.entries asked.paths (λ r. r.seat) (λ r. r.answer) worked.receivers.items →
+        GoesOnFrom given L.start →
+        Leaves L.start asked.tables given.last_tick (newcomer given.entries (length asked.paths)) worked.reporter
         before (O.contents worked.written.out) was is worked.written.has_failed →
         IsLast asked given before (option_map (λ left. O.contents left) result.out) was is
         (told_of E.contents err.old) (told_of E.contents err.new) result.status }
@@ -55,16 +58,18 @@ pub(super) fn hand_on<L: StationName, R: Wait, O: Write + Drop, T: Sink, A: Writ
     rt: &R,
     alloc: Global,
     worked: Worked<L, O>,
-    recorder: &mut Option<Recorder<T, A>>,
+    beside: &mut Beside<T, A>,
     err: &mut StandardError<E>,
 ) -> Round<O>
-    requires { All (λ r. is_some r.answer ≡ true) worked.receivers.items }
+    requires answered { All (λ r. is_some r.answer ≡ true) worked.receivers.items }
+    requires once { EachOnce L.seats (worked.reporter ∷ map (λ r. r.seat) worked.receivers.items) }
     ensures { (asked : Asked) (given : Given) (before : Option (List ℕ)) (was : Option Recording) →
-        length worked.receivers.items ≡ asked.inputs → GoesOnFrom given L.start →
-        Leaves L.start asked.pace given.last_tick (newcomer given.entries asked.inputs) worked.reporter
-        before (O.contents worked.written.out) was recorder.old
+        HaveAnswers L.start given.entries asked.paths (λ r. r.seat) (λ r. r.answer) worked.receivers.items →
+        GoesOnFrom given L.start →
+        Leaves L.start asked.tables given.last_tick (newcomer given.entries (length asked.paths)) worked.reporter
+        before (O.contents worked.written.out) was beside.old.record
         worked.written.has_failed →
-        EndsRound O.contents asked given before was recorder.new
+        EndsRound O.contents asked given before was beside.new.record
         (told_of E.contents err.old) (told_of E.contents err.new) result }
 {
     let Worked {
@@ -81,10 +86,10 @@ pub(super) fn hand_on<L: StationName, R: Wait, O: Write + Drop, T: Sink, A: Writ
             out: Some(out),
         });
     }
-    match keep(rt, alloc, station, receivers, reporter, recorder) {
+    match keep(rt, alloc, station, receivers, reporter, beside) {
         Ok(kept) => Round::GoesOn { out, kept },
-        Err(fault) => Round::Over(Ran {
-            status: tell(err, fault),
+        Err(_) => Round::Over(Ran {
+            status: tell(err, Fault::NoMemory),
             out: Some(out),
         }),
     }
@@ -97,34 +102,32 @@ fn keep<L: StationName, R: Wait, T: Sink, A: Write>(
     station: Station<AIRCRAFT, L>,
     receivers: Vec<Receiver<L>>,
     reporter: Seat<AIRCRAFT, L>,
-    recorder: &mut Option<Recorder<T, A>>,
-) -> Result<Kept, Fault<'static>>
-    ensures kept { IfOk result (λ kept. KeepsRecent L.start reporter (given_of kept)
-        recorder.old recorder.new) }
-    ensures between { IfErr result IsBetween }
-    ensures same { IfErr result (λ _. recorder.new ≡ recorder.old) }
+    beside: &mut Beside<T, A>,
+) -> Result<Kept, NoMemory>
+    requires { EachOnce L.seats (reporter ∷ map (λ r. r.seat) receivers.items) }
+    ensures kept { IfOk result (λ kept. KeepsRecent L.start
+        (record { reporter = reporter; receivers = map (λ r. r.seat) receivers.items }) (given_of kept)
+        beside.old.record beside.new.record) }
+    ensures same { IfErr result (λ _. beside.new.record ≡ beside.old.record) }
 {
-    let Ok(seats) = seats_of(alloc, reporter, receivers) else {
-        station.end(rt);
-        return Err(Fault::NoMemory);
-    };
-    match station.close(rt, seats) {
-        Ok(closed) => {
-            let Ok(kept) = Kept::of(alloc, &closed.journal) else {
-                return Err(Fault::NoMemory);
-            };
-            record_rest(
-                recorder,
-                closed.journal.entries(),
-                kept.recent.entries.len() as u64,
-            );
-            Ok(kept)
-        }
-        Err(Missing { station, seats: _ }) => {
+    let seats = match seats_of(alloc, reporter, receivers) {
+        Ok(seats) => seats,
+        Err(refused) => {
             station.end(rt);
-            Err(Fault::SeatLost)
+            return Err(refused);
         }
-    }
+    };
+    let closed = match station.close(rt, seats) {
+        Ok(closed) => closed,
+        Err(_missing) => unreachable!(),
+    };
+    let kept = Kept::of(alloc, &closed.journal)?;
+    record_rest(
+        &mut beside.record,
+        closed.journal.entries(),
+        kept.recent.entries.len() as u64,
+    );
+    Ok(kept)
 }
 
 // All seats of a station: the reporter's, and those of the receivers.
@@ -133,7 +136,7 @@ fn seats_of<L: StationName>(
     reporter: Seat<AIRCRAFT, L>,
     receivers: Vec<Receiver<L>>,
 ) -> Result<Vec<Seat<AIRCRAFT, L>>, NoMemory>
-    ensures { IfOk result (λ seats. (others : List Seated) × (seats.items ≡ reporter ∷ others)) }
+    ensures { IfOk result (λ seats. seats.items ≡ reporter ∷ map (λ r. r.seat) receivers.items) }
 {
     let mut seats = Vec::new(alloc);
     seats.push(reporter)?;

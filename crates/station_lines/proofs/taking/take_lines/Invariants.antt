@@ -12,7 +12,7 @@ invariant-loop-left g l =
     record {
       within : l.left ≤ l.fn.turns;
       room : T.counted l.taker ≤ longest_piece * (l.fn.turns - l.left);
-      so_far : GivenSoFar T.took (bytes_of S.left S.given l.fn.from) (bytes_of S.left S.given l.from) l.cutter l.fn.taker l.taker;
+      so_far : GivenSoFar T.took (bytes_of S.left S.given l.fn.from) (bytes_of S.left S.given l.from) (l.fn.turns - l.left) l.cutter l.fn.taker l.taker;
       reads : S.reads l.from ≡ counted_up (l.fn.turns - l.left) (S.reads l.fn.from);
       ends : S.ends l.from ≡ S.ends l.fn.from;
       failures : S.failures l.from ≡ S.failures l.fn.from;

@@ -18,14 +18,14 @@ loop-preserved-in-Tick g c =
     let now = c.now.result in
     let start = sink_of S.taken S.failures c.args.out in
     let before = sink_of S.taken S.failures c.loop.out in
-    let first = c.args.recorder in
-    let was = c.loop.recorder in
-    let so_far = subst (ReportsTo station c.args.pace c.args.last c.loop.due (given c.args.moments.now) (given c.loop.moments) c.args.seat c.loop.seat start before first was) c.if-has_failed.false c.loop.invariant in
+    let first = c.args.beside.record in
+    let was = c.loop.beside.record in
+    let so_far = subst (ReportsTo station c.args.tables c.args.last c.loop.due (given c.args.moments.now) (given c.loop.moments) c.args.seat c.loop.seat start before first was) c.if-has_failed.false c.loop.invariant in
     let accepted = rw c.in-Tick.ensures.2 at c.tick.ensures.accepted in
     let refused = rw c.in-Tick.ensures.2 at c.tick.ensures.refused in
     let ticks = ticks_of station c.loop.seat c.tick.new.seat now (λ k. k.name) g.L.StationName.start.history c.tick.result accepted refused in
     rw (c.if-has_failed.false, c.in-Tick.ensures.3)
-    (one_more_tick station c.args.pace c.args.last c.loop.due now (given c.args.moments.now) (given c.loop.moments) (given c.now.new.self) c.args.seat c.loop.seat c.tick.new.seat start before first was
+    (one_more_tick station c.args.tables c.args.last c.loop.due now (given c.args.moments.now) (given c.loop.moments) (given c.now.new.self) c.args.seat c.loop.seat c.tick.new.seat start before first was
     so_far c.now.ensures c.in-Tick.ensures.0 c.in-Tick.ensures.1 ticks)
 
 pub loop-preserved : goal.loop-preserved
@@ -37,13 +37,13 @@ loop-preserved g c =
     let start = sink_of S.taken S.failures c.args.out in
     let before = sink_of S.taken S.failures c.loop.out in
     let after = sink_of S.taken S.failures c.print_and_record-shown.new.out in
-    let first = c.args.recorder in
-    let was = c.loop.recorder in
-    let recorded = c.print_and_record-shown.new.recorder in
-    let so_far = subst (ReportsTo station c.args.pace c.args.last c.loop.due (given c.args.moments.now) (given c.loop.moments) c.args.seat c.loop.seat start before first was) c.if-has_failed.false c.loop.invariant in
+    let first = c.args.beside.record in
+    let was = c.loop.beside.record in
+    let recorded = c.print_and_record-shown.new.beside.record in
+    let so_far = subst (ReportsTo station c.args.tables c.args.last c.loop.due (given c.args.moments.now) (given c.loop.moments) c.args.seat c.loop.seat start before first was) c.if-has_failed.false c.loop.invariant in
     let accepted = rw c.in-Print.ensures.1 at c.tick-in-Print.ensures.accepted in
     let refused = rw c.in-Print.ensures.1 at c.tick-in-Print.ensures.refused in
     let ticks = ticks_of station c.loop.seat c.tick-in-Print.new.seat now (λ k. k.name) g.L.StationName.start.history c.tick-in-Print.result accepted refused in
     rw (c.is_err-has_failed.ensures.value, c.in-Print.ensures.2)
-    (one_more_showing station c.args.pace c.args.last c.loop.due now (given c.args.moments.now) (given c.loop.moments) (given c.now.new.self) c.args.seat c.loop.seat c.tick-in-Print.new.seat c.print_and_record-shown.result.0 start before after first was recorded
+    (one_more_showing station c.args.tables c.args.last c.loop.due now (given c.args.moments.now) (given c.loop.moments) (given c.now.new.self) c.args.seat c.loop.seat c.tick-in-Print.new.seat c.print_and_record-shown.result.0 start before after first was recorded
     c.print_and_record-shown.result.1 so_far c.now.ensures c.in-Print.ensures.0 ticks c.print_and_record-shown.ensures)

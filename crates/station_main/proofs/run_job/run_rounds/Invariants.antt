@@ -1,4 +1,5 @@
-use Rattle.std.specs.Prelude.{ℕ, ◌-◌, List, Option, length, reverse}
+use Rattle.std.specs.Prelude.{ℕ, ◌-◌, List, Option, map, reverse}
+use Rattle.std.specs.String.{string_bytes}
 use Rattle.station_journal.specs.Resume.{IsSound}
 use Rattle.station_main.specs.Limits.{program_limits}
 use Rattle.station_main.specs.Recorded.{Recording}
@@ -9,14 +10,14 @@ use Rattle.station_main.proofs.run_job.run_rounds.Given as goal
 -- all rounds leave what the rounds to come leave
 abbrev pub invariant-loop-more : goal.invariant-loop-more
 invariant-loop-more g l =
-    let asked : Asked = record { pace = l.asked.pace; inputs = length l.asked.paths.now.items } in
+    let asked : Asked = record { tables = l.asked.tables; paths = map string_bytes l.asked.paths.now.items } in
     let contents = g.O.Write.contents in
     let told = told_of g.E.Write.contents in
     record {
       sound : IsSound program_limits l.kept.recent.base (reverse l.kept.recent.entries.items);
       all : (after : Option (Option (List ℕ))) (left : Option Recording) (err_new : Told) (status : ℕ) →
-          Runs asked l.more (given_of l.kept) (contents l.out) after l.recorder left (told l.err) err_new status →
-          Runs asked (l.fn.asked.rounds - 1) nothing (contents l.fn.out) after l.fn.recorder left (told l.fn.err) err_new status;
+          Runs asked l.more (given_of l.kept) (contents l.out) after l.beside.record left (told l.err) err_new status →
+          Runs asked (l.fn.asked.rounds - 1) nothing (contents l.fn.out) after l.fn.beside.record left (told l.fn.err) err_new status;
     }
 
 abbrev pub decreases-loop-more : goal.decreases-loop-more

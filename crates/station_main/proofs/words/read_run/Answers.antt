@@ -3,7 +3,7 @@ use Rattle.std.proofs.lemmas.List.{length-map}
 use Rattle.std.specs.Str.Parse.{ExplainsUnsignedError, HasUnsignedDigitsIfOk, ParsesUnsigned}
 use Rattle.clap.specs.Words.{found_of, one_text}
 use Rattle.clap.proofs.WalkLemmas.{first_value-rows, one_text-rows, raw_values-rows}
-use Rattle.station_main.specs.Command.{IsNumberUpTo, IsPace, number, number_if_given}
+use Rattle.station_main.specs.Command.{IsNumberUpTo, IsPace, format_named, number, number_if_given}
 use Rattle.station_main.proofs.RunLemmas.{none_some, some_same}
 use Rattle.station_main.proofs.WordLemmas.{fits_if_given, reads_if_given, reads_number, same_length}
 use Rattle.station_main.proofs.words.read_run.Goals as goal
@@ -40,7 +40,9 @@ returns-clause-job c =
       rounds = sym (one_text-rows found (codes "rounds")) ∙ times.1;
       rounds_is = times.2;
       paths_are = sym (raw_values-rows found (codes "path")) ∙ sym c.in-Some-get_strs.ensures ∙ ap Some (sym c.in_ok-paths.ensures);
-      file_is = c.in_ok-file.ensures ∙ c.get_str.ensures ∙ first_value-rows found (codes "record");
+      file_is = c.in_ok-file.ensures ∙ c.get_str-2.ensures ∙ first_value-rows found (codes "record");
+      folder_is = c.in_ok-folder.ensures ∙ c.get_str-3.ensures ∙ first_value-rows found (codes "json");
+      format_is = c.named-format.ensures ∙ ap format_named (c.get_str.ensures ∙ first_value-rows found (codes "format"));
     }
 
 pub returns-clause-range : goal.returns-clause-range

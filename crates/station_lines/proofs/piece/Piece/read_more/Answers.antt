@@ -19,4 +19,5 @@ returns-clause-ok g c =
       ends = told.ends ∙ ap (λ b. counted b (g.S.Source.ends c.args.from.now)) (some_given Failed n (length room) (omega (arith, c.read.auto.buffer)));
       over = λ e. told.bytes.1 e (omega (arith, c.read.auto.buffer));
       failures = told.failures;
+      asked = omega (arith, told.within, c.read.auto.buffer);
     }

@@ -9,7 +9,7 @@ use Rattle.station_journal.specs.Log.{Log, IsLegal}
 use Rattle.station_shared.specs.Closing.{Backed, Closes}
 use Rattle.station_desk.specs.Desk.{PublishedState}
 use Rattle.station_desk.specs.Start.{log_of}
-use Rattle.station_shared.specs.Seats.{Seated, count_of, own}
+use Rattle.station_shared.specs.Seats.{Seated, Stands, stands, count_of, own}
 use Rattle.station_shared.proofs.CountLemmas.{count_own}
 use Rattle.station_shared.proofs.CloseLemmas.{closes}
 use Rattle.station_shared.proofs.locked.Locked.close.Goals as goal
@@ -25,12 +25,12 @@ loop-seat-preserved g c =
     let i = c.loop-seat.invariant in
     let seat = c.in-Some.seat in
     let es = c.covers.new.self.log.entries in
-    let is : c.into_standing-standing.result ≡ seat = c.into_standing-standing.ensures in
+    let is : c.into_standing-standing.result ≡ stands seat = c.into_standing-standing.ensures in
     let parts = c.into_parts-share.ensures in
     let same = c.covers.ensures.same in
-    let seen : IsPrefix seat.seen es = subst (λ (l : List Entry). IsPrefix l es) (parts.front.1 ∙ ap (λ (s : Seated). s.seen) is) c.covers.ensures.begins in
-    let counted : seat.accepted ≤ count_of seat.number (own g.L.StationName.start seat.seen) = subst (λ (s : Seated). s.accepted ≤ count_of s.number (own g.L.StationName.start s.seen)) is parts.counted in
-    let amount = parts.share.1 ∙ ap (λ (s : Seated). s.accepted) is in
+    let seen : IsPrefix seat.seen es = subst (λ (l : List Entry). IsPrefix l es) (parts.front.1 ∙ ap (λ (s : Stands). s.seen) is) c.covers.ensures.begins in
+    let counted : seat.accepted ≤ count_of seat.number (own g.L.StationName.start seat.seen) = subst (λ (s : Stands). s.accepted ≤ count_of s.number (own g.L.StationName.start s.seen)) is parts.counted in
+    let amount = parts.share.1 ∙ ap (λ (s : Stands). s.accepted) is in
     let items : c.args.seats.items ≡ c.pop.new.self.items ++ (seat ∷ i.0) = i.1 ∙ (ap (λ (l : List Seated). l ++ i.0) c.in-Some.ensures.items ∙ append_assoc c.pop.new.self.items (seat ∷ []) i.0) in (
       seat ∷ i.0,
       items,

@@ -1,0 +1,67 @@
+use Rattle.std.proofs.Common.{rules, ◌≡◌, ◌∙◌, ap, sym, subst, map, option_map, Some, [], codes, Bor, List, ℕ}
+use Rattle.std.proofs.lemmas.Result.{err_from_is_err_and}
+use Rattle.clap.specs.Faults.{fault_of, is_simple_and_free}
+use Rattle.clap.specs.Words.{Row, Text, found_of, is_simple, rows_of, subcommand_of, takes}
+use Rattle.clap.proofs.WalkLemmas.{first_value-rows}
+use Rattle.station_main.specs.Command.{format_named, station}
+use Rattle.station_main.proofs.RefusedLemmas.{words_fault_of}
+use Rattle.station_main.proofs.JobLemmas.{names_job}
+use Rattle.station_main.proofs.RunLemmas.{none_some, run_given, some_same}
+use Rattle.station_main.proofs.WordLemmas.{is_free-station, is_simple-station, known_rows, is_replay, name_of_rows, names_run}
+use Rattle.station_main.proofs.words.read_named.Goals as goal
+
+pub returns-in_err-matches-clause-refused : goal.returns-in_err-matches-clause-refused
+returns-in_err-matches-clause-refused c =
+    let station_is = c.in_ok-station_command.ensures.0 in
+    let words = map {A = Bor (List ℕ)} {B = List ℕ} (λ w. w.now) c.args.words.now in
+    let gone = err_from_is_err_and c.from_residual-in_err-matches.result c.from_residual-in_err-matches.ensures.1 in
+    let kinds = c.in_err-matches.ensures.kinds (ap is_simple_and_free station_is ∙ is_free-station c.args.names) in
+    rw gone.1 (words_fault_of _ (station c.args.names) words _ _ station_is gone.2 c.in_err-matches.ensures.passes kinds)
+
+pub read_run-requires : goal.read_run-requires
+read_run-requires c =
+    let station_is = c.in_ok-station_command.ensures.0 in
+    let words = map {A = Bor (List ℕ)} {B = List ℕ} (λ w. w.now) c.args.words.now in
+    let passes : fault_of (station c.args.names) words ≡ [] = subst (λ a. fault_of a words ≡ []) station_is (c.in_ok-matches.ensures.kinds (ap is_simple_and_free station_is ∙ (is_free-station c.args.names))) in
+    let parsed = c.in_ok-matches.ensures.matches (ap is_simple station_is ∙ (is_simple-station c.args.names)) in
+    let rows = rows_of (found_of c.in-Some.given.now) in
+    let name_is : c.in-Some.name.now ≡ codes "run" = search rules in
+    let known = known_rows c.in_ok-matches.matches (codes "run") rows (ap Some (sym name_is) ∙ c.in-Some.ensures.name) c.in-Some.ensures.rows in
+    run_given c.args.names words rows (sym (parsed.1 ∙ ap (λ a. subcommand_of a words) station_is) ∙ known) passes
+
+pub returns-then-eq-clause-job : goal.returns-then-eq-clause-job
+returns-then-eq-clause-job c =
+    let station_is = c.in_ok-station_command.ensures.0 in
+    let words = map {A = Bor (List ℕ)} {B = List ℕ} (λ w. w.now) c.args.words.now in
+    let passes : fault_of (station c.args.names) words ≡ [] = subst (λ a. fault_of a words ≡ []) station_is (c.in_ok-matches.ensures.kinds (ap is_simple_and_free station_is ∙ is_free-station c.args.names)) in
+    let parsed = c.in_ok-matches.ensures.matches (ap is_simple station_is ∙ (is_simple-station c.args.names)) in
+    let rows = rows_of (found_of c.in-Some.given.now) in
+    let name_is : c.in-Some.name.now ≡ codes "run" = search rules in
+    let known = known_rows c.in_ok-matches.matches (codes "run") rows (ap Some (sym name_is) ∙ c.in-Some.ensures.name) c.in-Some.ensures.rows in
+    (passes, names_run (station c.args.names) words rows (sym (parsed.1 ∙ ap (λ a. subcommand_of a words) station_is) ∙ known) c.in_ok-read_run.field-0 c.in_ok-read_run.ensures.job)
+
+pub returns-clause-job : goal.returns-clause-job
+returns-clause-job c =
+    let station_is = c.in_ok-station_command.ensures.0 in
+    let words = map {A = Bor (List ℕ)} {B = List ℕ} (λ w. w.now) c.args.words.now in
+    let passes : fault_of (station c.args.names) words ≡ [] = subst (λ a. fault_of a words ≡ []) station_is (c.in_ok-matches.ensures.kinds (ap is_simple_and_free station_is ∙ is_free-station c.args.names)) in
+    let parsed = c.in_ok-matches.ensures.matches (ap is_simple station_is ∙ is_simple-station c.args.names) in
+    let job = names_job c.args.names words passes in
+    let rows_are = parsed.1 ∙ ap (λ a. subcommand_of a words) station_is in
+    let said : Some c.in-Some.name.now ≡ Some job.0 =
+    c.in-Some.ensures.name ∙ sym (name_of_rows c.in_ok-matches.matches) ∙ ap (option_map {T = Text × List Row} (λ p. p.0)) (rows_are ∙ job.2) in
+    let name_is = some_same c.in-Some.name.now job.0 said in
+    let replay_is : c.in-Some.name.now ≡ codes "replay" = name_is ∙ is_replay job.0 job.3 (λ run_is. let same : c.in-Some.name.now ≡ codes "run" = name_is ∙ run_is in search rules) in
+    let rows = rows_of (found_of c.in-Some.given.now) in
+    let known = known_rows c.in_ok-matches.matches (codes "replay") rows (ap Some (sym replay_is) ∙ c.in-Some.ensures.name) c.in-Some.ensures.rows in
+    (passes, (rows, sym (parsed.1 ∙ ap (λ a. subcommand_of a words) station_is) ∙ known, c.named.ensures ∙ ap format_named (c.get_str.ensures ∙ first_value-rows (found_of c.in-Some.given.now) (codes "format"))))
+
+pub unreachable-requires : goal.unreachable-requires
+unreachable-requires c =
+    let station_is = c.in_ok-station_command.ensures.0 in
+    let words = map {A = Bor (List ℕ)} {B = List ℕ} (λ w. w.now) c.args.words.now in
+    let passes : fault_of (station c.args.names) words ≡ [] = subst (λ a. fault_of a words ≡ []) station_is (c.in_ok-matches.ensures.kinds (ap is_simple_and_free station_is ∙ (is_free-station c.args.names))) in
+    let parsed = c.in_ok-matches.ensures.matches (ap is_simple station_is ∙ (is_simple-station c.args.names)) in
+    let job = names_job c.args.names words passes in
+    let rows_are = parsed.1 ∙ ap (λ a. subcommand_of a words) station_is in
+    none_some job.0 (c.in_default.ensures.name ∙ sym (name_of_rows c.in_ok-matches.matches) ∙ ap (option_map {T = Text × List Row} (λ p. p.0)) (rows_are ∙ job.2))

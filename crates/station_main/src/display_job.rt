@@ -1,0 +1,64 @@
+//! The job `run`, with or without tables for displays.
+ghost use Rattle.std.specs.Prelude.{◌≡◌, ◌-◌, ◌≤◌, is_some, length, map, option_map};
+ghost use Rattle.std.specs.String.{string_bytes};
+ghost use Rattle.station_main.specs.Rounds.{RunsAsked, RunsForDisplays};
+ghost use Rattle.station_main.specs.Telling.{told_of};
+
+use crate::beside::Beside;
+use crate::displays::{Displays, status_of};
+use crate::faults::Fault;
+use crate::output::{Ran, without_output};
+use crate::run_job::{Asked, run_paths};
+use crate::standard_error::StandardError;
+use std::alloc::Global;
+use std::fs::File;
+use std::io::Write;
+use std::rt::Files;
+use std::sync::Wait;
+use std::thread::Threads;
+use std::time::Clock;
+
+/// Runs the rounds, as [`run_paths`] does, and puts each table where displays find it if that is asked. The first failed
+/// write for displays is reported to `display_alarm` at once. Then tables go on, and the status is 1.
+pub fn run_for_displays<
+    R: Threads + Wait + Clock + Files<File = File, Dir: Send> + Sync,
+    O: Write + Send + Drop,
+    A: Write + Send + Drop,
+    E: Write,
+>(
+    rt: &R,
+    alloc: Global,
+    asked: Asked<'_>,
+    out: O,
+    alarm: A,
+    display_alarm: A,
+    err: &mut StandardError<E>,
+) -> Ran<O>
+    requires rounds { 1 ≤ asked.rounds }
+    requires paths { length asked.paths.now.items ≤ 8 }
+    ensures most { result.status ≤ 1 }
+    ensures runs { RunsForDisplays (is_some asked.entry.displays.now) (RunsAsked (option_map string_bytes asked.entry.record.now)
+        (record { tables = asked.entry.tables; paths = map string_bytes asked.entry.paths.now.items })
+        (asked.entry.rounds - 1) (O.contents out) (option_map (λ left. O.contents left) result.out) (A.contents alarm)
+        (told_of E.contents err.old) (told_of E.contents err.new))
+        (option_map (λ left. O.contents left) result.out) (told_of E.contents err.old) (told_of E.contents err.new) result.status }
+{
+    let mut beside = Beside {
+        record: None,
+        displays: None,
+    };
+    let Some(folder) = asked.displays else {
+        return run_paths(rt, alloc, asked, out, alarm, &mut beside, err);
+    };
+    let every = asked.tables.pace.every;
+    let alarms = StandardError::new(display_alarm);
+    match Displays::begin(rt, alloc, folder.as_str(), every, asked.origin, alarms) {
+        Ok(displays) => beside.displays = Some(displays),
+        Err(_) => return without_output(err, Fault::NoMemory),
+    }
+    let Ran { status, out } = run_paths(rt, alloc, asked, out, alarm, &mut beside, err);
+    Ran {
+        status: status.max(status_of(&beside.displays)),
+        out,
+    }
+}
