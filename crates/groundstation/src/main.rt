@@ -7,6 +7,6 @@ use std::process::ExitCode;
 fn main(rt: HostRuntime) -> ExitCode {
     let owned = own_words(&rt);
     let (input, out) = (rt.stdin(), rt.stdout());
-    let status = answer(&rt, rt.alloc(), owned, input, out, rt.stderr(), rt.stderr());
+    let status = answer(&rt, rt, rt.alloc(), owned, input, out, rt.stderr(), rt.stderr());
     ExitCode::from(status)
 }

@@ -59,29 +59,32 @@ fn stream(rt: &impl Abort, alloc: Global) -> Vec<u8> {
 // Runs the program, and answers its status.
 fn status_of<
     R: Threads + Wait + Clock + Files<File = File> + Sync,
+    W: Wait + Copy + Send + 'static,
     I: Read + Drop,
     O: Write + Send + Drop,
     E: Write + Drop,
->(rt: &R, alloc: Global, words: &[&str], input: I, out: O, err: E) -> u8 {
+>(rt: &R, own: W, alloc: Global, words: &[&str], input: I, out: O, err: E) -> u8 {
     let mut err = StandardError::new(err);
-    program(rt, alloc, words, input, out, Vec::new(alloc), &mut err).status
+    program(rt, own, alloc, words, input, out, Vec::new(alloc), &mut err).status
 }
 
 fn run_words<
     R: Threads + Wait + Clock + Files<File = File> + Sync + AllocGlobal + Abort,
+    W: Wait + Copy + Send + 'static,
     I: Read + Drop,
->(rt: &R, words: &[&str], input: I) -> Ran {
+>(rt: &R, own: W, words: &[&str], input: I) -> Ran {
     let mut out = stream(rt, rt.alloc());
     let mut err = stream(rt, rt.alloc());
-    let status = status_of(rt, rt.alloc(), words, input, &mut out, &mut err);
+    let status = status_of(rt, own, rt.alloc(), words, input, &mut out, &mut err);
     Ran { status, out, err }
 }
 
 fn replay<
     R: Threads + Wait + Clock + Files<File = File> + Sync + AllocGlobal + Abort,
+    W: Wait + Copy + Send + 'static,
     I: Read + Drop,
->(rt: &R, input: I) -> Ran {
-    run_words(rt, ["groundstation", "replay"].as_slice(), input)
+>(rt: &R, own: W, input: I) -> Ran {
+    run_words(rt, own, ["groundstation", "replay"].as_slice(), input)
 }
 
 // The words of a line, which are parted by single blanks, and then these paths.
@@ -99,8 +102,13 @@ fn words_of<'a>(
 }
 
 // Runs the program on the words of a line and these paths.
-fn run_line<R: Threads + Wait + Clock + Files<File = File> + Sync, O: Write + Send + Drop>(
+fn run_line<
+    R: Threads + Wait + Clock + Files<File = File> + Sync,
+    W: Wait + Copy + Send + 'static,
+    O: Write + Send + Drop,
+>(
     rt: &R,
+    own: W,
     alloc: Global,
     line: &str,
     paths: &[&str],
@@ -111,6 +119,7 @@ fn run_line<R: Threads + Wait + Clock + Files<File = File> + Sync, O: Write + Se
     let mut reports = StandardError::new(&mut err);
     let ran = program(
         rt,
+        own,
         alloc,
         words.as_slice(),
         NO_LINES,
@@ -144,7 +153,7 @@ const LINES_OF_ALL_KINDS: &[u8] = b"\
 
 #[test]
 fn each_count_stands_by_its_word(rt: HostRuntime) {
-    let counted = replay(&rt, LINES_OF_ALL_KINDS);
+    let counted = replay(&rt, rt, LINES_OF_ALL_KINDS);
     assert_eq!(rt;
         text(&counted.err),
         "lines 23 frames 5 ticks 8 shows 1 blank 2 modeac 3 faults 4 accepted 7 refused 6\n"
@@ -163,10 +172,10 @@ fn wants_memory(told: &str) -> bool {
 
 #[test]
 fn an_identification_is_shown(rt: HostRuntime) {
-    let mut shown = replay(&rt, IDENTIFICATION);
+    let mut shown = replay(&rt, rt, IDENTIFICATION);
     if wants_memory(text(&shown.err)) {
         assert!(rt; shown.status == 1 && shown.out.is_empty());
-        shown = replay(&rt, IDENTIFICATION);
+        shown = replay(&rt, rt, IDENTIFICATION);
     }
     assert_eq!(rt;
         text(&shown.out),
@@ -197,7 +206,7 @@ fn nobody_is_shown_before_a_frame(rt: HostRuntime) {
             "lines 1 frames 0 ticks 0 shows 1 blank 0 modeac 0 faults 0 accepted 0 refused 0\n",
         ),
     ] {
-        let ran = replay(&rt, lines.as_bytes());
+        let ran = replay(&rt, rt, lines.as_bytes());
         assert_eq!(rt; text(&ran.out), tables);
         assert_eq!(rt; text(&ran.err), counts);
         assert_eq!(rt; ran.status, 0);
@@ -237,7 +246,7 @@ impl Write for Closed {
 
 #[test]
 fn a_failed_read_or_write_is_told_after_the_tally(rt: HostRuntime) -> Result<(), AllocError> {
-    let torn = replay(&rt, Torn { is_torn: false });
+    let torn = replay(&rt, rt, Torn { is_torn: false });
     assert_eq!(rt;
         text(&torn.err),
         "lines 2 frames 1 ticks 0 shows 1 blank 0 modeac 0 faults 0 accepted 1 refused 0\n\
@@ -248,6 +257,7 @@ fn a_failed_read_or_write_is_told_after_the_tally(rt: HostRuntime) -> Result<(),
     let words = words_of(rt.alloc(), "groundstation replay", [].as_slice())?;
     let status = status_of(
         &rt,
+        rt,
         rt.alloc(),
         words.as_slice(),
         IDENTIFICATION,
@@ -293,6 +303,7 @@ fn a_word_that_is_not_utf8_is_refused(rt: HostRuntime) {
     let (mut out, mut err) = (Vec::new(alloc), Vec::new(alloc));
     let status = answer(
         &rt,
+        rt,
         alloc,
         words,
         NO_LINES,

@@ -1,13 +1,14 @@
 -- What a round of the job `run` leaves.
-use Rattle.std.specs.Prelude.{◌≡◌, ℕ, ◌<◌, Bool, true, false, List, [], ◌∷◌, ◌++◌, Option, None, IfSome, Result, length, slice_index_or, is_err, fold, map, max, unwrap_or, ⊤}
+use Rattle.std.specs.Prelude.{◌≡◌, ℕ, ◌<◌, Bool, true, false, List, [], ◌∷◌, ◌++◌, Option, Some, None, IfSome, Result, length, slice_index_or, is_err, fold, map, max, unwrap_or, ⊤}
 use Rattle.std.specs.List.{flat_map}
 use Rattle.station_journal.specs.declared.entry.Entry.{Entry}
 use Rattle.station_report.specs.declared.sinks.WriteFault.{WriteFault}
 use Rattle.station_lines.specs.Drawing.{Drawn}
+use Rattle.station_portions.specs.Giving.{given}
+use Rattle.station_portions.specs.declared.portions.Portions.{Portions}
 use Rattle.station_desk.specs.Start.{Start}
 use Rattle.station_shared.specs.Seats.{Seated, Looks, newcomers}
 use Rattle.station_shared.specs.Workers.{Worked}
-use Rattle.station_lines.specs.declared.from_buffer.FromBuffer.{FromBuffer}
 use Rattle.station_lines.specs.declared.pumping.PumpFault.{PumpFault}
 use Rattle.station_lines.specs.declared.tally.Tally.{Tally}
 use Rattle.station_main.specs.Limits.{most_reads}
@@ -23,19 +24,18 @@ use Rattle.station_main.specs.declared.schedule.Pace.{Pace}
 
 -- ---- the receivers
 
--- the view of a source over a reader with these bytes left, if they are known
-abbrev pub drawn_from : {R : Type 0} → Option (List ℕ) → FromBuffer R → Drawn
-drawn_from left source = record { bytes = record { left = left; given = None }; reads = source.reads; ends = source.ends; failures = source.failures }
+-- the view of the source of a path: the bytes given so far, and what it has counted
+abbrev pub drawn_from : {R : Type 0} → Portions R → Drawn
+drawn_from source = record { bytes = record { left = None; given = Some (given source) }; reads = source.reads; ends = source.ends; failures = source.failures }
 
 -- each receiver has pumped its source through its seat to an answer
-pub record HaveWorked {W R : Type 0} (start : Start) (seat : W → Seated) (source : W → FromBuffer R) (answer : W → Option (Result Tally PumpFault)) (old new : List W) : Type 0 where
+pub record HaveWorked {W R : Type 0} (start : Start) (seat : W → Seated) (source : W → Portions R) (answer : W → Option (Result Tally PumpFault)) (old new : List W) : Type 0 where
   pub many : length new ≡ length old
   pub each : (i : ℕ) (d : W) → i < length old → let was = slice_index_or old i d in let is = slice_index_or new i d in
-      (before : Option (List ℕ)) × (after : Option (List ℕ))
-      × Worked start (seat was) (seat is) (drawn_from before (source was)) (drawn_from after (source is)) most_reads (answer is)
+      Worked start (seat was) (seat is) (drawn_from (source was)) (drawn_from (source is)) most_reads (answer is)
 
 -- receivers that have pumped these inputs to answers, one each, in their order, from seats that had seen these entries
-pub record HavePumped {W R : Type 0} (start : Start) (entries : List Entry) (seat : W → Seated) (source : W → FromBuffer R) (answer : W → Option (Result Tally PumpFault)) (inputs : List (FromBuffer R)) (new : List W) : Type 0 where
+pub record HavePumped {W R : Type 0} (start : Start) (entries : List Entry) (seat : W → Seated) (source : W → Portions R) (answer : W → Option (Result Tally PumpFault)) (inputs : List (Portions R)) (new : List W) : Type 0 where
   pub old : List W
   pub seats : map seat old ≡ newcomers entries (length inputs)
   pub sources : map source old ≡ inputs

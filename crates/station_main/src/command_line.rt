@@ -28,15 +28,18 @@ use std::time::Clock;
 /// - 2 if the arguments are refused.
 ///
 /// Arguments that are accepted name the job that is done. If there is no memory to read them, only that is printed.
-/// `alarm` is a second standard error, for what is reported at once while the threads of a run work.
+/// `alarm` is a second standard error, for what is reported at once while the threads of a run work. `own` is what the
+/// threads wait by that read the paths.
 pub fn program<
     R: Threads + Wait + Clock + Files<File = File> + Sync,
+    W: Wait + Copy + Send + 'static,
     I: Read + Drop,
     O: Write + Send + Drop,
     A: Write + Send + Drop,
     E: Write,
 >(
     rt: &R,
+    own: W,
     alloc: Global,
     words: &[&str],
     input: I,
@@ -52,7 +55,7 @@ pub fn program<
         (told_of E.contents err.old) (told_of E.contents err.new) result.status }
 {
     match read_words(alloc, words) {
-        Ok(job) => do_job(rt, alloc, job, input, out, alarm, err),
+        Ok(job) => do_job(rt, own, alloc, job, input, out, alarm, err),
         Err(WordsFault::NoMemory) => without_output(err, Fault::NoMemory),
         Err(WordsFault::Clap(error)) => write_answer(&error, out, err),
     }
@@ -61,11 +64,21 @@ pub fn program<
 // Does the job that the arguments name.
 fn do_job<
     R: Threads + Wait + Clock + Files<File = File> + Sync,
+    W: Wait + Copy + Send + 'static,
     I: Read + Drop,
     O: Write + Send + Drop,
     A: Write + Send + Drop,
     E: Write,
->(rt: &R, alloc: Global, job: Job, input: I, out: O, alarm: A, err: &mut StandardError<E>) -> Ran<O>
+>(
+    rt: &R,
+    own: W,
+    alloc: Global,
+    job: Job,
+    input: I,
+    out: O,
+    alarm: A,
+    err: &mut StandardError<E>,
+) -> Ran<O>
     requires { IsInRange job }
     ensures most { result.status ≤ 1 }
     ensures done { IsDone job (I.remaining input) (O.Write.contents out)
@@ -86,7 +99,7 @@ fn do_job<
                 record: &record,
                 paths: &paths,
             };
-            run_paths(rt, alloc, asked, out, alarm, err)
+            run_paths(rt, own, alloc, asked, out, alarm, err)
         }
     }
 }

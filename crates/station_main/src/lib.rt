@@ -9,6 +9,7 @@ mod kept;
 pub mod laws;
 mod limits;
 mod output;
+mod paths;
 mod process;
 mod record_file;
 mod recorder;

@@ -15,12 +15,14 @@ use std::time::Clock;
 /// Runs the program on its arguments, or says why they couldn't be read. Answers the exit status.
 pub fn answer<
     R: Threads + Wait + Clock + Files<File = File> + Sync,
+    W: Wait + Copy + Send + 'static,
     I: Read + Drop,
     O: Write + Send + Drop,
     A: Write + Send + Drop,
     E: Write + Drop,
 >(
     rt: &R,
+    own: W,
     alloc: Global,
     owned: Result<Vec<String>, ErrorKind>,
     input: I,
@@ -37,7 +39,7 @@ pub fn answer<
     let Ok(words) = borrowed(alloc, &owned) else {
         return tell(&mut err, Fault::NoMemory);
     };
-    program(rt, alloc, words.as_slice(), input, out, alarm, &mut err).status
+    program(rt, own, alloc, words.as_slice(), input, out, alarm, &mut err).status
 }
 
 fn not_text<E: Write>(err: &mut StandardError<E>) -> u8 {

@@ -16,6 +16,7 @@ use crate::faults::Fault;
 use crate::kept::Kept;
 use crate::limits::AIRCRAFT;
 use crate::output::{Ran, Written, without_output};
+use crate::paths::{PathThread, join_ended};
 use crate::recorder::Recorder;
 use crate::round::ending::{finish, hand_on};
 use crate::round::opening::begin;
@@ -33,7 +34,7 @@ use std::time::{Clock, Instant};
 
 /// What a round needs besides its station.
 #[derive(Drop)]
-pub struct Plan<O: Write + Drop> {
+pub struct Plan<'a, R, O: Write + Drop> {
     /// The start of the program, if the clock could be read.
     pub start: Option<Instant>,
     /// How often the reporter acts.
@@ -41,7 +42,9 @@ pub struct Plan<O: Write + Drop> {
     /// What the round goes on from.
     pub kept: Kept,
     /// At most 8.
-    pub inputs: Vec<Input>,
+    pub inputs: Vec<Input<'a, R>>,
+    /// The threads that read the paths, one for each input in their order.
+    pub threads: Vec<PathThread>,
     pub out: Output<O>,
 }
 
@@ -55,9 +58,9 @@ pub enum Round<O> {
 }
 
 // A station after its round, and what its threads left.
-struct Worked<L: StationName, O> {
+struct Worked<'a, R: Wait, L: StationName, O> {
     station: Station<AIRCRAFT, L>,
-    receivers: Vec<Receiver<L>>,
+    receivers: Vec<Receiver<'a, R, L>>,
     reporter: Seat<AIRCRAFT, L>,
     written: Written<O>,
 }
@@ -73,7 +76,7 @@ pub fn run_round<
 >(
     rt: &R,
     alloc: Global,
-    plan: Plan<O>,
+    plan: Plan<'_, R, O>,
     blank: Blank,
     places: Places<AIRCRAFT>,
     recorder: &mut Option<Recorder<T, A>>,
@@ -89,8 +92,8 @@ pub fn run_round<
     requires base { base_of places.history ≡ plan.kept.recent.base }
     requires limits { L.start.limits ≡ program_limits }
     requires sound { IsSound program_limits plan.kept.recent.base (reverse plan.kept.recent.entries.items) }
-    ensures { EndsRound O.contents (record { pace = plan.pace; inputs = length plan.inputs.items })
-        (given_of plan.kept) (buffered_of O.contents plan.out).taken
+    ensures { EndsRound O.contents (record { pace = plan.entry.pace; inputs = length plan.entry.inputs.items })
+        (given_of plan.entry.kept) (buffered_of O.contents plan.entry.out).taken
         recorder.old recorder.new
         (told_of E.contents err.old) (told_of E.contents err.new) result }
 {
@@ -111,7 +114,7 @@ pub fn run_last<
 >(
     rt: &R,
     alloc: Global,
-    plan: Plan<O>,
+    plan: Plan<'_, R, O>,
     blank: Blank,
     places: Places<AIRCRAFT>,
     recorder: &mut Option<Recorder<T, A>>,
@@ -128,8 +131,8 @@ pub fn run_last<
     requires limits { L.start.limits ≡ program_limits }
     requires sound { IsSound program_limits plan.kept.recent.base (reverse plan.kept.recent.entries.items) }
     ensures most { result.status ≤ 1 }
-    ensures last { IsLast (record { pace = plan.pace; inputs = length plan.inputs.items })
-        (given_of plan.kept) (buffered_of O.contents plan.out).taken
+    ensures last { IsLast (record { pace = plan.entry.pace; inputs = length plan.entry.inputs.items })
+        (given_of plan.entry.kept) (buffered_of O.contents plan.entry.out).taken
         (option_map (λ left. O.contents left) result.out)
         recorder.old recorder.new
         (told_of E.contents err.old) (told_of E.contents err.new) result.status }
@@ -142,6 +145,7 @@ pub fn run_last<
 
 // Starts a station, runs its threads to their ends, and prints the last table.
 fn work<
+    'a,
     L: StationName + Send + Sync,
     R: Threads + Wait + Clock + Sync,
     O: Write + Send + Drop,
@@ -150,11 +154,11 @@ fn work<
 >(
     rt: &R,
     alloc: Global,
-    plan: Plan<O>,
+    plan: Plan<'a, R, O>,
     blank: Blank,
     places: Places<AIRCRAFT>,
     recorder: &mut Option<Recorder<T, A>>,
-) -> Result<Worked<L, O>, Fault<'static>>
+) -> Result<Worked<'a, R, L, O>, Fault<'static>>
     requires few { length plan.inputs.items ≤ 8 }
     requires ledger { (blank.name ≡ L.name) × (blank.parts ≡ L.parts) }
     requires seats { (L.parts ≡ length plan.inputs.items + 1)
@@ -167,12 +171,12 @@ fn work<
     requires sound { IsSound program_limits plan.kept.recent.base (reverse plan.kept.recent.entries.items) }
     ensures early { IfErr result IsEarly }
     ensures answered { IfOk result (λ worked. All (λ r. is_some r.answer ≡ true) worked.receivers.items) }
-    ensures many { IfOk result (λ worked. length worked.receivers.items ≡ length plan.inputs.items) }
-    ensures pumped { IfOk result (λ worked. HavePumped L.start plan.kept.recent.entries.items
-        (λ r. r.seat) (λ r. r.source) (λ r. r.answer) plan.inputs.items worked.receivers.items) }
-    ensures output { IfOk result (λ worked. Leaves L.start plan.pace plan.kept.last_tick
-        (newcomer plan.kept.recent.entries.items (length plan.inputs.items)) worked.reporter
-        (buffered_of O.contents plan.out).taken (O.contents worked.written.out)
+    ensures many { IfOk result (λ worked. length worked.receivers.items ≡ length plan.entry.inputs.items) }
+    ensures pumped { IfOk result (λ worked. HavePumped L.start plan.entry.kept.recent.entries.items
+        (λ r. r.seat) (λ r. r.source) (λ r. r.answer) plan.entry.inputs.items worked.receivers.items) }
+    ensures output { IfOk result (λ worked. Leaves L.start plan.entry.pace plan.entry.kept.last_tick
+        (newcomer plan.entry.kept.recent.entries.items (length plan.entry.inputs.items)) worked.reporter
+        (buffered_of O.contents plan.entry.out).taken (O.contents worked.written.out)
         recorder.old recorder.new
         worked.written.has_failed) }
 {
@@ -181,6 +185,7 @@ fn work<
         pace,
         kept,
         inputs,
+        threads,
         out,
     } = plan;
     let last = kept.last_tick;
@@ -203,6 +208,7 @@ fn work<
         return Err(Fault::ThreadNotStarted);
     };
     let (reporter, written) = print_last(rt, &station, reported, recorder);
+    join_ended(rt, &receivers, threads);
     Ok(Worked {
         station,
         receivers,

@@ -12,17 +12,18 @@ use crate::faults::Fault;
 use crate::kept::Kept;
 use crate::limits::{AIRCRAFT, TABLE_ROOM};
 use crate::output::{Ran, without_output};
+use crate::paths::{open_all, start_all};
 use crate::record_file::record_to;
 use crate::recorder::{Recorder, status_of};
 use crate::round::{Plan, Round, run_last, run_round};
 use crate::schedule::Pace;
 use crate::standard_error::StandardError;
-use crate::threads::{Input, Output};
+use crate::threads::Output;
 use station_report::{Sink, ToWrite};
-use station_shared::{FromBuffer, PIECE, Places};
+use station_shared::Places;
 use std::alloc::Global;
 use std::fs::File;
-use std::io::{BufReader, BufWriter, ErrorKind, Write};
+use std::io::{BufWriter, Write};
 use std::marker::Brand;
 use std::rt::Files;
 use std::sync::Wait;
@@ -54,10 +55,19 @@ pub struct Asked<'a> {
 /// nothing was read in the last round.
 pub fn run_paths<
     R: Threads + Wait + Clock + Files<File = File> + Sync,
+    W: Wait + Copy + Send + 'static,
     O: Write + Send + Drop,
     A: Write + Send + Drop,
     E: Write,
->(rt: &R, alloc: Global, asked: Asked<'_>, out: O, alarm: A, err: &mut StandardError<E>) -> Ran<O>
+>(
+    rt: &R,
+    own: W,
+    alloc: Global,
+    asked: Asked<'_>,
+    out: O,
+    alarm: A,
+    err: &mut StandardError<E>,
+) -> Ran<O>
     requires rounds { 1 ≤ asked.rounds }
     requires paths { length asked.paths.now.items ≤ 8 }
     ensures most { result.status ≤ 1 }
@@ -68,14 +78,14 @@ pub fn run_paths<
 {
     let Some(path) = asked.record else {
         let mut none: Option<Recorder<Output<File>, A>> = None;
-        return run_rounds(rt, alloc, asked, out, &mut none, err);
+        return run_rounds(rt, own, alloc, asked, out, &mut none, err);
     };
     let recorder = match record_to(rt, alloc, path.as_str(), StandardError::new(alarm)) {
         Ok(recorder) => recorder,
         Err(fault) => return without_output(err, fault),
     };
     let mut recorder = Some(recorder);
-    let Ran { status, out } = run_rounds(rt, alloc, asked, out, &mut recorder, err);
+    let Ran { status, out } = run_rounds(rt, own, alloc, asked, out, &mut recorder, err);
     Ran {
         status: status.max(status_of(&recorder)),
         out,
@@ -85,12 +95,14 @@ pub fn run_paths<
 // Runs the rounds, with or without a record.
 fn run_rounds<
     R: Threads + Wait + Clock + Files<File = File> + Sync,
+    W: Wait + Copy + Send + 'static,
     O: Write + Send + Drop,
     T: Sink + Send + Drop,
     A: Write + Send + Drop,
     E: Write,
 >(
     rt: &R,
+    own: W,
     alloc: Global,
     asked: Asked<'_>,
     out: O,
@@ -110,7 +122,7 @@ fn run_rounds<
     let mut out = out;
     let mut more = asked.rounds - 1;
     while more > 0 {
-        match one_round(rt, alloc, asked, start, kept, out, recorder, err) {
+        match one_round(rt, own, alloc, asked, start, kept, out, recorder, err) {
             Round::Over(ran) => return ran,
             Round::GoesOn {
                 out: left,
@@ -122,18 +134,20 @@ fn run_rounds<
         }
         more -= 1;
     }
-    last_round(rt, alloc, asked, start, kept, out, recorder, err)
+    last_round(rt, own, alloc, asked, start, kept, out, recorder, err)
 }
 
 // Runs a round that is not the last.
 fn one_round<
     R: Threads + Wait + Clock + Files<File = File> + Sync,
+    W: Wait + Copy + Send + 'static,
     O: Write + Send + Drop,
     T: Sink + Send + Drop,
     A: Write + Send + Drop,
     E: Write,
 >(
     rt: &R,
+    own: W,
     alloc: Global,
     asked: Asked<'_>,
     start: Option<Instant>,
@@ -149,7 +163,7 @@ fn one_round<
         recorder.old recorder.new
         (told_of E.contents err.old) (told_of E.contents err.new) result }
 {
-    match prepare(rt, alloc, asked, start, kept, out) {
+    match prepare(rt, own, alloc, asked, start, kept, out) {
         Ok((plan, places)) => {
             let blank = Blank::new(plan.inputs.len() as u64 + 1);
             run_round::<Brand, _, _, _, _, _>(rt, alloc, plan, blank, places, recorder, err)
@@ -161,12 +175,14 @@ fn one_round<
 // Runs the last round.
 fn last_round<
     R: Threads + Wait + Clock + Files<File = File> + Sync,
+    W: Wait + Copy + Send + 'static,
     O: Write + Send + Drop,
     T: Sink + Send + Drop,
     A: Write + Send + Drop,
     E: Write,
 >(
     rt: &R,
+    own: W,
     alloc: Global,
     asked: Asked<'_>,
     start: Option<Instant>,
@@ -183,7 +199,7 @@ fn last_round<
         recorder.old recorder.new
         (told_of E.contents err.old) (told_of E.contents err.new) result.status }
 {
-    match prepare(rt, alloc, asked, start, kept, out) {
+    match prepare(rt, own, alloc, asked, start, kept, out) {
         Ok((plan, places)) => {
             let blank = Blank::new(plan.inputs.len() as u64 + 1);
             run_last::<Brand, _, _, _, _, _>(rt, alloc, plan, blank, places, recorder, err)
@@ -194,14 +210,21 @@ fn last_round<
 
 // Makes what a round needs before its station: its inputs, a buffer for its output, and a place for the reporter, which
 // alone looks.
-fn prepare<'a, R: Wait + Files<File = File>, O: Write + Drop>(
-    rt: &R,
+fn prepare<
+    'a,
+    'p,
+    R: Threads + Wait + Files<File = File>,
+    W: Wait + Copy + Send + 'static,
+    O: Write + Drop,
+>(
+    rt: &'a R,
+    own: W,
     alloc: Global,
-    asked: Asked<'a>,
+    asked: Asked<'p>,
     start: Option<Instant>,
     kept: Kept,
     out: O,
-) -> Result<(Plan<O>, Places<AIRCRAFT>), Fault<'a>>
+) -> Result<(Plan<'a, R, O>, Places<AIRCRAFT>), Fault<'p>>
     requires { length asked.paths.now.items ≤ 8 }
     ensures early { IfErr result IsEarly }
     ensures pace { IfOk result (λ made. made.0.pace ≡ asked.entry.pace) }
@@ -212,10 +235,11 @@ fn prepare<'a, R: Wait + Files<File = File>, O: Write + Drop>(
     ensures places { IfOk result (λ made. made.1.places ≡ 1) }
     ensures base { IfOk result (λ made. base_of made.1.history ≡ kept.recent.base) }
 {
-    let inputs = open_all(rt, alloc, asked.paths)?;
+    let files = open_all(rt, alloc, asked.paths)?;
     let Ok(buffered) = BufWriter::with_capacity(alloc, TABLE_ROOM, out) else {
         return Err(Fault::NoMemory);
     };
+    let (inputs, threads) = start_all(rt, own, alloc, files)?;
     let Ok(places) = Places::new(rt, alloc, kept.recent.base, 1) else {
         return Err(Fault::NoMemory);
     };
@@ -224,38 +248,8 @@ fn prepare<'a, R: Wait + Files<File = File>, O: Write + Drop>(
         pace: asked.pace,
         kept,
         inputs,
+        threads,
         out: ToWrite::new(buffered),
     };
     Ok((plan, places))
-}
-
-// Opens the paths in order, up to the first that can't be opened.
-fn open_all<'a, R: Files<File = File>>(
-    rt: &R,
-    alloc: Global,
-    paths: &'a Vec<String>,
-) -> Result<Vec<Input>, Fault<'a>>
-    ensures opened { IfOk result (λ inputs. length inputs.items ≡ length paths.now.items) }
-    ensures fault { IfErr result IsEarly }
-{
-    let mut inputs = Vec::new(alloc);
-    for path in paths {
-        let input = open(rt, alloc, path.as_str())?;
-        if inputs.push(input).is_err() {
-            return Err(Fault::NoMemory);
-        }
-    }
-    Ok(inputs)
-}
-
-// Opens a path, behind a buffer.
-fn open<'a, R: Files<File = File>>(rt: &R, alloc: Global, path: &'a str) -> Result<Input, Fault<'a>>
-    ensures early { IfErr result IsEarly }
-    ensures fault { IfErr result (λ fault. (fault ≡ Fault.NoMemory) ⊎ (fault ≡ Fault.CannotOpen path.entry)) }
-{
-    match File::open(rt, path).and_then(|file| BufReader::with_capacity(alloc, PIECE, file)) {
-        Ok(buffered) => Ok(FromBuffer::new(buffered)),
-        Err(error) if error.kind() == ErrorKind::OutOfMemory => Err(Fault::NoMemory),
-        Err(_) => Err(Fault::CannotOpen(path)),
-    }
 }

@@ -9,12 +9,13 @@ use crate::standard_error::StandardError;
 use crate::threads::Receiver;
 use station_shared::{PumpFault, StationName, Tally};
 use std::io::Write;
+use std::sync::Wait;
 
 /// Prints what each receiver counted, with its fault directly after it, and at last a failed write. Answers the status,
 /// 0 or 1.
-pub fn tell_end<L: StationName, E: Write>(
+pub fn tell_end<L: StationName, R: Wait, E: Write>(
     err: &mut StandardError<E>,
-    receivers: &Vec<Receiver<L>>,
+    receivers: &Vec<Receiver<'_, R, L>>,
     has_failed: bool,
 ) -> u8
     requires answered { All (λ r. is_some r.answer ≡ true) receivers.now.items }
@@ -32,9 +33,9 @@ pub fn tell_end<L: StationName, E: Write>(
 }
 
 // Prints what each receiver counted, with its fault directly after it. Answers the status.
-fn tell_answers<L: StationName, E: Write>(
+fn tell_answers<L: StationName, R: Wait, E: Write>(
     err: &mut StandardError<E>,
-    receivers: &Vec<Receiver<L>>,
+    receivers: &Vec<Receiver<'_, R, L>>,
 ) -> u8
     requires answered { All (λ r. is_some r.answer ≡ true) receivers.now.items }
     ensures value { result ≡ fold (λ status r. max status (answer_status r.answer)) 0 receivers.now.items }

@@ -10,9 +10,9 @@ use crate::output::{Written, give_up, unbuffered};
 use crate::recorder::Recorder;
 use crate::reporter::{Given, Reported, print_and_record, report};
 use crate::schedule::Pace;
+use station_portions::Portions;
 use station_report::{Sink, ToWrite};
-use station_shared::{FromBuffer, Seat, Station, StationName, Worker, run_receivers};
-use std::fs::File;
+use station_shared::{Seat, Station, StationName, Worker, run_receivers};
 use std::io::{BufWriter, Write};
 use std::snapshot::Snapshot;
 use std::sync::Wait;
@@ -21,19 +21,20 @@ use std::thread::Threads;
 use std::time::{Clock, Instant};
 
 /// A path that a receiver reads.
-pub type Input = FromBuffer<File>;
+pub type Input<'a, R> = Portions<'a, R>;
 
 /// The output of a run, in its buffer.
 pub type Output<O> = ToWrite<BufWriter<O>>;
 
 /// A receiver: its seat, its input and, once it has ended, its answer.
-pub type Receiver<L> = Worker<AIRCRAFT, Input, L>;
+pub type Receiver<'a, R, L> = Worker<AIRCRAFT, Input<'a, R>, L>;
 
 type Ended<L, O, K> = Reported<Seat<AIRCRAFT, L>, Output<O>, K>;
 
 /// Runs the receivers and the reporter to their ends, each in a thread of its own. Answers `None` if the reporter's
 /// thread can't be started, and then nothing is read.
 pub fn run_threads<
+    'a,
     L: StationName + Send + Sync,
     R: Threads + Wait + Clock + Sync,
     S: Sink + Send + Drop,
@@ -45,19 +46,19 @@ pub fn run_threads<
     start: Option<Instant>,
     pace: Pace,
     last: u64,
-    mut receivers: Vec<Receiver<L>>,
+    receivers: Vec<Receiver<'a, R, L>>,
     seat: Seat<AIRCRAFT, L>,
     out: S,
     recorder: Option<Recorder<T, A>>,
 ) -> Option<
     (
-        Vec<Receiver<L>>,
+        Vec<Receiver<'a, R, L>>,
         Reported<Seat<AIRCRAFT, L>, S, Option<Recorder<T, A>>>,
     ),
 >
     ensures answered { IfSome result (λ ended. All (λ r. is_some r.answer ≡ true) ended.0.items) }
     ensures receivers { IfSome result (λ ended. HaveWorked L.start (λ r. r.seat) (λ r. r.source) (λ r. r.answer)
-        receivers.items ended.0.items) }
+        receivers.entry.items ended.0.items) }
     ensures reporter { IfSome result (λ ended. ReportsByAClock L.start pace last seat ended.1.seat
         (sink_of S.taken S.failures out) (sink_of S.taken S.failures ended.1.out)
         recorder ended.1.recorder
@@ -70,13 +71,13 @@ pub fn run_threads<
         rt,
         move |scope| -> Option<
             (
-                Vec<Receiver<L>>,
+                Vec<Receiver<'_, R, L>>,
                 Reported<Seat<AIRCRAFT, L>, S, Option<Recorder<T, A>>>,
             ),
         >
             ensures answered { IfSome result (λ ended. All (λ r. is_some r.answer ≡ true) ended.0.items) }
             ensures receivers { IfSome result (λ ended. HaveWorked L.start (λ r. r.seat) (λ r. r.source) (λ r. r.answer)
-                receivers.items ended.0.items) }
+                receivers.entry.items ended.0.items) }
             ensures reporter { IfSome result (λ ended. ReportsByAClock L.start pace last seat ended.1.seat
                 (sink_of S.taken S.failures out) (sink_of S.taken S.failures ended.1.out)
                 recorder ended.1.recorder
@@ -94,7 +95,7 @@ pub fn run_threads<
                 move || report(rt, station, ended, start, pace, last, seat, out, recorder),
             ) {
                 Ok(reporter) => {
-                    run_receivers(rt, station, receivers.as_mut_slice(), TURNS);
+                    let receivers = run_all(rt, station, receivers);
                     ended.ring();
                     Some((receivers, reporter.join(rt)))
                 }
@@ -102,6 +103,21 @@ pub fn run_threads<
             }
         },
     )
+}
+
+// Runs the receivers to their ends, each in a thread of its own.
+fn run_all<'a, L: StationName + Send + Sync, R: Threads + Wait + Sync>(
+    rt: &R,
+    station: &Station<AIRCRAFT, L>,
+    receivers: Vec<Receiver<'a, R, L>>,
+) -> Vec<Receiver<'a, R, L>>
+    ensures answered { All (λ r. is_some r.answer ≡ true) result.items }
+    ensures worked { HaveWorked L.start (λ r. r.seat) (λ r. r.source) (λ r. r.answer)
+        receivers.entry.items result.items }
+{
+    let mut running = receivers;
+    run_receivers(rt, station, running.as_mut_slice(), TURNS);
+    running
 }
 
 /// Prints the last table and records it, unless a write of the output failed before, and takes the output out of its

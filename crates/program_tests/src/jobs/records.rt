@@ -20,12 +20,13 @@ const RECORD_FAILED: &str = "groundstation: record failed\n";
 // Runs over the two files, with a record in this file.
 fn run_recorded<
     R: Threads + Wait + Clock + Files<File = File> + Sync + AllocGlobal,
+    W: Wait + Copy + Send + 'static,
     O: Write + Send + Drop,
->(rt: &R, files: &TwoFiles, options: &str, record: &str, out: O) -> Result<Told, AllocError> {
+>(rt: &R, own: W, files: &TwoFiles, options: &str, record: &str, out: O) -> Result<Told, AllocError> {
     let alloc = rt.alloc();
     let line = format!(in alloc; "groundstation run {options} --record={record}")?;
     let paths = [path_text(&files.first)?, path_text(&files.second)?];
-    run_line(rt, alloc, line.as_str(), paths.as_slice(), out)
+    run_line(rt, own, alloc, line.as_str(), paths.as_slice(), out)
 }
 
 // A path in the folder of the two files.
@@ -35,12 +36,16 @@ fn record_path(alloc: Global, files: &TwoFiles, name: &str) -> Result<String, Al
 }
 
 // The bytes of a file, and what `replay` prints of them.
-fn shown_again<R: Threads + Wait + Clock + Files<File = File> + Sync + AllocGlobal + Abort>(
+fn shown_again<
+    R: Threads + Wait + Clock + Files<File = File> + Sync + AllocGlobal + Abort,
+    W: Wait + Copy + Send + 'static,
+>(
     rt: &R,
+    own: W,
     record: &str,
 ) -> io::Result<(Vec<u8>, Vec<u8>)> {
     let lines = fs::read(rt, record)?;
-    let shown = replay(rt, lines.as_slice());
+    let shown = replay(rt, own, lines.as_slice());
     Ok((lines, shown.out))
 }
 
@@ -50,8 +55,8 @@ fn a_record_of_two_files_is_shown_again(rt: HostRuntime) -> Result<(), Fail> {
     let files = two_files(&rt, IDENTIFICATION, VELOCITY)?;
     let record = record_path(rt.alloc(), &files, "record")?;
     let mut out = Vec::new(rt.alloc());
-    let told = run_recorded(&rt, &files, "--every=3600000", record.as_str(), &mut out)?;
-    let (lines, shown) = shown_again(&rt, record.as_str())?;
+    let told = run_recorded(&rt, rt, &files, "--every=3600000", record.as_str(), &mut out)?;
+    let (lines, shown) = shown_again(&rt, rt, record.as_str())?;
     let (first, second) = (IDENTIFICATION, VELOCITY);
     let either = format!(in rt.alloc(); "{first}{second}?\n")?;
     let or = format!(in rt.alloc(); "{second}{first}?\n")?;
@@ -79,8 +84,8 @@ fn a_record_of_ten_tables_is_shown_again(rt: HostRuntime) -> Result<(), Fail> {
     let staged = Staged::new(&rt, moments.as_slice(), &has_ended);
     let feed = Feed::at(&has_ended, IDENTIFICATION.as_bytes());
     let mut out = Vec::new(rt.alloc());
-    let lasted = run_lasting(&rt, &staged, line.as_str(), &mut out, feed)?;
-    let (lines, shown) = shown_again(&rt, path)?;
+    let lasted = run_lasting(&rt, &staged, rt, line.as_str(), &mut out, feed)?;
+    let (lines, shown) = shown_again(&rt, rt, path)?;
     assert!(rt; text(&lines).starts_with("+7001\n?\n+14002\n?\n+21003\n?\n"));
     assert!(rt; text(&lines).ends_with("+70010\n?\n*8D4840D6202CC371C32CE0576098;\n?\n"));
     assert_eq!(rt; text(&shown), text(&out));
@@ -101,8 +106,8 @@ fn a_record_goes_on_over_rounds(rt: HostRuntime) -> Result<(), Fail> {
     let record = record_path(rt.alloc(), &files, "record")?;
     let mut out = Vec::new(rt.alloc());
     let options = "--every=3600000 --rounds=3";
-    let told = run_recorded(&rt, &files, options, record.as_str(), &mut out)?;
-    let (lines, shown) = shown_again(&rt, record.as_str())?;
+    let told = run_recorded(&rt, rt, &files, options, record.as_str(), &mut out)?;
+    let (lines, shown) = shown_again(&rt, rt, record.as_str())?;
     assert_eq!(rt; lines.len(), IDENTIFICATION.len() + VELOCITY.len() + 6);
     assert!(rt; text(&lines).ends_with(";\n?\n?\n?\n"));
     assert_eq!(rt; text(&shown), text(&out));
@@ -122,6 +127,7 @@ fn a_record_that_fails_leaves_the_tables(rt: HostRuntime) -> Result<(), Fail> {
     let mut out = Vec::new(rt.alloc());
     let told = run_recorded(
         &rt,
+        rt,
         &files,
         "--every=3600000 --rounds=2",
         "/dev/full",
@@ -141,8 +147,8 @@ fn a_record_that_fails_leaves_the_tables(rt: HostRuntime) -> Result<(), Fail> {
 fn a_record_has_the_table_that_failed(rt: HostRuntime) -> Result<(), Fail> {
     let files = two_files(&rt, IDENTIFICATION, VELOCITY)?;
     let record = record_path(rt.alloc(), &files, "record")?;
-    let told = run_recorded(&rt, &files, "--every=3600000", record.as_str(), Closed)?;
-    let (_, shown) = shown_again(&rt, record.as_str())?;
+    let told = run_recorded(&rt, rt, &files, "--every=3600000", record.as_str(), Closed)?;
+    let (_, shown) = shown_again(&rt, rt, record.as_str())?;
     assert_eq!(rt; text(&shown), TABLE_OF_BOTH);
     let fault = text(&told.err).strip_prefix(ONE_FRAME_EACH);
     assert_eq!(rt; fault, Some("groundstation: write failed\n"));
@@ -159,7 +165,7 @@ fn a_file_that_takes_no_record_is_refused(rt: HostRuntime) -> Result<(), Fail> {
         let record = record_path(rt.alloc(), &files, name)?;
         let path = record.as_str();
         let mut out = Vec::new(rt.alloc());
-        let told = run_recorded(&rt, &files, "--every=3600000", path, &mut out)?;
+        let told = run_recorded(&rt, rt, &files, "--every=3600000", path, &mut out)?;
         let refused = format!(in rt.alloc(); "groundstation: cannot record to {path}\n")?;
         assert_eq!(rt; text(&told.err), refused.as_str());
         assert!(rt; out.is_empty() && told.alarm.is_empty() && told.status == 1);

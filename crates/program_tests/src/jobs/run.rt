@@ -133,13 +133,18 @@ pub fn path_text(path: &PathBuf) -> Result<&str, AllocError> {
     }
 }
 
-fn run_two<R: Threads + Wait + Clock + Files<File = File> + Sync + AllocGlobal + Abort>(
+fn run_two<
+    R: Threads + Wait + Clock + Files<File = File> + Sync + AllocGlobal + Abort,
+    W: Wait + Copy + Send + 'static,
+>(
     rt: &R,
+    own: W,
     first: &str,
     second: &str,
 ) -> Ran {
     run_words(
         rt,
+        own,
         ["groundstation", "run", "--every", "3600000", first, second].as_slice(),
         NO_LINES,
     )
@@ -163,11 +168,11 @@ fn shown_where_refused(told: &str) -> Option<&'static str> {
 fn two_files_are_shown_in_one_table(rt: HostRuntime) -> io::Result<()> {
     let files = two_files(&rt, IDENTIFICATION, VELOCITY)?;
     let (first, second) = (path_text(&files.first)?, path_text(&files.second)?);
-    let mut ran = run_two(&rt, first, second);
+    let mut ran = run_two(&rt, rt, first, second);
     if let Some(shown) = shown_where_refused(text(&ran.err)) {
         assert_eq!(rt; text(&ran.out), shown);
         assert_eq!(rt; ran.status, 1);
-        ran = run_two(&rt, first, second);
+        ran = run_two(&rt, rt, first, second);
     }
     assert_eq!(rt; text(&ran.out), TABLE_OF_BOTH);
     assert_eq!(rt; text(&ran.err), ONE_FRAME_EACH);
@@ -222,7 +227,7 @@ fn tallies_stand_in_the_order_of_the_paths(rt: HostRuntime) -> io::Result<()> {
     ] {
         let files = two_files(&rt, first.unwrap_or(""), second)?;
         let path = path_text(first_path(&files, first.is_some()))?;
-        let ran = run_two(&rt, path, path_text(&files.second)?);
+        let ran = run_two(&rt, rt, path, path_text(&files.second)?);
         assert_eq!(rt; text(&ran.out), table);
         let lines = text(&ran.err);
         assert!(rt; lines == told || lines == or_told, "{lines}");
@@ -233,14 +238,18 @@ fn tallies_stand_in_the_order_of_the_paths(rt: HostRuntime) -> io::Result<()> {
 }
 
 // Whether a run over these paths ends with status 1 and says this alone.
-fn says_alone<R: Threads + Wait + Clock + Files<File = File> + Sync + AllocGlobal>(
+fn says_alone<
+    R: Threads + Wait + Clock + Files<File = File> + Sync + AllocGlobal,
+    W: Wait + Copy + Send + 'static,
+>(
     rt: &R,
+    own: W,
     paths: &[&str],
     told: &str,
 ) -> Result<bool, AllocError> {
     let mut out = Vec::new(rt.alloc());
     let line = "groundstation run --every 3600000";
-    let ran = run_line(rt, rt.alloc(), line, paths, &mut out)?;
+    let ran = run_line(rt, own, rt.alloc(), line, paths, &mut out)?;
     Ok(ran.status == 1 && out.is_empty() && text(&ran.err) == told)
 }
 
@@ -250,9 +259,9 @@ fn where_a_path_cannot_be_opened_nothing_is_read(rt: HostRuntime) -> io::Result<
     let first = path_text(&files.first)?;
     let no_file = "groundstation: cannot open nofile\n";
     let no_first_file = "groundstation: cannot open no first file\n";
-    assert!(rt; says_alone(&rt, ["nofile"].as_slice(), no_file)?);
-    assert!(rt; says_alone(&rt, [first, "nofile"].as_slice(), no_file)?);
+    assert!(rt; says_alone(&rt, rt, ["nofile"].as_slice(), no_file)?);
+    assert!(rt; says_alone(&rt, rt, [first, "nofile"].as_slice(), no_file)?);
     let both = ["no first file", "no second file"];
-    assert!(rt; says_alone(&rt, both.as_slice(), no_first_file)?);
+    assert!(rt; says_alone(&rt, rt, both.as_slice(), no_first_file)?);
     remove(&rt, &files)
 }

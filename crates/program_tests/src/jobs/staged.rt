@@ -187,15 +187,16 @@ pub struct Lasted {
 pub fn run_lasting<
     R: Threads + Clock + Files + Sync + AllocGlobal + Abort,
     C: Threads + Wait + Clock + Files<File = File> + Sync,
+    W: Wait + Copy + Send + 'static,
     O: Write + Send + Drop,
->(rt: &R, clock: &C, line: &str, out: O, feed: Feed<'_>) -> io::Result<Lasted> {
+>(rt: &R, clock: &C, own: W, line: &str, out: O, feed: Feed<'_>) -> io::Result<Lasted> {
     let lasting = lasting_path(rt, rt.alloc())?;
     let lines = lasting.lines;
     let path = lasting.path.as_str();
     let ((is_fed, ended), told) = join(
         rt,
         || (end_path(rt, lines, feed), Instant::now(rt)),
-        || run_line(clock, rt.alloc(), line, [path].as_slice(), out),
+        || run_line(clock, own, rt.alloc(), line, [path].as_slice(), out),
     );
     assert!(rt; is_fed, "the path got no text");
     Ok(Lasted { told: told?, ended })

@@ -62,7 +62,7 @@ fn words_are_refused(rt: HostRuntime) -> Result<(), AllocError> {
         ),
     ] {
         let words = words_of(rt.alloc(), line, [].as_slice())?;
-        let refused = run_words(&rt, words.as_slice(), NO_LINES);
+        let refused = run_words(&rt, rt, words.as_slice(), NO_LINES);
         assert!(rt; refused.status == 2 && refused.out.is_empty(), "{line}");
         let end = text(&refused.err).strip_prefix(told);
         assert_eq!(rt;
@@ -220,7 +220,7 @@ fn help_is_written_to_standard_output(rt: HostRuntime) -> Result<(), AllocError>
         ("groundstation replay -h", REPLAY_HELP, REPLAY_HELP_END),
     ] {
         let words = words_of(rt.alloc(), line, [].as_slice())?;
-        let help = run_words(&rt, words.as_slice(), NO_LINES);
+        let help = run_words(&rt, rt, words.as_slice(), NO_LINES);
         assert!(rt;
             help.status == 0 && help.err.is_empty() && is_narrow(text(&help.out)),
             "{line}"
@@ -240,7 +240,7 @@ fn help_is_written_to_standard_output(rt: HostRuntime) -> Result<(), AllocError>
 fn the_version_is_written_to_standard_output(rt: HostRuntime) -> Result<(), AllocError> {
     for line in ["groundstation --version", "groundstation -V"] {
         let words = words_of(rt.alloc(), line, [].as_slice())?;
-        let told = run_words(&rt, words.as_slice(), NO_LINES);
+        let told = run_words(&rt, rt, words.as_slice(), NO_LINES);
         assert_eq!(rt; text(&told.out), "groundstation 1.0.0\n", "{line}");
         assert!(rt; told.err.is_empty() && told.status == 0, "{line}");
     }

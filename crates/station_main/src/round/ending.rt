@@ -25,15 +25,15 @@ use std::sync::Wait;
 // Prints what was counted, and takes the station apart.
 pub(super) fn finish<L: StationName, R: Wait, O: Write + Drop, E: Write>(
     rt: &R,
-    worked: Worked<L, O>,
+    worked: Worked<'_, R, L, O>,
     err: &mut StandardError<E>,
 ) -> Ran<O>
     requires { All (λ r. is_some r.answer ≡ true) worked.receivers.items }
     ensures most { result.status ≤ 1 }
     ensures last { (asked : Asked) (given : Given) (before : Option (List ℕ)) (was is : Option Recording) →
-        length worked.receivers.items ≡ asked.inputs → GoesOnFrom given L.start →
-        Leaves L.start asked.pace given.last_tick (newcomer given.entries asked.inputs) worked.reporter
-        before (O.contents worked.written.out) was is worked.written.has_failed →
+        length worked.entry.receivers.items ≡ asked.inputs → GoesOnFrom given L.start →
+        Leaves L.start asked.pace given.last_tick (newcomer given.entries asked.inputs) worked.entry.reporter
+        before (O.contents worked.entry.written.out) was is worked.entry.written.has_failed →
         IsLast asked given before (option_map (λ left. O.contents left) result.out) was is
         (told_of E.contents err.old) (told_of E.contents err.new) result.status }
 {
@@ -54,16 +54,16 @@ pub(super) fn finish<L: StationName, R: Wait, O: Write + Drop, E: Write>(
 pub(super) fn hand_on<L: StationName, R: Wait, O: Write + Drop, T: Sink, A: Write, E: Write>(
     rt: &R,
     alloc: Global,
-    worked: Worked<L, O>,
+    worked: Worked<'_, R, L, O>,
     recorder: &mut Option<Recorder<T, A>>,
     err: &mut StandardError<E>,
 ) -> Round<O>
     requires { All (λ r. is_some r.answer ≡ true) worked.receivers.items }
     ensures { (asked : Asked) (given : Given) (before : Option (List ℕ)) (was : Option Recording) →
-        length worked.receivers.items ≡ asked.inputs → GoesOnFrom given L.start →
-        Leaves L.start asked.pace given.last_tick (newcomer given.entries asked.inputs) worked.reporter
-        before (O.contents worked.written.out) was recorder.old
-        worked.written.has_failed →
+        length worked.entry.receivers.items ≡ asked.inputs → GoesOnFrom given L.start →
+        Leaves L.start asked.pace given.last_tick (newcomer given.entries asked.inputs) worked.entry.reporter
+        before (O.contents worked.entry.written.out) was recorder.old
+        worked.entry.written.has_failed →
         EndsRound O.contents asked given before was recorder.new
         (told_of E.contents err.old) (told_of E.contents err.new) result }
 {
@@ -95,7 +95,7 @@ fn keep<L: StationName, R: Wait, T: Sink, A: Write>(
     rt: &R,
     alloc: Global,
     station: Station<AIRCRAFT, L>,
-    receivers: Vec<Receiver<L>>,
+    receivers: Vec<Receiver<'_, R, L>>,
     reporter: Seat<AIRCRAFT, L>,
     recorder: &mut Option<Recorder<T, A>>,
 ) -> Result<Kept, Fault<'static>>
@@ -128,10 +128,10 @@ fn keep<L: StationName, R: Wait, T: Sink, A: Write>(
 }
 
 // All seats of a station: the reporter's, and those of the receivers.
-fn seats_of<L: StationName>(
+fn seats_of<L: StationName, R: Wait>(
     alloc: Global,
     reporter: Seat<AIRCRAFT, L>,
-    receivers: Vec<Receiver<L>>,
+    receivers: Vec<Receiver<'_, R, L>>,
 ) -> Result<Vec<Seat<AIRCRAFT, L>>, NoMemory>
     ensures { IfOk result (λ seats. (others : List Seated) × (seats.items ≡ reporter ∷ others)) }
 {

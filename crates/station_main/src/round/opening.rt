@@ -15,14 +15,14 @@ use std::sync::Wait;
 use std::sync::ledger::Blank;
 
 // Makes the station that goes on from the kept entries, a receiver for each input, and the reporter's seat.
-pub(super) fn begin<L: StationName, R: Wait>(
+pub(super) fn begin<'a, L: StationName, R: Wait>(
     rt: &R,
     alloc: Global,
     kept: Kept,
-    inputs: Vec<Input>,
+    inputs: Vec<Input<'a, R>>,
     blank: Blank,
     places: Places<AIRCRAFT>,
-) -> Result<(Station<AIRCRAFT, L>, Vec<Receiver<L>>, Seat<AIRCRAFT, L>), NoMemory>
+) -> Result<(Station<AIRCRAFT, L>, Vec<Receiver<'a, R, L>>, Seat<AIRCRAFT, L>), NoMemory>
     requires few { length inputs.items ≤ 8 }
     requires ledger { (blank.name ≡ L.name) × (blank.parts ≡ L.parts) }
     requires seats { (L.parts ≡ length inputs.items + 1)
@@ -33,12 +33,12 @@ pub(super) fn begin<L: StationName, R: Wait>(
     requires base { base_of places.history ≡ kept.recent.base }
     requires limits { L.start.limits ≡ program_limits }
     requires sound { IsSound program_limits kept.recent.base (reverse kept.recent.entries.items) }
-    ensures many { IfOk result (λ made. length made.1.items ≡ length inputs.items) }
-    ensures sources { IfOk result (λ made. map (λ r. r.source) made.1.items ≡ inputs.items) }
+    ensures many { IfOk result (λ made. length made.1.items ≡ length inputs.entry.items) }
+    ensures sources { IfOk result (λ made. map (λ r. r.source) made.1.items ≡ inputs.entry.items) }
     ensures seats { IfOk result (λ made. map (λ r. r.seat) made.1.items
-        ≡ newcomers kept.recent.entries.items (length inputs.items)) }
+        ≡ newcomers kept.recent.entries.items (length inputs.entry.items)) }
     ensures reporter { IfOk result (λ made.
-        made.2 ≡ newcomer kept.recent.entries.items (length inputs.items)) }
+        made.2 ≡ newcomer kept.recent.entries.items (length inputs.entry.items)) }
 {
     let count = inputs.len() as u8 + 1;
     let made = Station::<AIRCRAFT, L>::resume(rt, alloc, LIMITS, count, kept.recent, blank, places);
@@ -62,14 +62,14 @@ pub(super) fn begin<L: StationName, R: Wait>(
 }
 
 // Makes a receiver for each input, with a seat of its own.
-fn receivers<L: StationName>(
+fn receivers<'a, L: StationName, R: Wait>(
     alloc: Global,
     seats: Vec<Seat<AIRCRAFT, L>>,
-    inputs: Vec<Input>,
-) -> Result<Vec<Receiver<L>>, NoMemory>
+    inputs: Vec<Input<'a, R>>,
+) -> Result<Vec<Receiver<'a, R, L>>, NoMemory>
     requires { length seats.items ≡ length inputs.items }
     ensures seats { IfOk result (λ made. map (λ r. r.seat) made.items ≡ seats.items) }
-    ensures sources { IfOk result (λ made. map (λ r. r.source) made.items ≡ inputs.items) }
+    ensures sources { IfOk result (λ made. map (λ r. r.source) made.items ≡ inputs.entry.items) }
 {
     let mut receivers = Vec::new(alloc);
     for (seat, source) in seats.into_iter().zip(inputs) {
