@@ -1,4 +1,5 @@
 //! The program over words and streams of these tests.
+mod hand_overs;
 mod outputs;
 mod records;
 mod replies;

@@ -1,8 +1,6 @@
 -- Rounds of the job `run`, one after another.
 use Rattle.std.proofs.Common.{◌≡◌, ◌∙◌, inl, inr, ℕ, zero, suc, ◌+◌, ◌<◌, ◌≤◌, Bool, List, [], ◌∷◌, ◌++◌, Option, Result, length, length-append, refl, sym, ap, subst, take, reverse, arith}
-use Rattle.std.specs.Prelude.{fold, map, max}
-use Rattle.std.specs.List.{flat_map}
-use Rattle.std.proofs.lemmas.List.{length-map, length-reverse, length-take-le}
+use Rattle.std.proofs.lemmas.List.{length-reverse, length-take-le}
 use Rattle.station_journal.specs.declared.entry.Entry.{Entry}
 use Rattle.station_journal.specs.declared.limits.Limits.{Limits}
 use Rattle.station_journal.specs.declared.recent.ResumeFault.{ResumeFault}
@@ -11,7 +9,8 @@ use Rattle.station_journal.specs.Resume.{IsSound, Refuses, recent_base}
 use Rattle.station_journal.proofs.SoundLemmas.{sound_by_fits}
 use Rattle.station_journal.proofs.StandsLemmas.{length_sound, recent_stands, sound_from_legal}
 use Rattle.station_desk.specs.History.{base_of}
-use Rattle.station_desk.specs.Start.{Start}
+use Rattle.station_desk.specs.Start.{Start, log_of}
+use Rattle.station_journal.specs.Log.{IsLegal}
 use Rattle.station_shared.specs.Seats.{Seated, newcomer, newcomers}
 use Rattle.station_shared.proofs.NewcomerLemmas.{newcomers_more}
 use Rattle.station_lines.specs.declared.pumping.PumpFault.{PumpFault}
@@ -19,12 +18,11 @@ use Rattle.station_lines.specs.declared.tally.Tally.{Tally}
 use Rattle.station_desk.proofs.StartLemmas.{sound_at, sound_front}
 use Rattle.station_main.specs.Limits.{program_limits}
 use Rattle.station_main.specs.Recorded.{Recording}
-use Rattle.station_main.specs.Rounds.{Asked, Given, GoesOnFrom, HandsOn, IsCutShort, KeepsRecent, IsRound, Runs}
-use Rattle.station_main.specs.Run.{Leaves}
-use Rattle.station_main.specs.Status.{answer_status, fault_status}
-use Rattle.station_main.specs.Telling.{Tells, Told, answer_lines, output_lines}
-use Rattle.station_main.proofs.RunJobLemmas.{statuses}
-use Rattle.station_main.proofs.TellLemmas.{flat_map-map}
+use Rattle.station_main.specs.Rounds.{Asked, Begun, Given, HandsOn, IsCutShort, IsHandOver, KeepsRecent, Runs, Stations}
+use Rattle.station_main.specs.Output.{Printed}
+use Rattle.station_main.specs.Run.{Closing}
+use Rattle.station_main.specs.Sums.{AddsEach}
+use Rattle.station_main.specs.Telling.{Told}
 
 -- ---- a sound list is refused only if out of memory
 
@@ -37,12 +35,35 @@ wants_memory limits base entries (Unsound k) sound refuses other =
 wants_memory limits base entries NoMemory sound refuses other = other refl
 
 -- what is kept of a station under the limits of the program may be resumed from under them
-pub kept_sound : (start : Start) (closing : Seated) (kept : Given) (was recorded : Option Recording) → start.limits ≡ program_limits → KeepsRecent start closing kept was recorded → IsSound program_limits kept.base (reverse kept.entries)
-kept_sound start closing kept was recorded limits is =
+pub kept_sound : (start : Start) (journal : List Entry) (kept : Given) (was recorded : Option Recording) → start.limits ≡ program_limits → IsLegal (log_of start journal) → KeepsRecent start journal kept was recorded
+    → IsSound program_limits kept.base (reverse kept.entries)
+kept_sound start journal kept was recorded limits legal is =
     let base = base_of start.history in
-    let past = reverse is.journal in
-    let stands = recent_stands start.limits base past (sound_from_legal start.limits base start.resumed past is.legal) in
+    let past = reverse journal in
+    let stands = recent_stands start.limits base past (sound_from_legal start.limits base start.resumed past legal) in
     subst (λ under. IsSound under kept.base (reverse kept.entries)) limits (subst (λ from. IsSound start.limits from (reverse kept.entries)) (sym is.base) (subst (λ entries. IsSound start.limits (recent_base base past) entries) (sym is.entries) stands.sound))
+
+-- the same of a station that hands over
+pub hand_over_sound : (begun next : Begun) (before after : Printed) (was is : Option Recording) → IsHandOver begun next before after was is → IsSound program_limits next.given.base (reverse next.given.entries)
+hand_over_sound begun next before after was is hands = kept_sound hands.start hands.closing.journal next.given hands.shown is hands.serves.goes_on.limits hands.serves.closed.closes.legal hands.is_kept
+
+adds_length : (before since sums : List (Result Tally PumpFault)) → AddsEach before since sums → length sums ≡ length before
+adds_length [] [] [] adds = refl
+adds_length [] [] (s ∷ sums) adds = absurd adds
+adds_length [] (x ∷ since) sums adds = absurd adds
+adds_length (b ∷ before) [] sums adds = absurd adds
+adds_length (b ∷ before) (x ∷ since) [] adds = absurd adds
+adds_length (b ∷ before) (x ∷ since) (s ∷ sums) adds = omega (arith, adds_length before since sums adds.1)
+
+pub hand_over_answers : (begun next : Begun) (before after : Printed) (was is : Option Recording) → IsHandOver begun next before after was is → length next.answers ≡ length begun.answers
+hand_over_answers begun next before after was is hands = adds_length begun.answers hands.serves.counted next.answers hands.serves.sums
+
+-- and of the last station of a round
+pub round_sound : (more : ℕ) (begun : Begun) (start : Start) (closing : Closing) (before : Printed) (after : Option (List ℕ)) (was shown recorded : Option Recording) (err_old err_new : Told) (status : ℕ) (kept : Given)
+    → Stations more begun start closing before after was shown err_old err_new status → KeepsRecent start closing.journal kept shown recorded → IsSound program_limits kept.base (reverse kept.entries)
+round_sound zero begun start closing before after was shown recorded err_old err_new status kept last is = kept_sound start closing.journal kept shown recorded last.serves.goes_on.limits last.serves.closed.closes.legal is
+round_sound (suc more) begun start closing before after was shown recorded err_old err_new status kept (next, mid, mid_recorded, hands, rest) is =
+    round_sound more next start closing mid after mid_recorded shown recorded err_old err_new status kept rest is
 
 -- ---- the last of the seats
 
@@ -71,25 +92,6 @@ receiver_seats entries count inputs seats others last split made many =
     snoc_front others (newcomers entries count) last (newcomer entries count) (sym split ∙ made ∙ sym (newcomers_more entries count)) ∙ ap (λ n. newcomers entries n) many
 
 -- ---- rounds
-
--- a round, by its output and what is printed at its end
-pub is_round : {W : Type 0} (asked : Asked) (given : Given) (start : Start) (closing : Seated) (before after : Option (List ℕ)) (was recorded : Option Recording) (answer : W → Option (Result Tally PumpFault)) (ws : List W) (has_failed : Bool)
-    (err_old err_new : Told) (status : ℕ) → GoesOnFrom given start → length ws ≡ asked.inputs
-    → Leaves start asked.pace given.last_tick (newcomer given.entries asked.inputs) closing before after was recorded has_failed
-    → Tells err_old err_new (flat_map (λ w. answer_lines (answer w)) ws ++ output_lines has_failed)
-    → status ≡ max (fold (λ worst w. max worst (answer_status (answer w))) 0 ws) (fault_status has_failed)
-    → IsRound asked given start closing before after was recorded err_old err_new status
-is_round asked given start closing before after was recorded answer ws has_failed err_old err_new status goes_on many output told is = record {
-  goes_on = goes_on;
-  ends = record {
-    has_failed = has_failed;
-    output = output;
-    answers = map answer ws;
-    many = length-map ws answer ∙ many;
-    told = subst (λ lines. Tells err_old err_new (lines ++ output_lines has_failed)) (flat_map-map answer_lines answer ws) told;
-    status_is = statuses answer ws status has_failed is;
-  };
-}
 
 pub cut_short : (asked : Asked) (more : ℕ) (given : Given) (before : Option (List ℕ)) (after : Option (Option (List ℕ))) (was is : Option Recording) (err_old err_new : Told) (status : ℕ) → 0 < more
     → IsCutShort asked given before after was is err_old err_new status → Runs asked more given before after was is err_old err_new status

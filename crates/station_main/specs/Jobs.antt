@@ -2,7 +2,7 @@
 use Rattle.std.specs.Prelude.{◌≡◌, ◌⊎◌, ℕ, ◌-◌, List, Option, Some, None, is_some, length}
 use Rattle.clap.specs.Words.{Text}
 use Rattle.station_main.specs.Command.{NamesJob}
-use Rattle.station_main.specs.Limits.{program_limits}
+use Rattle.station_main.specs.Limits.{forget_at, program_limits}
 use Rattle.station_main.specs.Replay.{EndsReplay}
 use Rattle.station_main.specs.Rounds.{RunsAsked}
 use Rattle.station_main.specs.Run.{EndsEarly}
@@ -16,7 +16,7 @@ abbrev pub IsDone : Job → Option (List ℕ) → Option (List ℕ) → Option (
 IsDone Replay input before None alarm err_old err_new status = EndsEarly err_old err_new status
 IsDone Replay input before (Some after) alarm err_old err_new status = EndsReplay program_limits input before after err_old err_new status
 IsDone (Run pace rounds paths file) input before after alarm err_old err_new status =
-    RunsAsked (is_some file) (record { pace = pace; inputs = length paths.items }) (rounds - 1) before after alarm err_old err_new status
+    RunsAsked (is_some file) (record { pace = pace; inputs = length paths.items; hand_over_at = forget_at }) (rounds - 1) before after alarm err_old err_new status
 
 -- the job that the command line names is done
 pub record DoesJob (words : List Text) (input before : Option (List ℕ)) (after : Option (Option (List ℕ))) (alarm : Option (List ℕ)) (err_old err_new : Told) (status : ℕ) : Type 0 where

@@ -1,5 +1,5 @@
 -- When the reporter acts, and what it prints.
-use Rattle.std.specs.Prelude.{◌≡◌, ℕ, ◌+◌, ◌-◌, ◌*◌, ◌^◌, ◌≤◌, ◌<◌, ◌⊎◌, Bool, true, false, List, [], ◌∷◌, Option, Some, None, IfSome, map, min, nat_le, unwrap_or, if◌then◌else◌}
+use Rattle.std.specs.Prelude.{◌≡◌, ℕ, ◌+◌, ◌-◌, ◌*◌, ◌^◌, ◌≤◌, ◌<◌, ◌⊎◌, Bool, true, false, List, [], ◌∷◌, Option, Some, None, IfSome, cond, length, map, min, nat_le, unwrap_or, if◌then◌else◌}
 use Rattle.std.specs.Option.{option_map_or}
 use Rattle.std.specs.Duration.{as_nanos}
 use Rattle.station_journal.specs.declared.entry.Entry.TheVariants.{Tick}
@@ -13,6 +13,7 @@ use Rattle.station_main.specs.Tables.{TakesTexts, failures_after}
 use Rattle.station_main.specs.declared.schedule.Act.{Act}
 use Rattle.station_main.specs.declared.schedule.Act.TheVariants as act
 use Rattle.station_main.specs.declared.schedule.Due.{Due}
+use Rattle.station_main.specs.declared.reporter.Duties.{Duties}
 use Rattle.station_main.specs.declared.schedule.Pace.{Pace}
 
 -- ---- when it acts, in milliseconds since its start
@@ -63,6 +64,13 @@ due_moments pace due (now ∷ moments) =
     else (if has_come due.tick now then (record { at = now; has_table = false } ∷ due_moments pace (after_tick pace due now) moments)
     else due_moments pace due moments)
 
+-- what is due next after these times of a clock
+abbrev pub due_after : Pace → Due → List ℕ → Due
+due_after pace due [] = due
+due_after pace due (now ∷ moments) =
+    cond (nat_le due.table now) (due_after pace (after_table pace now) moments)
+    (cond (has_come due.tick now) (due_after pace (after_tick pace due now) moments) (due_after pace due moments))
+
 -- ---- what it prints
 
 -- a tick alone or with a table: its time, the seat after the tick, and the seat after the look, unless that was refused
@@ -93,20 +101,44 @@ abbrev pub Showings : Start → Seated → List Showing → Seated → Type 0
 Showings start old [] new = new ≡ old
 Showings start old (showing ∷ showings) new = IsShowing start old showing × Showings start (seat_after showing) showings new
 
--- tables and ticks alone at just those times of the clock at which they are due, the first one interval after the last tick
-pub record KeepsTime (start : Start) (pace : Pace) (last : ℕ) (moments : List ℕ) (old : Seated) (showings : List Showing) (new : Seated) : Type 0 where
-  pub due : map (λ (showing : Showing). showing.acting) showings ≡ due_moments pace (after_table pace last) moments
+-- a seat that may have looked, and showed nothing
+abbrev pub IsLater : Start → Seated → Seated → Type 0
+IsLater start old new = (new ≡ old) ⊎ Looks start old new
+
+-- tables and ticks alone at just those times of the clock at which they are due
+pub record KeepsTime (start : Start) (pace : Pace) (due : Due) (moments : List ℕ) (old : Seated) (showings : List Showing) (new : Seated) : Type 0 where
+  pub acts : map (λ (showing : Showing). showing.acting) showings ≡ due_moments pace due moments
   pub walk : Showings start old showings new
 
--- a reporter whose clock gave these times, from one seat to another; the record goes on with what its looks have seen
-pub record Reports (start : Start) (pace : Pace) (last : ℕ) (moments : List ℕ) (old new : Seated) (before after : Printed) (was is : Option Recording) (has_failed : Bool) : Type 0 where
+-- a reporter whose clock gave these times, from one seat to another, and what is due next; the record goes on with what its
+-- looks have seen
+pub record Reports (start : Start) (pace : Pace) (due next : Due) (moments : List ℕ) (old new : Seated) (before after : Printed) (was is : Option Recording) (has_failed : Bool) : Type 0 where
   pub showings : List Showing
-  pub keeps : KeepsTime start pace last moments old showings new
+  pub shown : Seated
+  pub keeps : KeepsTime start pace due moments old showings shown
+  pub later : IsLater start shown new
+  pub next_is : next ≡ due_after pace due moments
   pub takes : TakesTexts start (looks_of showings) before.taken after.taken has_failed
   pub failures : after.failures ≡ failures_after has_failed before.failures
   pub records : IfRecording (Records (seen_by (looks_of showings))) was is
 
--- a reporter by some clock
-abbrev pub ReportsByAClock : Start → Pace → ℕ → Seated → Seated → Printed → Printed → Option Recording → Option Recording → Bool → Type 0
-ReportsByAClock start pace last old new before after was is has_failed =
-    (moments : List ℕ) × Reports start pace last moments old new before after was is has_failed
+-- a hand-over is asked for at a time: the journal has so many entries, no write has failed, and the seat ticks alone once more;
+-- the table is due where it was
+pub record HandsOver (start : Start) (duties : Duties) (at : ℕ) (due next : Due) (old new : Seated) (has_failed : Bool) : Type 0 where
+  pub full : duties.hand_over_at ≤ length old.seen
+  pub well : has_failed ≡ false
+  pub ticks : Ticks start old at new
+  pub next_is : next ≡ after_tick duties.pace due at
+
+-- where none is asked for nothing is done
+abbrev pub MayHandOver : Start → Duties → Option ℕ → Due → Due → Seated → Seated → Bool → Type 0
+MayHandOver start duties None due next old new has_failed = (new ≡ old) × (next ≡ due)
+MayHandOver start duties (Some at) due next old new has_failed = HandsOver start duties at due next old new has_failed
+
+-- a reporter by some clock, which may ask for a hand-over at its end
+pub record ReportsByAClock (start : Start) (duties : Duties) (next : Due) (asked_at : Option ℕ) (old new : Seated) (before after : Printed) (was is : Option Recording) (has_failed : Bool) : Type 0 where
+  pub moments : List ℕ
+  pub due : Due
+  pub mid : Seated
+  pub reports : Reports start duties.pace duties.due due moments old mid before after was is has_failed
+  pub hands_over : MayHandOver start duties asked_at due next mid new has_failed

@@ -1,5 +1,5 @@
 -- What a round of the job `run` leaves.
-use Rattle.std.specs.Prelude.{◌≡◌, ℕ, ◌<◌, Bool, true, false, List, [], ◌∷◌, ◌++◌, Option, Some, None, IfSome, Result, length, slice_index_or, is_err, fold, map, max, unwrap_or, ⊤}
+use Rattle.std.specs.Prelude.{◌≡◌, ℕ, ◌+◌, ◌<◌, Bool, true, false, List, [], ◌∷◌, ◌++◌, Option, Some, None, IfSome, Result, length, slice_index_or, is_err, fold, map, max, unwrap_or, ⊤}
 use Rattle.std.specs.List.{flat_map}
 use Rattle.station_journal.specs.declared.entry.Entry.{Entry}
 use Rattle.station_report.specs.declared.sinks.WriteFault.{WriteFault}
@@ -7,20 +7,22 @@ use Rattle.station_lines.specs.Drawing.{Drawn}
 use Rattle.station_portions.specs.Giving.{given}
 use Rattle.station_portions.specs.declared.portions.Portions.{Portions}
 use Rattle.station_desk.specs.Start.{Start}
-use Rattle.station_shared.specs.Seats.{Seated, Looks, newcomers}
-use Rattle.station_shared.specs.Workers.{Worked}
+use Rattle.station_shared.specs.Seats.{Seated, Looks, newcomer}
+use Rattle.station_shared.specs.Closing.{Closes, EachOnce}
+use Rattle.station_shared.specs.Workers.{Worked, Works}
 use Rattle.station_lines.specs.declared.pumping.PumpFault.{PumpFault}
 use Rattle.station_lines.specs.declared.tally.Tally.{Tally}
 use Rattle.station_main.specs.Limits.{most_reads}
 use Rattle.station_main.specs.Output.{GivesBack, Printed}
 use Rattle.station_main.specs.Recorded.{IfRecording, PrintsAndRecords, Recording, Records, seen_by}
-use Rattle.station_main.specs.Reporter.{KeepsTime, Showing, looks_of}
-use Rattle.station_main.specs.Status.{answer_status, fault_status}
+use Rattle.station_main.specs.Reporter.{IsLater, KeepsTime, MayHandOver, Showing, due_after, looks_of}
+use Rattle.station_main.specs.Status.{fault_status, status_of}
 use Rattle.station_main.specs.Tables.{TakesTexts}
-use Rattle.station_main.specs.Telling.{Tells, Told, answer_lines, fault_line, output_lines}
+use Rattle.station_main.specs.Telling.{Tells, Told, fault_line, output_lines, pump_lines}
 use Rattle.station_main.specs.declared.faults.Fault.{Fault}
 use Rattle.station_main.specs.declared.faults.Fault.TheVariants as fault
-use Rattle.station_main.specs.declared.schedule.Pace.{Pace}
+use Rattle.station_main.specs.declared.reporter.Duties.{Duties}
+use Rattle.station_main.specs.declared.schedule.Due.{Due}
 
 -- ---- the receivers
 
@@ -34,12 +36,33 @@ pub record HaveWorked {W R : Type 0} (start : Start) (seat : W → Seated) (sour
   pub each : (i : ℕ) (d : W) → i < length old → let was = slice_index_or old i d in let is = slice_index_or new i d in
       Worked start (seat was) (seat is) (drawn_from (source was)) (drawn_from (source is)) most_reads (answer is)
 
--- receivers that have pumped these inputs to answers, one each, in their order, from seats that had seen these entries
-pub record HavePumped {W R : Type 0} (start : Start) (entries : List Entry) (seat : W → Seated) (source : W → Portions R) (answer : W → Option (Result Tally PumpFault)) (inputs : List (Portions R)) (new : List W) : Type 0 where
-  pub old : List W
-  pub seats : map seat old ≡ newcomers entries (length inputs)
-  pub sources : map source old ≡ inputs
-  pub worked : HaveWorked start seat source answer old new
+-- receivers of these sources, one each in their order, each with a seat of its own that had seen these entries: the sources and
+-- the seats afterwards, and the answers
+pub record HavePumped (start : Start) (entries : List Entry) (old new : List Drawn) (seats : List Seated) (answers : List (Result Tally PumpFault)) : Type 0 where
+  pub many_sources : length new ≡ length old
+  pub many_seats : length seats ≡ length old
+  pub many_answers : length answers ≡ length old
+  pub each : (i : ℕ) (source : Drawn) (seat : Seated) (answer : Result Tally PumpFault) → i < length old
+      → Works start (newcomer entries i) (slice_index_or seats i seat) (slice_index_or old i source) (slice_index_or new i source) most_reads (slice_index_or answers i answer)
+
+-- ---- a closed station
+
+-- n seats: those of the receivers are numbered by their places, and the reporter's comes after them
+pub record AreNumbered (n : ℕ) (reporter : Seated) (receivers : List Seated) : Type 0 where
+  pub many : length receivers + 1 ≡ n
+  pub last : reporter.number ≡ length receivers
+  pub each : (i : ℕ) (d : Seated) → i < length receivers → (slice_index_or receivers i d).number ≡ i
+
+-- its seats at the end, the reporter's and those of the receivers in the order of their inputs, and its journal
+pub record Closing : Type 0 where
+  pub reporter : Seated
+  pub receivers : List Seated
+  pub journal : List Entry
+
+-- the seats are all its seats, each once; the journal begins with what each of them has seen, and has each accepted call once
+pub record IsClosed (start : Start) (closing : Closing) : Type 0 where
+  pub once : EachOnce (length closing.receivers + 1) (closing.reporter ∷ closing.receivers)
+  pub closes : Closes start (length closing.receivers + 1) closing.journal (closing.reporter ∷ closing.receivers)
 
 -- ---- the last table
 
@@ -63,14 +86,22 @@ LastLook start old new true looks = (looks ≡ []) × (new ≡ old)
 
 -- ---- a whole round
 
--- what a round leaves of its output, whose reporter's seat goes from `first` to `closing`: the texts of its looks and of one
--- look after them, and nothing else, or a front of that if a write failed; the record goes on with what these looks have seen
-pub record Leaves (start : Start) (pace : Pace) (last_tick : ℕ) (first closing : Seated) (before after : Option (List ℕ)) (was is : Option Recording) (has_failed : Bool) : Type 0 where
+-- what the last station of a round leaves of its output, whose reporter's seat goes from `first` to `closing`: the texts of its
+-- looks and of one look after them, and nothing else, or a front of that if a write failed; the record goes on with what these
+-- looks have seen
+pub record Leaves (start : Start) (duties : Duties) (first closing : Seated) (before after : Option (List ℕ)) (was is : Option Recording) (has_failed : Bool) : Type 0 where
   pub mid : Seated
   pub moments : List ℕ
   pub showings : List Showing
-  pub keeps : KeepsTime start pace last_tick moments first showings mid
+  pub shown : Seated
+  pub keeps : KeepsTime start duties.pace duties.due moments first showings shown
+  pub looked : Seated
+  pub later : IsLater start shown looked
   pub failed_before : Bool
+  -- the paths may all have ended just when a hand-over was asked for
+  pub asked_at : Option ℕ
+  pub next : Due
+  pub hands_over : MayHandOver start duties asked_at (due_after duties.pace duties.due moments) next looked mid failed_before
   pub last : List (Option Seated)
   pub looks : LastLook start mid closing failed_before last
   pub between : Option (List ℕ)
@@ -80,14 +111,12 @@ pub record Leaves (start : Start) (pace : Pace) (last_tick : ℕ) (first closing
   pub gives : GivesBack between after has_failed
   pub told : write_failed ≡ true → has_failed ≡ true
 
--- it prints the answers, one for each input in their order, and at last a failed write; the status is the worst of these
-pub record Ends (start : Start) (pace : Pace) (last_tick inputs : ℕ) (first closing : Seated) (before after : Option (List ℕ)) (was is : Option Recording) (err_old err_new : Told) (status : ℕ) : Type 0 where
+-- it prints what was counted of each path, and at last a failed write; the status is the worst of these
+pub record Ends (start : Start) (duties : Duties) (answers : List (Result Tally PumpFault)) (first closing : Seated) (before after : Option (List ℕ)) (was is : Option Recording) (err_old err_new : Told) (status : ℕ) : Type 0 where
   pub has_failed : Bool
-  pub output : Leaves start pace last_tick first closing before after was is has_failed
-  pub answers : List (Option (Result Tally PumpFault))
-  pub many : length answers ≡ inputs
-  pub told : Tells err_old err_new (flat_map answer_lines answers ++ output_lines has_failed)
-  pub status_is : status ≡ max (fold (λ worst answer. max worst (answer_status answer)) 0 answers) (fault_status has_failed)
+  pub output : Leaves start duties first closing before after was is has_failed
+  pub told : Tells err_old err_new (flat_map pump_lines answers ++ output_lines has_failed)
+  pub status_is : status ≡ max (fold (λ worst answer. max worst (status_of answer)) 0 answers) (fault_status has_failed)
 
 -- a fault that comes before anything is read
 abbrev pub IsEarly : Fault → Type 0

@@ -1,5 +1,5 @@
 -- What is printed on standard error.
-use Rattle.std.specs.Prelude.{◌≡◌, ℕ, Bool, true, false, List, [], ◌∷◌, ◌++◌, Option, Some, None, Result, Ok, Err, codes}
+use Rattle.std.specs.Prelude.{◌≡◌, ℕ, Bool, true, false, List, [], ◌∷◌, ◌++◌, Option, Result, Ok, Err, codes}
 use Rattle.std.specs.Fmt.{decimal}
 use Rattle.std.specs.Io.KnownBytes.{Appends}
 use Rattle.station_lines.specs.declared.pumping.PumpFault.{PumpFault}
@@ -54,11 +54,6 @@ pump_lines (Ok tally) = tally_line tally
 pump_lines (Err (pump.Read tally)) = tally_line tally ++ fault_line fault.Read
 pump_lines (Err (pump.TooManyTurns tally)) = tally_line tally ++ fault_line fault.TooManyReads
 pump_lines (Err (pump.NoMemory tally)) = tally_line tally ++ fault_line fault.NoMemory
-
--- a receiver without an answer has no line
-abbrev pub answer_lines : Option (Result Tally PumpFault) → List ℕ
-answer_lines None = []
-answer_lines (Some answer) = pump_lines answer
 
 -- a failed write, if there is one
 abbrev pub output_lines : Bool → List ℕ

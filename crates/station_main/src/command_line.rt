@@ -7,6 +7,7 @@ ghost use Rattle.station_main.specs.Telling.{told_of};
 ghost use Rattle.std.specs.Prelude.{◌≡◌, ◌≢◌, ◌≤◌, map, option_map, true};
 
 use crate::faults::Fault;
+use crate::limits::FORGET_AT;
 use crate::output::{Ran, without_output};
 use crate::replay_job::replay_input;
 use crate::run_job::{Asked, run_paths};
@@ -98,6 +99,7 @@ fn do_job<
                 rounds,
                 record: &record,
                 paths: &paths,
+                hand_over_at: FORGET_AT,
             };
             run_paths(rt, own, alloc, asked, out, alarm, err)
         }

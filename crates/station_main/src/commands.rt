@@ -58,8 +58,9 @@ const AFTER_RUN_HELP: &str = concat!(
     "each path goes to standard error.\n",
     "--record writes all that was accepted to FILE, with a ? for each table:\n",
     "'groundstation replay < FILE' prints the tables again.\n",
-    "A round has room for 16777216 accepted frames and ticks. When it is full, all\n",
-    "that comes is refused, and 'now' stands still.\n",
+    "Once there are 12582912 accepted frames and ticks, those that are more than\n",
+    "70 s old are forgotten. There is room for 16777216. When it is full, all that\n",
+    "comes is refused, and 'now' stands still.\n",
     "Formats: docs/FORMATS.md. Receivers that drop: docs/USING.md.",
 );
 

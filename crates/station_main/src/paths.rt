@@ -1,11 +1,14 @@
 //! The paths of a round, each read by a thread of its own.
-ghost use Rattle.std.specs.Prelude.{◌≡◌, ◌⊎◌, IfErr, IfOk, length};
-ghost use Rattle.station_main.specs.Run.{IsEarly};
+ghost use Rattle.std.specs.Prelude.{◌≡◌, ◌⊎◌, All, IfErr, IfOk, length, map};
+ghost use Rattle.station_main.specs.Rounds.{HasNoLines, IsUnread};
+ghost use Rattle.station_main.specs.Run.{IsEarly, drawn_from};
 
 use crate::faults::Fault;
-use crate::threads::{Input, Receiver};
+use crate::round::Paths;
+use crate::shift::Answer;
+use crate::threads::Input;
 use station_portions::{FinishedPath, PathReader, WholePath, connect};
-use station_shared::StationName;
+use station_shared::Tally;
 use std::alloc::Global;
 use std::fs::File;
 use std::io::ErrorKind;
@@ -47,29 +50,53 @@ fn open<'p, R: Files<File = File>>(rt: &R, path: &'p str) -> Result<File, Fault<
     }
 }
 
-/// Starts a thread for each file, which reads it to its end. Answers the inputs that they send to, in the order of the
-/// files, and the threads. `own` is what the threads wait by.
+/// Paths whose threads read them.
+#[derive(Drop)]
+pub struct Opened<'a, R> {
+    pub paths: Paths,
+    /// What the threads send to, by path.
+    pub inputs: Vec<Input<'a, R>>,
+    /// Nothing is counted so far, by path.
+    pub answers: Vec<Answer>,
+}
+
+/// Starts a thread for each file, in their order, which reads it to its end. `own` is what the threads wait by.
 pub fn start_all<'a, R: Threads, W: Wait + Copy + Send + 'static>(
     rt: &'a R,
     own: W,
     alloc: Global,
     files: Vec<File>,
-) -> Result<(Vec<Input<'a, R>>, Vec<PathThread>), Fault<'static>>
-    ensures inputs { IfOk result (λ made. length made.0.items ≡ length files.items) }
+) -> Result<Opened<'a, R>, Fault<'static>>
+    ensures inputs { IfOk result (λ opened. length opened.inputs.items ≡ length files.items) }
+    ensures unread { IfOk result (λ opened. All IsUnread (map drawn_from opened.inputs.items)) }
+    ensures answers { IfOk result (λ opened. length opened.answers.items ≡ length files.items) }
+    ensures none { IfOk result (λ opened. All HasNoLines opened.answers.items) }
     ensures fault { IfErr result IsEarly }
 {
-    let mut inputs = Vec::new(alloc);
-    let mut threads = Vec::new(alloc);
+    let (mut threads, mut hand_overs) = (Vec::new(alloc), Vec::new(alloc));
+    let (mut inputs, mut answers) = (Vec::new(alloc), Vec::new(alloc));
     for file in files {
-        let Ok((reader, input, _)) = connect(rt, alloc) else {
+        let Ok((reader, input, hand_over)) = connect(rt, alloc) else {
             return Err(Fault::NoMemory);
         };
         let thread = start(rt, own, reader, file)?;
-        if inputs.push(input).is_err() || threads.push(thread).is_err() {
+        if threads.push(thread).is_err()
+            || hand_overs.push(hand_over).is_err()
+            || inputs.push(input).is_err()
+            || answers.push(Ok(Tally::new())).is_err()
+        {
             return Err(Fault::NoMemory);
         }
     }
-    Ok((inputs, threads))
+    let paths = Paths {
+        threads,
+        hand_overs,
+    };
+    Ok(Opened {
+        paths,
+        inputs,
+        answers,
+    })
 }
 
 // Starts the thread of one path.
@@ -89,13 +116,13 @@ fn start<R: Threads, W: Wait + Copy + Send + 'static>(
 }
 
 /// Joins the threads of the paths that have ended. The thread of another path goes on until its path or the program ends.
-pub fn join_ended<L: StationName, R: Threads + Wait>(
+pub fn join_ended<R: Threads + Wait>(
     rt: &R,
-    receivers: &Vec<Receiver<'_, R, L>>,
+    inputs: &Vec<Input<'_, R>>,
     threads: Vec<PathThread>,
 ) {
-    for (receiver, thread) in receivers.iter().zip(threads) {
-        if receiver.source.end().is_some() {
+    for (input, thread) in inputs.iter().zip(threads) {
+        if input.end().is_some() {
             let _ = thread.join(rt);
         }
     }

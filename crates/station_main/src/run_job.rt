@@ -1,33 +1,32 @@
 //! The job `run`: its rounds, one after another.
-ghost use Rattle.std.specs.Prelude.{◌≡◌, ◌+◌, ◌-◌, ◌≤◌, ◌⊎◌, IfErr, IfOk, is_some, length, None, option_map, reverse};
+ghost use Rattle.std.specs.Prelude.{◌≡◌, ◌-◌, ◌≤◌, All, IfErr, IfOk, is_some, length, map, option_map, reverse};
 ghost use Rattle.station_journal.specs.Resume.{IsSound};
-ghost use Rattle.station_desk.specs.History.{base_of};
 ghost use Rattle.station_main.specs.Limits.{program_limits};
 ghost use Rattle.station_main.specs.Output.{buffered_of};
-ghost use Rattle.station_main.specs.Rounds.{EndsRound, IsLast, Runs, RunsAsked, given_of, nothing};
-ghost use Rattle.station_main.specs.Run.{IsEarly};
+ghost use Rattle.station_main.specs.Reporter.{after_table};
+ghost use Rattle.station_main.specs.Rounds.{EndsRound, HasNoLines, IsUnread, Runs, RunsAsked, given_of, nothing};
+ghost use Rattle.station_main.specs.Run.{IsEarly, drawn_from};
 ghost use Rattle.station_main.specs.Telling.{told_of};
 
 use crate::faults::Fault;
 use crate::kept::Kept;
-use crate::limits::{AIRCRAFT, TABLE_ROOM};
+use crate::limits::TABLE_ROOM;
 use crate::output::{Ran, without_output};
-use crate::paths::{open_all, start_all};
+use crate::paths::{Opened, open_all, start_all};
 use crate::record_file::record_to;
 use crate::recorder::{Recorder, status_of};
-use crate::round::{Plan, Round, run_last, run_round};
+use crate::reporter::Duties;
+use crate::round::{Paths, Round, run_round};
 use crate::schedule::Pace;
+use crate::shift::Shift;
 use crate::standard_error::StandardError;
 use crate::threads::Output;
 use station_report::{Sink, ToWrite};
-use station_shared::Places;
 use std::alloc::Global;
 use std::fs::File;
 use std::io::{BufWriter, Write};
-use std::marker::Brand;
 use std::rt::Files;
 use std::sync::Wait;
-use std::sync::ledger::Blank;
 use std::thread::Threads;
 use std::time::{Clock, Instant};
 
@@ -42,6 +41,8 @@ pub struct Asked<'a> {
     pub record: &'a Option<String>,
     /// 1 to 8 files or pipes.
     pub paths: &'a Vec<String>,
+    /// How many entries of its journal make a station hand over to the next.
+    pub hand_over_at: u64,
 }
 
 /// Runs the rounds, and records what is printed if that is asked. Each round
@@ -72,7 +73,7 @@ pub fn run_paths<
     requires paths { length asked.paths.now.items ≤ 8 }
     ensures most { result.status ≤ 1 }
     ensures runs { RunsAsked (is_some asked.entry.record.now)
-        (record { pace = asked.entry.pace; inputs = length asked.entry.paths.now.items })
+        (record { pace = asked.entry.pace; inputs = length asked.entry.paths.now.items; hand_over_at = asked.entry.hand_over_at })
         (asked.entry.rounds - 1) (O.contents out) (option_map (λ left. O.contents left) result.out) (A.contents alarm)
         (told_of E.contents err.old) (told_of E.contents err.new) result.status }
 {
@@ -112,7 +113,7 @@ fn run_rounds<
     requires rounds { 1 ≤ asked.rounds }
     requires paths { length asked.paths.now.items ≤ 8 }
     ensures most { result.status ≤ 1 }
-    ensures runs { Runs (record { pace = asked.entry.pace; inputs = length asked.entry.paths.now.items })
+    ensures runs { Runs (record { pace = asked.entry.pace; inputs = length asked.entry.paths.now.items; hand_over_at = asked.entry.hand_over_at })
         (asked.entry.rounds - 1) nothing (O.contents out) (option_map (λ left. O.contents left) result.out)
         recorder.old recorder.new
         (told_of E.contents err.old) (told_of E.contents err.new) result.status }
@@ -122,7 +123,7 @@ fn run_rounds<
     let mut out = out;
     let mut more = asked.rounds - 1;
     while more > 0 {
-        match one_round(rt, own, alloc, asked, start, kept, out, recorder, err) {
+        match one_round(rt, own, alloc, asked, start, kept, out, false, recorder, err) {
             Round::Over(ran) => return ran,
             Round::GoesOn {
                 out: left,
@@ -134,10 +135,13 @@ fn run_rounds<
         }
         more -= 1;
     }
-    last_round(rt, own, alloc, asked, start, kept, out, recorder, err)
+    match one_round(rt, own, alloc, asked, start, kept, out, true, recorder, err) {
+        Round::Over(ran) => ran,
+        Round::GoesOn { .. } => unreachable!(),
+    }
 }
 
-// Runs a round that is not the last.
+// Runs one round.
 fn one_round<
     R: Threads + Wait + Clock + Files<File = File> + Sync,
     W: Wait + Copy + Send + 'static,
@@ -153,63 +157,24 @@ fn one_round<
     start: Option<Instant>,
     kept: Kept,
     out: O,
+    is_last: bool,
     recorder: &mut Option<Recorder<T, A>>,
     err: &mut StandardError<E>,
 ) -> Round<O>
     requires few { length asked.paths.now.items ≤ 8 }
     requires sound { IsSound program_limits kept.recent.base (reverse kept.recent.entries.items) }
-    ensures { EndsRound O.contents (record { pace = asked.entry.pace; inputs = length asked.entry.paths.now.items })
-        (given_of kept) (O.contents out)
+    ensures { EndsRound O.contents (record { pace = asked.entry.pace; inputs = length asked.entry.paths.now.items; hand_over_at = asked.entry.hand_over_at })
+        is_last (given_of kept) (O.contents out)
         recorder.old recorder.new
         (told_of E.contents err.old) (told_of E.contents err.new) result }
 {
-    match prepare(rt, own, alloc, asked, start, kept, out) {
-        Ok((plan, places)) => {
-            let blank = Blank::new(plan.inputs.len() as u64 + 1);
-            run_round::<Brand, _, _, _, _, _>(rt, alloc, plan, blank, places, recorder, err)
-        }
+    match prepare(rt, own, alloc, asked, kept, out) {
+        Ok((paths, shift)) => run_round(rt, alloc, start, paths, shift, is_last, recorder, err),
         Err(fault) => Round::Over(without_output(err, fault)),
     }
 }
 
-// Runs the last round.
-fn last_round<
-    R: Threads + Wait + Clock + Files<File = File> + Sync,
-    W: Wait + Copy + Send + 'static,
-    O: Write + Send + Drop,
-    T: Sink + Send + Drop,
-    A: Write + Send + Drop,
-    E: Write,
->(
-    rt: &R,
-    own: W,
-    alloc: Global,
-    asked: Asked<'_>,
-    start: Option<Instant>,
-    kept: Kept,
-    out: O,
-    recorder: &mut Option<Recorder<T, A>>,
-    err: &mut StandardError<E>,
-) -> Ran<O>
-    requires few { length asked.paths.now.items ≤ 8 }
-    requires sound { IsSound program_limits kept.recent.base (reverse kept.recent.entries.items) }
-    ensures most { result.status ≤ 1 }
-    ensures last { IsLast (record { pace = asked.entry.pace; inputs = length asked.entry.paths.now.items })
-        (given_of kept) (O.contents out) (option_map (λ left. O.contents left) result.out)
-        recorder.old recorder.new
-        (told_of E.contents err.old) (told_of E.contents err.new) result.status }
-{
-    match prepare(rt, own, alloc, asked, start, kept, out) {
-        Ok((plan, places)) => {
-            let blank = Blank::new(plan.inputs.len() as u64 + 1);
-            run_last::<Brand, _, _, _, _, _>(rt, alloc, plan, blank, places, recorder, err)
-        }
-        Err(fault) => without_output(err, fault),
-    }
-}
-
-// Makes what a round needs before its station: its inputs, a buffer for its output, and a place for the reporter, which
-// alone looks.
+// Makes what a round needs: its paths with their threads, and what its first station is begun with.
 fn prepare<
     'a,
     'p,
@@ -221,35 +186,38 @@ fn prepare<
     own: W,
     alloc: Global,
     asked: Asked<'p>,
-    start: Option<Instant>,
     kept: Kept,
     out: O,
-) -> Result<(Plan<'a, R, O>, Places<AIRCRAFT>), Fault<'p>>
+) -> Result<(Paths, Shift<'a, R, O>), Fault<'p>>
     requires { length asked.paths.now.items ≤ 8 }
     ensures early { IfErr result IsEarly }
-    ensures pace { IfOk result (λ made. made.0.pace ≡ asked.entry.pace) }
-    ensures kept { IfOk result (λ made. made.0.kept ≡ kept) }
-    ensures inputs { IfOk result (λ made. length made.0.inputs.items ≡ length asked.entry.paths.now.items) }
-    ensures out { IfOk result (λ made. buffered_of O.contents made.0.out
+    ensures pace { IfOk result (λ made. made.1.duties.pace ≡ asked.entry.pace) }
+    ensures due { IfOk result (λ made. made.1.duties.due ≡ after_table asked.entry.pace kept.last_tick) }
+    ensures limit { IfOk result (λ made. made.1.duties.hand_over_at ≡ asked.entry.hand_over_at) }
+    ensures kept { IfOk result (λ made. made.1.kept ≡ kept) }
+    ensures inputs { IfOk result (λ made. length made.1.inputs.items ≡ length asked.entry.paths.now.items) }
+    ensures unread { IfOk result (λ made. All IsUnread (map drawn_from made.1.inputs.items)) }
+    ensures answers { IfOk result (λ made. length made.1.answers.items ≡ length asked.entry.paths.now.items) }
+    ensures none { IfOk result (λ made. All HasNoLines made.1.answers.items) }
+    ensures out { IfOk result (λ made. buffered_of O.contents made.1.out
         ≡ record { taken = O.contents out; failures = 0 }) }
-    ensures places { IfOk result (λ made. made.1.places ≡ 1) }
-    ensures base { IfOk result (λ made. base_of made.1.history ≡ kept.recent.base) }
 {
     let files = open_all(rt, alloc, asked.paths)?;
     let Ok(buffered) = BufWriter::with_capacity(alloc, TABLE_ROOM, out) else {
         return Err(Fault::NoMemory);
     };
-    let (inputs, threads) = start_all(rt, own, alloc, files)?;
-    let Ok(places) = Places::new(rt, alloc, kept.recent.base, 1) else {
-        return Err(Fault::NoMemory);
-    };
-    let plan = Plan {
-        start,
-        pace: asked.pace,
-        kept,
+    let Opened {
+        paths,
         inputs,
-        threads,
+        answers,
+    } = start_all(rt, own, alloc, files)?;
+    let duties = Duties::first(asked.pace, kept.last_tick, asked.hand_over_at);
+    let shift = Shift {
+        kept,
+        duties,
+        inputs,
+        answers,
         out: ToWrite::new(buffered),
     };
-    Ok((plan, places))
+    Ok((paths, shift))
 }

@@ -1,4 +1,4 @@
-//! The threads of a round of the job `run`, and its last table.
+//! The threads of a station of the job `run`, and the last table.
 ghost use Rattle.std.specs.Prelude.{◌≡◌, All, IfSome, is_some, true};
 ghost use Rattle.station_main.specs.Output.{buffered_of, sink_of};
 ghost use Rattle.station_main.specs.Reporter.{ReportsByAClock};
@@ -8,14 +8,14 @@ use crate::bell::Bell;
 use crate::limits::{AIRCRAFT, TURNS};
 use crate::output::{Written, give_up, unbuffered};
 use crate::recorder::Recorder;
-use crate::reporter::{Given, Reported, print_and_record, report};
-use crate::schedule::Pace;
-use station_portions::Portions;
+use crate::reporter::{Duties, Given, Reported, print_and_record, report};
+use station_portions::{HandOver, Portions};
 use station_report::{Sink, ToWrite};
 use station_shared::{Seat, Station, StationName, Worker, run_receivers};
+use std::alloc::Global;
 use std::io::{BufWriter, Write};
 use std::snapshot::Snapshot;
-use std::sync::Wait;
+use std::sync::{Arc, Wait};
 use std::thread;
 use std::thread::Threads;
 use std::time::{Clock, Instant};
@@ -29,7 +29,8 @@ pub type Output<O> = ToWrite<BufWriter<O>>;
 /// A receiver: its seat, its input and, once it has ended, its answer.
 pub type Receiver<'a, R, L> = Worker<AIRCRAFT, Input<'a, R>, L>;
 
-type Ended<L, O, K> = Reported<Seat<AIRCRAFT, L>, Output<O>, K>;
+/// What the reporter of a station leaves.
+pub type Left<L, O, K> = Reported<Seat<AIRCRAFT, L>, Output<O>, K>;
 
 /// Runs the receivers and the reporter to their ends, each in a thread of its own. Answers `None` if the reporter's
 /// thread can't be started, and then nothing is read.
@@ -43,9 +44,9 @@ pub fn run_threads<
 >(
     rt: &R,
     station: &Station<AIRCRAFT, L>,
+    hand_overs: &Vec<Arc<HandOver, Global>>,
     start: Option<Instant>,
-    pace: Pace,
-    last: u64,
+    duties: Duties,
     receivers: Vec<Receiver<'a, R, L>>,
     seat: Seat<AIRCRAFT, L>,
     out: S,
@@ -59,7 +60,8 @@ pub fn run_threads<
     ensures answered { IfSome result (λ ended. All (λ r. is_some r.answer ≡ true) ended.0.items) }
     ensures receivers { IfSome result (λ ended. HaveWorked L.start (λ r. r.seat) (λ r. r.source) (λ r. r.answer)
         receivers.entry.items ended.0.items) }
-    ensures reporter { IfSome result (λ ended. ReportsByAClock L.start pace last seat ended.1.seat
+    ensures reporter { IfSome result (λ ended. ReportsByAClock L.start duties ended.1.due ended.1.asked_at
+        seat ended.1.seat
         (sink_of S.taken S.failures out) (sink_of S.taken S.failures ended.1.out)
         recorder ended.1.recorder
         ended.1.has_failed) }
@@ -78,21 +80,21 @@ pub fn run_threads<
             ensures answered { IfSome result (λ ended. All (λ r. is_some r.answer ≡ true) ended.0.items) }
             ensures receivers { IfSome result (λ ended. HaveWorked L.start (λ r. r.seat) (λ r. r.source) (λ r. r.answer)
                 receivers.entry.items ended.0.items) }
-            ensures reporter { IfSome result (λ ended. ReportsByAClock L.start pace last seat ended.1.seat
+            ensures reporter { IfSome result (λ ended. ReportsByAClock L.start duties ended.1.due ended.1.asked_at
+        seat ended.1.seat
                 (sink_of S.taken S.failures out) (sink_of S.taken S.failures ended.1.out)
                 recorder ended.1.recorder
                 ended.1.has_failed) }
         {
             let given = Given {
-                pace,
-                last,
+                duties,
                 seat: Snapshot::of(&seat),
                 out: Snapshot::of(&out),
                 recorder: Snapshot::of(&recorder),
             };
             match scope.spawn_with(
                 given,
-                move || report(rt, station, ended, start, pace, last, seat, out, recorder),
+                move || report(rt, station, ended, hand_overs, start, duties, seat, out, recorder),
             ) {
                 Ok(reporter) => {
                     let receivers = run_all(rt, station, receivers);
@@ -125,7 +127,7 @@ fn run_all<'a, L: StationName + Send + Sync, R: Threads + Wait + Sync>(
 pub fn print_last<L: StationName, R: Wait, O: Write + Drop, T: Sink + Drop, A: Write + Drop>(
     rt: &R,
     station: &Station<AIRCRAFT, L>,
-    reported: Ended<L, O, Option<Recorder<T, A>>>,
+    reported: Left<L, O, Option<Recorder<T, A>>>,
     recorder: &mut Option<Recorder<T, A>>,
 ) -> (Seat<AIRCRAFT, L>, Written<O>)
     ensures { PrintsLast L.start reported.seat result.0 (buffered_of O.contents reported.out) reported.has_failed
@@ -137,6 +139,8 @@ pub fn print_last<L: StationName, R: Wait, O: Write + Drop, T: Sink + Drop, A: W
         mut out,
         recorder: left,
         has_failed,
+        due: _,
+        asked_at: _,
     } = reported;
     *recorder = left;
     if has_failed {

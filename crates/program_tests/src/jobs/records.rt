@@ -36,7 +36,7 @@ fn record_path(alloc: Global, files: &TwoFiles, name: &str) -> Result<String, Al
 }
 
 // The bytes of a file, and what `replay` prints of them.
-fn shown_again<
+pub fn shown_again<
     R: Threads + Wait + Clock + Files<File = File> + Sync + AllocGlobal + Abort,
     W: Wait + Copy + Send + 'static,
 >(

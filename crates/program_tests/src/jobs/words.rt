@@ -206,8 +206,9 @@ const REPLAY_HELP_END: &str = concat!(
 );
 
 const RUN_HELP_END: &str = concat!(
-    "\nA round has room for 16777216 accepted frames and ticks. When it is full, all\n",
-    "that comes is refused, and 'now' stands still.\n",
+    "\nOnce there are 12582912 accepted frames and ticks, those that are more than\n",
+    "70 s old are forgotten. There is room for 16777216. When it is full, all that\n",
+    "comes is refused, and 'now' stands still.\n",
     "Formats: docs/FORMATS.md. Receivers that drop: docs/USING.md.\n",
 );
 

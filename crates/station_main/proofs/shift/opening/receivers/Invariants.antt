@@ -1,7 +1,7 @@
 use Rattle.std.proofs.Common.{◌≡◌, ◌++◌, length}
 use Rattle.std.specs.Prelude.{map}
 use Rattle.std.specs.Vec.Iter.{into_iter_items}
-use Rattle.station_main.proofs.round.opening.receivers.Given as goal
+use Rattle.station_main.proofs.shift.opening.receivers.Given as goal
 
 -- the seats and the inputs of the receivers so far, and what is left of both
 abbrev pub invariant-loop-seat : goal.invariant-loop-seat

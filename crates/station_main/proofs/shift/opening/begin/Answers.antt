@@ -2,7 +2,7 @@ use Rattle.std.proofs.Common.{◌≡◌, ◌+◌, ◌∙◌, ◌∷◌, [], ap, 
 use Rattle.station_main.specs.Limits.{program_limits}
 use Rattle.station_main.proofs.RoundLemmas.{receiver_seats, reporter_seat, wants_memory}
 use Rattle.station_main.proofs.RunJobLemmas.{length_newcomers}
-use Rattle.station_main.proofs.round.opening.begin.Goals as goal
+use Rattle.station_main.proofs.shift.opening.begin.Goals as goal
 
 pub unreachable-requires : goal.unreachable-requires
 unreachable-requires g c = wants_memory program_limits c.args.kept.recent.base c.args.kept.recent.entries.items c.in-Err.refused.fault c.requires.sound c.in-Err.ensures.refused.1 c.in_default.not-NoMemory

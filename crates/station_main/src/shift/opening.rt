@@ -1,4 +1,4 @@
-//! How a round begins: its station, a receiver for each path, and the reporter's seat.
+//! How a station begins: a receiver for each path, and the reporter's seat.
 ghost use Rattle.std.specs.Prelude.{◌≡◌, ◌+◌, ◌≤◌, IfOk, length, map, reverse};
 ghost use Rattle.station_journal.specs.Resume.{IsSound};
 ghost use Rattle.station_desk.specs.History.{base_of};

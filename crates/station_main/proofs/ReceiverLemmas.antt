@@ -1,0 +1,286 @@
+-- The receivers of a round: their answers, and the numbers of all seats.
+use Rattle.std.proofs.Common.{zero, suc, ◌≡◌, ◌∙◌, ℕ, ◌+◌, ◌<◌, ◌≤◌, ◌≢◌, Bool, true, false, cond, eqb, ◌⊎◌, inl, inr, ⊎_elim, List, [], ◌∷◌, ◌++◌, Option, Some, None, Result, is_some, length, length-append, map, get_or, refl, sym, ap, subst, arith, rules}
+use Rattle.std.specs.Prelude.{All, IfSome, count_by, unwrap_or}
+use Rattle.std.specs.List.{AllByRecursion}
+use Rattle.std.proofs.lemmas.Bool.Decides.{eqb_tells}
+use Rattle.std.proofs.lemmas.List.{get_or-append, get_or_at, get_or-map, length-map}
+use Rattle.std.proofs.lemmas.List.Sums.{sum_by-cons}
+use native.Mathlib.Decide.{Dec, dec_lt, no, yes}
+use Rattle.station_journal.specs.declared.entry.Entry.{Entry}
+use Rattle.station_desk.specs.Start.{Start}
+use Rattle.station_shared.specs.Closing.{Closes, EachOnce}
+use Rattle.station_shared.specs.Seats.{Seated, Looks, newcomer, newcomers}
+use Rattle.station_shared.specs.Workers.{Works}
+use Rattle.station_portions.specs.declared.portions.Portions.{Portions}
+use Rattle.station_lines.specs.Drawing.{Drawn}
+use Rattle.station_report.specs.declared.sinks.WriteFault.{WriteFault}
+use Rattle.station_lines.specs.declared.pumping.PumpFault.{PumpFault}
+use Rattle.station_lines.specs.declared.tally.Tally.{Tally}
+use Rattle.station_main.specs.Limits.{most_reads}
+use Rattle.station_main.specs.Output.{Printed}
+use Rattle.station_main.specs.Recorded.{PrintsAndRecords, Recording}
+use Rattle.station_main.specs.Reporter.{IsLater, MayHandOver, ReportsByAClock, Showing, Showings, Ticks, seat_after}
+use Rattle.station_main.specs.Rounds.{Begun, IsServedBy, Serves}
+use Rattle.station_main.specs.Run.{AreNumbered, Closing, HavePumped, HaveWorked, IsClosed, PrintsLast, drawn_from}
+use Rattle.station_main.specs.Sums.{AddsAll, AddsEach}
+use Rattle.station_main.specs.declared.reporter.Duties.{Duties}
+use Rattle.station_main.specs.declared.schedule.Due.{Due}
+use Rattle.station_main.proofs.RunJobLemmas.{length_newcomers}
+
+-- ---- elements of lists
+
+-- a default for the elements of a list that has some
+default_for : {X : Type 0} (xs : List X) (i : ℕ) → i < length xs → X
+default_for [] i inside = absurd (omega (arith, inside))
+default_for (x ∷ xs) i inside = x
+
+newcomer_by : (entries : List Entry) (n i : ℕ) (d : Seated) → i < n + 1 → Dec (i < n) → (i < n → get_or (newcomers entries n) i d ≡ newcomer entries i) → get_or (newcomers entries n ++ newcomer entries n ∷ []) i d ≡ newcomer entries i
+newcomer_by entries n i d inside (yes before) earlier = get_or-append (newcomers entries n) _ d i (omega (arith, before, length_newcomers entries n)) ∙ earlier before
+newcomer_by entries n i d inside (no past) earlier =
+    let last : n ≡ i = omega (arith, inside, past) in
+    get_or_at (newcomers entries n) (newcomer entries n) [] d i (length_newcomers entries n ∙ last) ∙ ap (newcomer entries) last
+
+newcomer_at : (entries : List Entry) (n i : ℕ) (d : Seated) → i < n → get_or (newcomers entries n) i d ≡ newcomer entries i
+newcomer_at entries zero i d inside = absurd (omega (arith, inside))
+newcomer_at entries (suc n) i d inside = newcomer_by entries n i d (omega (arith, inside)) (dec_lt i n) (newcomer_at entries n i d)
+
+-- ---- the answers of receivers
+
+answer_there : {T : Type 0} (o : Option T) → is_some o ≡ true → (x : T) × (o ≡ Some x)
+answer_there None e = absurd (search rules)
+answer_there (Some x) e = (x, refl)
+
+pub answers_of : {W T : Type 0} (answer : W → Option T) (ws : List W) → All (λ w. is_some (answer w) ≡ true) ws → (answers : List T) × (map answer ws ≡ map Some answers)
+answers_of answer [] all = ([], refl)
+answers_of answer (w ∷ ws) all =
+    let one = answer_there (answer w) (all zero w (omega arith)) in
+    let rest = answers_of answer ws (λ k d inside. all (suc k) d (omega (arith, inside))) in
+    (one.0 ∷ rest.0, cc (one.1, rest.1))
+
+some_same : {T : Type 0} (x y : T) → Some x ≡ Some y → x ≡ y
+some_same x y e = cc (e)
+
+module _ {W R : Type 0} (start : Start) (entries : List Entry) (seat : W → Seated) (source : W → Portions R) (answer : W → Option (Result Tally PumpFault)) where
+  one_receives : (inputs : List (Portions R)) (old new : List W) (answers : List (Result Tally PumpFault)) → map seat old ≡ newcomers entries (length inputs) → map source old ≡ inputs
+      → HaveWorked start seat source answer old new → map answer new ≡ map Some answers
+      → (i : ℕ) (b : Drawn) (s : Seated) (a : Result Tally PumpFault) → i < length inputs
+      → Works start (newcomer entries i) (get_or (map seat new) i s) (get_or (map drawn_from inputs) i b) (get_or (map drawn_from (map source new)) i b) most_reads (get_or answers i a)
+  one_receives inputs old new answers seats sources worked answered i b s a inside =
+      let many : length old ≡ length inputs = sym (length-map old source) ∙ ap length sources in
+      let in_old : i < length old = omega (arith, inside, many) in
+      let in_new : i < length new = omega (arith, in_old, worked.many) in
+      let size : length answers ≡ length new = sym (length-map answers Some) ∙ ap length (sym answered) ∙ length-map new answer in
+      let in_answers : i < length answers = omega (arith, in_new, size) in
+      let d = default_for old i in_old in
+      let was = get_or old i d in
+      let is = get_or new i d in
+      let work = worked.each i d in_old in
+      let in_sources : i < length (map source new) = omega (arith, in_new, length-map new source) in
+      let before_is : drawn_from (source was) ≡ get_or (map drawn_from inputs) i b =
+      ap drawn_from (sym (get_or-map source old i d (source d) in_old) ∙ ap (λ l. get_or l i (source d)) sources) ∙ sym (get_or-map drawn_from inputs i (source d) b inside) in
+      let after_is : drawn_from (source is) ≡ get_or (map drawn_from (map source new)) i b =
+      ap drawn_from (sym (get_or-map source new i d (source d) in_new)) ∙ sym (get_or-map drawn_from (map source new) i (source d) b in_sources) in
+      let old_is : seat was ≡ newcomer entries i = sym (get_or-map seat old i d (seat d) in_old) ∙ ap (λ l. get_or l i (seat d)) seats ∙ newcomer_at entries (length inputs) i (seat d) inside in
+      let new_is : get_or (map seat new) i s ≡ seat is = get_or-map seat new i d s in_new in
+      let answer_is : work.result ≡ get_or answers i a =
+      some_same _ _ (sym work.answered ∙ sym (get_or-map answer new i d (Some a) in_new) ∙ ap (λ l. get_or l i (Some a)) answered ∙ get_or-map Some answers i a (Some a) in_answers) in
+      subst (λ x. Works start (newcomer entries i) (get_or (map seat new) i s) x (get_or (map drawn_from (map source new)) i b) most_reads (get_or answers i a)) before_is
+      (subst (λ x. Works start (newcomer entries i) (get_or (map seat new) i s) (drawn_from (source was)) x most_reads (get_or answers i a)) after_is
+      (subst (λ x. Works start x (get_or (map seat new) i s) (drawn_from (source was)) (drawn_from (source is)) most_reads (get_or answers i a)) old_is
+      (subst (λ x. Works start (seat was) x (drawn_from (source was)) (drawn_from (source is)) most_reads (get_or answers i a)) (sym new_is)
+      (subst (λ x. Works start (seat was) (seat is) (drawn_from (source was)) (drawn_from (source is)) most_reads x) answer_is work.works))))
+
+  pub have_pumped : (inputs : List (Portions R)) (old new : List W) (answers : List (Result Tally PumpFault)) → map seat old ≡ newcomers entries (length inputs) → map source old ≡ inputs
+      → HaveWorked start seat source answer old new → map answer new ≡ map Some answers
+      → HavePumped start entries (map drawn_from inputs) (map drawn_from (map source new)) (map seat new) answers
+  have_pumped inputs old new answers seats sources worked answered =
+      let many : length old ≡ length inputs = sym (length-map old source) ∙ ap length sources in
+      let size : length answers ≡ length new = sym (length-map answers Some) ∙ ap length (sym answered) ∙ length-map new answer in
+      let inputs_size = length-map inputs drawn_from in
+      record {
+        many_sources = length-map (map source new) drawn_from ∙ length-map new source ∙ worked.many ∙ many ∙ sym inputs_size;
+        many_seats = length-map new seat ∙ worked.many ∙ many ∙ sym inputs_size;
+        many_answers = size ∙ worked.many ∙ many ∙ sym inputs_size;
+        each = λ i b s a inside. one_receives inputs old new answers seats sources worked answered i b s a (omega (arith, inside, inputs_size));
+      }
+
+  -- each receiver's seat keeps its number
+  pub seats_numbered : (inputs : List (Portions R)) (old new : List W) → map seat old ≡ newcomers entries (length inputs) → map source old ≡ inputs
+      → HaveWorked start seat source answer old new → (i : ℕ) (d : Seated) → i < length inputs → (get_or (map seat new) i d).number ≡ i
+  seats_numbered inputs old new seats sources worked i d inside =
+      let many : length old ≡ length inputs = sym (length-map old source) ∙ ap length sources in
+      let in_old : i < length old = omega (arith, inside, many) in
+      let in_new : i < length new = omega (arith, in_old, worked.many) in
+      let e = default_for old i in_old in
+      let work = worked.each i e in_old in
+      let old_is : seat (get_or old i e) ≡ newcomer entries i = sym (get_or-map seat old i e (seat e) in_old) ∙ ap (λ l. get_or l i (seat e)) seats ∙ newcomer_at entries (length inputs) i (seat e) inside in
+      ap (λ (s : Seated). s.number) (get_or-map seat new i e d in_new) ∙ work.works.fed.number ∙ ap (λ (s : Seated). s.number) old_is
+
+-- ---- what was counted before is added
+
+pub adds_each : (before since sums : List (Result Tally PumpFault)) → AddsAll before (map Some since) sums → AddsEach before since sums
+adds_each [] [] [] adds = tt
+adds_each [] [] (s ∷ sums) adds = absurd adds
+adds_each [] (x ∷ since) sums adds = absurd adds
+adds_each (b ∷ before) [] sums adds = absurd adds
+adds_each (b ∷ before) (x ∷ since) [] adds = absurd adds
+adds_each (b ∷ before) (x ∷ since) (s ∷ sums) adds = (adds.0, adds_each before since sums adds.1)
+
+pub adds_size : (before : List (Result Tally PumpFault)) (since : List (Option (Result Tally PumpFault))) (sums : List (Result Tally PumpFault)) → AddsAll before since sums → length sums ≡ length before
+adds_size [] [] [] adds = refl
+adds_size [] [] (s ∷ sums) adds = absurd adds
+adds_size [] (x ∷ since) sums adds = absurd adds
+adds_size (b ∷ before) [] sums adds = absurd adds
+adds_size (b ∷ before) (None ∷ since) sums adds = absurd adds
+adds_size (b ∷ before) (Some x ∷ since) [] adds = absurd adds
+adds_size (b ∷ before) (Some x ∷ since) (s ∷ sums) adds = omega (arith, adds_size before since sums adds.1)
+
+-- ---- the reporter's seat keeps its number
+
+ticks_number : (start : Start) (old new : Seated) (at : ℕ) → Ticks start old at new → new.number ≡ old.number
+ticks_number start old new at (inl accepted) = accepted.1.number
+ticks_number start old new at (inr refused) = refused.1.number
+
+look_number : (start : Start) (ticked : Seated) (look : Option Seated) → IfSome look (λ l. Looks start ticked l) → (unwrap_or look ticked).number ≡ ticked.number
+look_number start ticked None looks = refl
+look_number start ticked (Some l) looks = looks.number
+
+showings_number : (start : Start) (old new : Seated) (showings : List Showing) → Showings start old showings new → new.number ≡ old.number
+showings_number start old new [] walk = ap (λ (s : Seated). s.number) walk
+showings_number start old new (showing ∷ showings) walk =
+    showings_number start (seat_after showing) new showings walk.1
+    ∙ look_number start showing.ticked showing.look walk.0.looks
+    ∙ ticks_number start old showing.ticked showing.acting.at walk.0.ticks
+
+later_number : (start : Start) (old new : Seated) → IsLater start old new → new.number ≡ old.number
+later_number start old new (inl same) = ap (λ (s : Seated). s.number) same
+later_number start old new (inr looks) = looks.number
+
+hand_over_number : (start : Start) (duties : Duties) (asked_at : Option ℕ) (due next : Due) (old new : Seated) (has_failed : Bool) → MayHandOver start duties asked_at due next old new has_failed → new.number ≡ old.number
+hand_over_number start duties None due next old new has_failed is = ap (λ (s : Seated). s.number) is.0
+hand_over_number start duties (Some at) due next old new has_failed is = ticks_number start old new at is.ticks
+
+pub reporter_numbered : (start : Start) (duties : Duties) (next : Due) (asked_at : Option ℕ) (old new : Seated) (before after : Printed) (was is : Option Recording) (has_failed : Bool)
+    → ReportsByAClock start duties next asked_at old new before after was is has_failed → new.number ≡ old.number
+reporter_numbered start duties next asked_at old new before after was is has_failed by_clock =
+    hand_over_number start duties asked_at by_clock.due next by_clock.mid new has_failed by_clock.hands_over
+    ∙ later_number start by_clock.reports.shown by_clock.mid by_clock.reports.later
+    ∙ showings_number start old by_clock.reports.shown by_clock.reports.showings by_clock.reports.keeps.walk
+
+pub last_numbered : (start : Start) (old new : Seated) (before : Printed) (after : Option (List ℕ)) (was is : Option Recording) (failed_before has_failed : Bool)
+    → PrintsLast start old new before failed_before after was is has_failed → new.number ≡ old.number
+last_numbered start old new before after was is true has_failed prints = ap (λ (s : Seated). s.number) prints.0
+last_numbered start old new before after was is false has_failed prints = printed_number start old new before prints.sink was is prints.result prints.prints
+  where
+    printed_number : (start : Start) (old new : Seated) (before after : Printed) (was is : Option Recording) (result : Result (Unit {0}) WriteFault) → PrintsAndRecords start old new before after was is result → new.number ≡ old.number
+    printed_number start old new before after was is result (inl prints) = prints.0.looks.number
+    printed_number start old new before after was is result (inr passes) = ap (λ (s : Seated). s.number) passes.0.same_seat
+
+-- ---- seats whose numbers are their places
+
+abbrev times : ℕ → List Seated → ℕ
+times k seats = count_by (λ s. eqb k s.number) seats
+
+abbrev Numbered : ℕ → List Seated → Type 0
+Numbered from seats = (i : ℕ) (d : Seated) → i < length seats → (get_or seats i d).number ≡ from + i
+
+numbered_rest : (from : ℕ) (s : Seated) (seats : List Seated) → Numbered from (s ∷ seats) → Numbered (from + 1) seats
+numbered_rest from s seats numbered = λ i d inside. omega (arith, numbered (suc i) d (omega (arith, inside)))
+
+here : (k : ℕ) (s : Seated) (seats : List Seated) → k ≡ s.number → times k (s ∷ seats) ≡ times k seats + 1
+here k s seats same =
+    ⊎_elim
+    (λ (t : (eqb k s.number ≡ true) × (k ≡ s.number)). omega (arith, sum_by-cons (λ (u : Seated). cond (eqb k u.number) 1 0) s seats, ap {B = ℕ} (λ (b : Bool). cond b 1 0) t.0))
+    (λ (t : (eqb k s.number ≡ false) × (k ≢ s.number)). absurd (t.1 same))
+    (eqb_tells k s.number)
+
+elsewhere : (k : ℕ) (s : Seated) (seats : List Seated) → (k ≡ s.number → ⊥) → times k (s ∷ seats) ≡ times k seats
+elsewhere k s seats other =
+    ⊎_elim
+    (λ (t : (eqb k s.number ≡ true) × (k ≡ s.number)). absurd (other t.1))
+    (λ (t : (eqb k s.number ≡ false) × (k ≢ s.number)). omega (arith, sum_by-cons (λ (u : Seated). cond (eqb k u.number) 1 0) s seats, ap {B = ℕ} (λ (b : Bool). cond b 1 0) t.0))
+    (eqb_tells k s.number)
+
+none_outside : (from k : ℕ) (seats : List Seated) → Numbered from seats → (k < from) ⊎ (from + length seats ≤ k) → times k seats ≡ 0
+none_outside from k [] numbered outside = refl
+none_outside from k (s ∷ seats) numbered outside =
+    let first = numbered zero s (omega arith) in
+    elsewhere k s seats (λ same. out same first outside)
+    ∙ none_outside (from + 1) k seats (numbered_rest from s seats numbered) (beyond outside)
+  where
+    out : k ≡ s.number → s.number ≡ from + 0 → (k < from) ⊎ (from + length (s ∷ seats) ≤ k) → ⊥
+    out same first (inl below) = absurd (omega (arith, same, first, below))
+    out same first (inr above) = absurd (omega (arith, same, first, above))
+
+    beyond : (k < from) ⊎ (from + length (s ∷ seats) ≤ k) → (k < from + 1) ⊎ (from + 1 + length seats ≤ k)
+    beyond (inl below) = inl (omega (arith, below))
+    beyond (inr above) = inr (omega (arith, above))
+
+once_inside : (from k : ℕ) (seats : List Seated) → Numbered from seats → from ≤ k → k < from + length seats → times k seats ≡ 1
+once_inside from k [] numbered least most = absurd (omega (arith, least, most))
+once_inside from k (s ∷ seats) numbered least most = by (dec_lt from k)
+  where
+    first : s.number ≡ from + 0
+    first = numbered zero s (omega arith)
+
+    by : Dec (from < k) → times k (s ∷ seats) ≡ 1
+    by (yes later) =
+        elsewhere k s seats (λ same. absurd (omega (arith, same, first, later)))
+        ∙ once_inside (from + 1) k seats (numbered_rest from s seats numbered) (omega (arith, later)) (omega (arith, most))
+    by (no now) =
+        let same : k ≡ s.number = omega (arith, now, least, first) in
+        let rest = none_outside (from + 1) k seats (numbered_rest from s seats numbered) (inl (omega (arith, same, first))) in
+        omega (arith, here k s seats same, rest)
+
+all_below : (from n : ℕ) (seats : List Seated) → Numbered from seats → from + length seats ≤ n → AllByRecursion (λ (s : Seated). s.number < n) seats
+all_below from n [] numbered most = tt
+all_below from n (s ∷ seats) numbered most = (omega (arith, numbered zero s (omega arith), most), all_below (from + 1) n seats (numbered_rest from s seats numbered) (omega (arith, most)))
+
+-- the reporter's seat comes after those of the receivers
+pub each_once : (n : ℕ) (reporter : Seated) (seats : List Seated) → length seats + 1 ≡ n → reporter.number ≡ length seats → ((i : ℕ) (d : Seated) → i < length seats → (get_or seats i d).number ≡ i) → EachOnce n (reporter ∷ seats)
+each_once n reporter seats many last numbered = record {
+  as_many = omega (arith, many);
+  below = (omega (arith, many, last), all_below 0 n seats from_zero (omega (arith, many)));
+  once = λ k below. once k below (dec_lt k (length seats));
+}
+  where
+    from_zero : Numbered 0 seats
+    from_zero = λ i d inside. omega (arith, numbered i d inside)
+
+    once : (k : ℕ) → k < n → Dec (k < length seats) → times k (reporter ∷ seats) ≡ 1
+    once k below (yes among) =
+        elsewhere k reporter seats (λ same. absurd (omega (arith, same, last, among)))
+        ∙ once_inside 0 k seats from_zero (omega arith) (omega (arith, among))
+    once k below (no after) =
+        let same : k ≡ reporter.number = omega (arith, below, many, last, after) in
+        let rest = none_outside 0 k seats from_zero (inr (omega (arith, same, last))) in
+        omega (arith, here k reporter seats same, rest)
+
+pub all_once : (n : ℕ) (reporter : Seated) (receivers : List Seated) → AreNumbered n reporter receivers → EachOnce n (reporter ∷ receivers)
+all_once n reporter receivers is = each_once n reporter receivers is.many is.last is.each
+
+-- a station that is closed with such seats
+pub closed_by : (start : Start) (n : ℕ) (entries : List Entry) (seats : List Seated) (reporter : Seated) (receivers : List Seated) → AreNumbered n reporter receivers → seats ≡ reporter ∷ receivers → Closes start n entries seats
+    → IsClosed start (record { reporter = reporter; receivers = receivers; journal = entries })
+closed_by start n entries seats reporter receivers numbered same closes = record {
+  once = subst (λ (k : ℕ). EachOnce k (reporter ∷ receivers)) (sym numbered.many) (all_once n reporter receivers numbered);
+  closes = subst (λ (k : ℕ). Closes start k entries (reporter ∷ receivers)) (sym numbered.many) (subst (Closes start n entries) same closes);
+}
+
+-- what a station that is closed has served
+pub serves_by : (begun : Begun) (start : Start) (closing : Closing) (now sources : List Drawn) (options : List (Option (Result Tally PumpFault))) (answers : List (Result Tally PumpFault))
+    → IsServedBy begun start closing.receivers now options → sources ≡ now → AddsAll begun.answers options answers → IsClosed start closing → Serves begun start closing sources answers
+serves_by begun start closing now sources options answers served same adds closed = record {
+  goes_on = served.goes_on;
+  counted = served.counted;
+  pumped = subst (λ (ss : List Drawn). HavePumped start begun.given.entries begun.sources ss closing.receivers served.counted) (sym same) served.pumped;
+  sums = adds_each begun.answers served.counted answers (subst (λ (os : List (Option (Result Tally PumpFault))). AddsAll begun.answers os answers) served.answers_are adds);
+  closed = closed;
+}
+
+-- a reporter that has asked for a hand-over has not failed
+pub hand_over_reports : (start : Start) (duties : Duties) (next : Due) (asked_at : Option ℕ) (at : ℕ) (old new : Seated) (before after : Printed) (was is : Option Recording) (has_failed : Bool) → asked_at ≡ Some at
+    → ReportsByAClock start duties next asked_at old new before after was is has_failed → ReportsByAClock start duties next (Some at) old new before after was is false
+hand_over_reports start duties next asked_at at old new before after was is has_failed asked by_clock =
+    let with_time = subst (λ (o : Option ℕ). ReportsByAClock start duties next o old new before after was is has_failed) asked by_clock in
+    subst (λ (b : Bool). ReportsByAClock start duties next (Some at) old new before after was is b) with_time.hands_over.well with_time
