@@ -1,12 +1,10 @@
-/* waits.c - how long the threads of `groundstation run` sleep for its lock, for bench/late_tables.
+/* waits.c - how long the reporter of `groundstation run` sleeps for the lock of its station, for bench/late_tables.
  *
  *   cc -O2 -shared -fPIC -o waits.so waits.c -ldl
  *   WAITS_FILE=F LD_PRELOAD=./waits.so groundstation run ..
  *
- * F has room for 16 threads, a `struct waits` each. A thread's sleep on futexes is summed from one of its steps to the
- * next:
- * - a receiver's step is a read of its input, and a sum is how long the lines of one read waited for the lock;
- * - the reporter's step is a write or a pause, and a sum is how long a tick and the look after it waited.
+ * F has room for a `struct waits`. The reporter's sleep on futexes is summed from one of its steps to the next. A step is a
+ * write or a pause, so a sum is how long a tick and the look after it waited.
  */
 #define _GNU_SOURCE
 #include <dlfcn.h>
@@ -21,43 +19,28 @@
 #include <time.h>
 #include <unistd.h>
 
-enum { THREADS = 16, RECEIVER = 1, REPORTER = 2 };
-
 /* Times in nanoseconds. */
 struct waits {
-    int64_t kind, steps, waited, longest, all;
+    int64_t steps, waited, longest, all;
 };
 
-static struct waits *of_threads;
-static int threads;
-static __thread struct waits *mine;
+static struct waits *waits;
+static __thread int is_reporter;
 static __thread int64_t sum;
-static __thread int at_end;
 
 __attribute__((constructor)) static void begin(void)
 {
     const char *name = getenv("WAITS_FILE");
     int file = name ? open(name, O_RDWR) : -1;
     if (file < 0) return;
-    void *room = mmap(NULL, THREADS * sizeof *of_threads, PROT_READ | PROT_WRITE, MAP_SHARED, file, 0);
-    if (room != MAP_FAILED) of_threads = room;
+    void *room = mmap(NULL, sizeof *waits, PROT_READ | PROT_WRITE, MAP_SHARED, file, 0);
+    if (room != MAP_FAILED) waits = room;
     close(file);
 }
 
-static struct waits *of_this_thread(void)
+static void step(void)
 {
-    if (!mine && of_threads) {
-        int number = __atomic_fetch_add(&threads, 1, __ATOMIC_RELAXED);
-        if (number < THREADS) mine = of_threads + number;
-    }
-    return mine;
-}
-
-static void step(int kind)
-{
-    struct waits *waits = of_this_thread();
-    if (!waits) return;
-    waits->kind = kind;
+    if (!waits || !is_reporter) return;
     waits->steps++;
     waits->waited += sum > 0;
     waits->all += sum;
@@ -81,11 +64,12 @@ long syscall(long number, ...)
     va_start(list, number);
     for (int i = 0; i < 6; i++) a[i] = va_arg(list, long);
     va_end(list);
-    int is_sleep = number == SYS_futex && (a[1] & FUTEX_CMD_MASK) != FUTEX_WAKE && !at_end;
-    /* The reporter pauses for at most 50 ms at a time. A wait for the lock has no end time. */
+    int is_sleep = number == SYS_futex && (a[1] & FUTEX_CMD_MASK) != FUTEX_WAKE;
+    /* The reporter alone pauses, for at most 50 ms at a time. A wait for the lock has no end time. */
     const struct timespec *longest = (const struct timespec *)a[3];
     int is_pause = is_sleep && longest && longest->tv_sec == 0, is_wait = is_sleep && !is_pause;
-    if (is_pause) step(REPORTER);
+    is_reporter |= is_pause;
+    if (is_pause) step();
     int64_t begun = is_wait ? now() : 0;
     long answer = real(number, a[0], a[1], a[2], a[3], a[4], a[5]);
     int fault = errno;
@@ -94,20 +78,10 @@ long syscall(long number, ...)
     return answer;
 }
 
-ssize_t read(int file, void *bytes, size_t count)
-{
-    static ssize_t (*real)(int, void *, size_t);
-    if (!real) real = (ssize_t (*)(int, void *, size_t))dlsym(RTLD_NEXT, "read");
-    step(RECEIVER);
-    ssize_t answer = real(file, bytes, count);
-    at_end = answer <= 0;
-    return answer;
-}
-
 ssize_t write(int file, const void *bytes, size_t count)
 {
     static ssize_t (*real)(int, const void *, size_t);
     if (!real) real = (ssize_t (*)(int, const void *, size_t))dlsym(RTLD_NEXT, "write");
-    if (!at_end) step(REPORTER);
+    step();
     return real(file, bytes, count);
 }
