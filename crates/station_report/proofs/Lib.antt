@@ -1,4 +1,5 @@
 pub mod CommaLemmas
+pub mod CountLemmas
 pub mod DegreeLemmas
 pub mod LineLemmas
 pub mod MemberLemmas

@@ -4,10 +4,6 @@ use Rattle.std.proofs.Common.{◌≡◌, ℕ, List, ◌++◌, ap, ◌∙◌, app
 pub then_text : (before old new text : List ℕ) → new ≡ old ++ text → old ≡ before → new ≡ before ++ text
 then_text before old new text n o = n ∙ ap (λ l. l ++ text) o
 
--- a key and a value, after others
-pub then_member : (before old new key value text : List ℕ) → value ≡ text → new ≡ old ++ key ++ value → old ≡ before → new ≡ before ++ key ++ text
-then_member before old new key value text v n o = n ∙ ap (λ l. l ++ key ++ value) o ∙ ap (λ t. before ++ key ++ t) v
-
 joined : (a b c d e : List ℕ) → a ++ b ++ c ++ d ++ e ≡ a ++ (b ++ c ++ d ++ e)
 joined a b c d e = simp append_assoc
 

@@ -7,6 +7,7 @@ ghost use Rattle.modes_cpr.specs.Pair.{IsWhole};
 ghost use Rattle.station_report.specs.Text.{or_dash, hex_digit, address_text, callsign_text, squawk_text, velocity_text, latitude_text, longitude_text, degrees_text, degrees_sign, parts_text};
 
 use crate::decimals::{Field, push_five_digits, push_number, push_short, push_signed};
+use arrayvec::ArrayVec;
 use modes_cpr::{Degrees, Position};
 use modes_fields::{Callsign, Squawk, Velocity};
 
@@ -78,21 +79,23 @@ pub(crate) fn squawk_field(squawk: Option<Squawk>) -> Field
     let mut field = Field::new();
     match squawk {
         None => field.push(b'-'),
-        Some(squawk) => push_squawk(&mut field, squawk),
+        Some(squawk) => push_octal(&mut field, squawk),
     }
     field
 }
 
+/// Appends four octal digits.
 #[tactic(auto, unfolding(crate::specs::Text::squawk_text))]
-fn push_squawk(field: &mut Field, squawk: Squawk)
-    requires { array_vec_len field.old ≡ 0 }
-    ensures { field.new.items ≡ field.old.items ++ squawk_text squawk }
+pub(crate) fn push_octal<const CAP: usize>(to: &mut ArrayVec<u8, CAP>, squawk: Squawk)
+    requires { array_vec_len to.old + 4 ≤ CAP }
+    ensures items { to.new.items ≡ to.old.items ++ squawk_text squawk }
+    ensures len { array_vec_len to.new ≡ array_vec_len to.old + 4 }
 {
     let value = squawk.value();
-    field.push(b'0' + (value / 512 % 8) as u8);
-    field.push(b'0' + (value / 64 % 8) as u8);
-    field.push(b'0' + (value / 8 % 8) as u8);
-    field.push(b'0' + (value % 8) as u8);
+    to.push(b'0' + (value / 512 % 8) as u8);
+    to.push(b'0' + (value / 64 % 8) as u8);
+    to.push(b'0' + (value / 8 % 8) as u8);
+    to.push(b'0' + (value % 8) as u8);
 }
 
 /// A velocity in knots, or a dash.
@@ -159,36 +162,43 @@ pub(crate) fn longitude_field(position: Option<Position>) -> Field
     field
 }
 
-// Degrees, cut off after five decimals.
+/// Appends degrees, cut off after five decimals: at most 27 bytes.
 #[tactic(auto, unfolding(crate::specs::Text::degrees_text))]
-fn push_degrees(field: &mut Field, degrees: Degrees)
-    requires empty { array_vec_len field.old ≡ 0 }
+pub(crate) fn push_degrees<const CAP: usize>(to: &mut ArrayVec<u8, CAP>, degrees: Degrees)
+    requires room { array_vec_len to.old + 27 ≤ CAP }
     requires whole { 0 < degrees.den }
-    ensures { field.new.items ≡ field.old.items ++ degrees_text degrees }
+    ensures items { to.new.items ≡ to.old.items ++ degrees_text degrees }
+    ensures len { array_vec_len to.new ≤ array_vec_len to.old + 27 }
 {
     let magnitude = degrees.num.unsigned_abs();
     let den = u64::from(degrees.den);
     let part = magnitude % den * 100_000 / den;
-    push_parts(field, degrees.num.is_negative(), magnitude / den, part);
+    push_parts(to, degrees.num.is_negative(), magnitude / den, part);
 }
 
 // The sign, the whole degrees and the digits after the point.
-fn push_parts(field: &mut Field, is_negative: bool, whole: u64, part: u64)
-    requires { array_vec_len field.old ≡ 0 }
-    ensures { field.new.items ≡ field.old.items ++ parts_text is_negative whole part }
+fn push_parts<const CAP: usize>(
+    to: &mut ArrayVec<u8, CAP>,
+    is_negative: bool,
+    whole: u64,
+    part: u64,
+)
+    requires { array_vec_len to.old + 27 ≤ CAP }
+    ensures items { to.new.items ≡ to.old.items ++ parts_text is_negative whole part }
+    ensures len { array_vec_len to.new ≤ array_vec_len to.old + 27 }
 {
-    push_sign(field, is_negative, whole == 0 && part == 0);
-    push_number(field, whole);
-    field.push(b'.');
-    push_five_digits(field, part);
+    push_sign(to, is_negative, whole == 0 && part == 0);
+    push_number(to, whole);
+    to.push(b'.');
+    push_five_digits(to, part);
 }
 
-fn push_sign(field: &mut Field, is_negative: bool, is_zero: bool)
-    requires { array_vec_len field.old < 32 }
-    ensures items { field.new.items ≡ field.old.items ++ degrees_sign is_negative is_zero }
-    ensures len { array_vec_len field.new ≤ array_vec_len field.old + 1 }
+fn push_sign<const CAP: usize>(to: &mut ArrayVec<u8, CAP>, is_negative: bool, is_zero: bool)
+    requires { array_vec_len to.old < CAP }
+    ensures items { to.new.items ≡ to.old.items ++ degrees_sign is_negative is_zero }
+    ensures len { array_vec_len to.new ≤ array_vec_len to.old + 1 }
 {
     if is_negative && !is_zero {
-        field.push(b'-');
+        to.push(b'-');
     }
 }

@@ -1,4 +1,4 @@
-//! Numbers as text, in a field of fixed size.
+//! Numbers as text, appended to a text of fixed size.
 
 ghost use Rattle.std.specs.Prelude.{◌≡◌, ◌+◌, ◌≤◌, ◌++◌, length};
 ghost use Rattle.std.specs.Fmt.{decimal, signed_decimal};
@@ -11,23 +11,23 @@ use itoa::Buffer;
 /// The text of one field. The widest has 27 bytes.
 pub(crate) type Field = ArrayVec<u8, 32>;
 
-// Appends a text that the field has room for.
-fn push_text(field: &mut Field, text: &str)
-    requires { array_vec_len field.old + length text.now ≤ 32 }
-    ensures items { field.new.items ≡ field.old.items ++ text.now }
-    ensures len { array_vec_len field.new ≡ array_vec_len field.old + length text.now }
+/// Appends a text that there is room for.
+pub(crate) fn push_text<const CAP: usize>(to: &mut ArrayVec<u8, CAP>, text: &[u8])
+    requires { array_vec_len to.old + length text.now ≤ CAP }
+    ensures items { to.new.items ≡ to.old.items ++ text.now }
+    ensures len { array_vec_len to.new ≡ array_vec_len to.old + length text.now }
 {
-    let _room = field.try_extend_from_slice(text.as_bytes());
+    let _fits = to.try_extend_from_slice(text);
 }
 
 /// Appends a number in decimal: at most 20 digits.
-pub(crate) fn push_number(field: &mut Field, n: u64)
-    requires { array_vec_len field.old + 20 ≤ 32 }
-    ensures items { field.new.items ≡ field.old.items ++ decimal n }
-    ensures len { array_vec_len field.new ≤ array_vec_len field.old + 20 }
+pub(crate) fn push_number<const CAP: usize>(to: &mut ArrayVec<u8, CAP>, n: u64)
+    requires { array_vec_len to.old + 20 ≤ CAP }
+    ensures items { to.new.items ≡ to.old.items ++ decimal n }
+    ensures len { array_vec_len to.new ≤ array_vec_len to.old + 20 }
 {
     let mut buffer = Buffer::new();
-    push_text(field, buffer.format(n));
+    push_text(to, buffer.format(n).as_bytes());
 }
 
 /// Appends a number in decimal, with `-` before a negative one.
@@ -37,7 +37,7 @@ pub(crate) fn push_signed(field: &mut Field, n: i32)
     ensures len { array_vec_len field.new ≤ array_vec_len field.old + 11 }
 {
     let mut buffer = Buffer::new();
-    push_text(field, buffer.format(n));
+    push_text(field, buffer.format(n).as_bytes());
 }
 
 /// Appends a number in decimal: at most 5 digits.
@@ -47,18 +47,19 @@ pub(crate) fn push_short(field: &mut Field, n: u16)
     ensures len { array_vec_len field.new ≤ array_vec_len field.old + 5 }
 {
     let mut buffer = Buffer::new();
-    push_text(field, buffer.format(n));
+    push_text(field, buffer.format(n).as_bytes());
 }
 
 /// Appends the last five decimal digits of a number, zeros too.
 #[tactic(auto, unfolding(crate::specs::Text::five_digits))]
-pub(crate) fn push_five_digits(field: &mut Field, n: u64)
-    requires { array_vec_len field.old + 5 ≤ 32 }
-    ensures { field.new.items ≡ field.old.items ++ five_digits n }
+pub(crate) fn push_five_digits<const CAP: usize>(to: &mut ArrayVec<u8, CAP>, n: u64)
+    requires { array_vec_len to.old + 5 ≤ CAP }
+    ensures items { to.new.items ≡ to.old.items ++ five_digits n }
+    ensures len { array_vec_len to.new ≡ array_vec_len to.old + 5 }
 {
-    field.push(b'0' + (n / 10000 % 10) as u8);
-    field.push(b'0' + (n / 1000 % 10) as u8);
-    field.push(b'0' + (n / 100 % 10) as u8);
-    field.push(b'0' + (n / 10 % 10) as u8);
-    field.push(b'0' + (n % 10) as u8);
+    to.push(b'0' + (n / 10000 % 10) as u8);
+    to.push(b'0' + (n / 1000 % 10) as u8);
+    to.push(b'0' + (n / 100 % 10) as u8);
+    to.push(b'0' + (n / 10 % 10) as u8);
+    to.push(b'0' + (n % 10) as u8);
 }

@@ -8,13 +8,12 @@ ghost use Rattle.station_report.specs.Json.{object, head, json};
 mod members;
 mod numbers;
 
-use crate::columns::decimal_field;
+use crate::decimals::{push_number, push_text};
 use crate::sinks::{Sink, WriteFault, write_all};
 use members::{
-    Object, push_altitude, push_flight, push_member, push_place, push_rate, push_squawk, push_text,
-    push_velocity,
+    Object, push_altitude, push_flight, push_place, push_rate, push_squawk, push_velocity,
 };
-use numbers::{low_address_field, seconds_field};
+use numbers::{push_low_address, push_seconds, push_sum};
 use station_journal::{Aircraft, PlacedRows};
 
 /// Writes the table of `rows` as a line of JSON, with the keys of aircraft.json of readsb and dump1090.
@@ -48,9 +47,10 @@ fn head(origin: u64, now: u64, entries: u64) -> Object
     ensures { result.items ≡ head origin now entries }
 {
     let mut text = Object::new();
-    let moment = u128::from(origin) + u128::from(now);
-    push_member(&mut text, b"{\"now\":", &seconds_field(moment));
-    push_member(&mut text, b",\"messages\":", &decimal_field(entries));
+    push_text(&mut text, b"{\"now\":");
+    push_sum(&mut text, origin, now);
+    push_text(&mut text, b",\"messages\":");
+    push_number(&mut text, entries);
     push_text(&mut text, b",\"aircraft\":[");
     text
 }
@@ -63,11 +63,8 @@ fn item(is_first: bool, now: u64, aircraft: Aircraft, placed: Option<u64>) -> Ob
 {
     let mut item = Object::new();
     push_text(&mut item, if is_first { b"" } else { b"," });
-    push_member(
-        &mut item,
-        b"{\"hex\":\"",
-        &low_address_field(aircraft.address),
-    );
+    push_text(&mut item, b"{\"hex\":\"");
+    push_low_address(&mut item, aircraft.address);
     push_text(&mut item, b"\"");
     push_flight(&mut item, aircraft.callsign);
     push_altitude(&mut item, aircraft.altitude);
@@ -75,11 +72,8 @@ fn item(is_first: bool, now: u64, aircraft: Aircraft, placed: Option<u64>) -> Ob
     push_rate(&mut item, aircraft.vertical);
     push_squawk(&mut item, aircraft.squawk);
     push_place(&mut item, now, placed, aircraft.position);
-    push_member(
-        &mut item,
-        b",\"seen\":",
-        &seconds_field(u128::from(now - aircraft.heard)),
-    );
+    push_text(&mut item, b",\"seen\":");
+    push_seconds(&mut item, now - aircraft.heard);
     push_text(&mut item, b"}");
     item
 }

@@ -1,7 +1,8 @@
 //! Speed and track of a velocity over ground, as whole numbers.
 
 ghost use Rattle.std.specs.Prelude.{◌≡◌, ◌+◌, ◌*◌, ◌^◌, ◌≤◌, unsigned_abs, nat_lt, count_by, length};
-ghost use Rattle.station_report.specs.Motion.{square, speed_tenths, nearest_degree, degrees_off, turned, track};
+ghost use Rattle.std.specs.List.Sorted.{IsNonDecreasing};
+ghost use Rattle.station_report.specs.Motion.{root, square, speed_tenths, nearest_degree, degrees_off, turned, track};
 
 // The tangents of 1/2, 3/2, .., 89/2 degrees, in 1/1,000,000,000 and rounded down.
 const TANGENTS: [u32; 45] = [
@@ -17,7 +18,17 @@ const TANGENTS: [u32; 45] = [
 pub fn speed_tenths(east: i16, north: i16) -> u32
     ensures { result ≡ speed_tenths east north }
 {
-    (100 * (square(east) + square(north))).isqrt() as u32
+    root(100 * (square(east) + square(north)))
+}
+
+// The whole part of the square root. The root of 32 bits takes half as many steps as that of 64.
+fn root(n: u64) -> u32
+    ensures { result ≡ root n }
+{
+    match u32::try_from(n) {
+        Ok(n) => n.isqrt(),
+        Err(_) => n.isqrt() as u32,
+    }
 }
 
 fn square(knots: i16) -> u64
@@ -74,12 +85,12 @@ fn nearest_degree(a: u16, b: u16) -> u16
     count_below(&TANGENTS, a, b) as u16
 }
 
-// The number of entries t of `table` with t * b < 1,000,000,000 * a.
+// The number of entries t of `table` with t * b < 1,000,000,000 * a, where the table rises.
 fn count_below(table: &[u32], a: u16, b: u16) -> usize
+    requires { IsNonDecreasing table.now }
     ensures value { result ≡ count_by (λ t. nat_lt (t * b) (1000000000 * a)) table.now }
     ensures bound { result ≤ length table.now }
 {
     let scaled = 1_000_000_000 * a as u64;
-    let below = table.iter().filter(|t| (**t as u64 * b as u64) < scaled);
-    below.count()
+    table.partition_point(|t| (*t as u64 * b as u64) < scaled)
 }

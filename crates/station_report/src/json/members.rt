@@ -6,37 +6,17 @@ ghost use Rattle.arrayvec.specs.ArrayVec.{array_vec_len};
 ghost use Rattle.modes_cpr.specs.Pair.{IsWhole};
 ghost use Rattle.station_report.specs.Json.{if_known, flight, altitude, track_member, ground, airspeed_key, air, moving, rate, squawk, seen_pos, place};
 
-use crate::columns::{
-    callsign_field, decimal_field, latitude_field, longitude_field, signed_field, squawk_field,
-};
-use crate::decimals::Field;
-use crate::json::numbers::{seconds_field, tenths_field};
+use crate::columns::{push_degrees, push_octal};
+use crate::decimals::{push_number, push_text};
+use crate::json::numbers::{push_seconds, push_tenths};
 use crate::motion::{speed_tenths, track};
 use arrayvec::ArrayVec;
+use itoa::Buffer;
 use modes_cpr::Position;
 use modes_fields::{Callsign, Squawk, Velocity};
 
 /// The text of an aircraft.
 pub(crate) type Object = ArrayVec<u8, 640>;
-
-/// Appends a text that the object has room for.
-pub(crate) fn push_text(object: &mut Object, text: &[u8])
-    requires { array_vec_len object.old + length text.now ≤ 640 }
-    ensures items { object.new.items ≡ object.old.items ++ text.now }
-    ensures len { array_vec_len object.new ≡ array_vec_len object.old + length text.now }
-{
-    let _fits = object.try_extend_from_slice(text);
-}
-
-/// Appends a key, with what is before and after it, and a value.
-pub(crate) fn push_member(object: &mut Object, key: &[u8], value: &Field)
-    requires { array_vec_len object.old + length key.now + 32 ≤ 640 }
-    ensures items { object.new.items ≡ object.old.items ++ key.now ++ value.now.items }
-    ensures len { array_vec_len object.new ≤ array_vec_len object.old + length key.now + 32 }
-{
-    push_text(object, key);
-    push_text(object, value.as_slice());
-}
 
 /// Appends `flight`.
 #[tactic(auto, unfolding(crate::specs::Json::flight))]
@@ -45,8 +25,9 @@ pub(crate) fn push_flight(object: &mut Object, callsign: Option<Callsign>)
     ensures items { object.new.items ≡ object.old.items ++ if_known flight callsign }
     ensures len { array_vec_len object.new ≤ array_vec_len object.old + 48 }
 {
-    if callsign.is_some() {
-        push_member(object, b",\"flight\":\"", &callsign_field(callsign));
+    if let Some(callsign) = callsign {
+        push_text(object, b",\"flight\":\"");
+        push_text(object, callsign.bytes());
         push_text(object, b"\"");
     }
 }
@@ -69,9 +50,12 @@ fn push_twice(object: &mut Object, key: &[u8], other: &[u8], n: i32)
     ensures items { object.new.items ≡ object.old.items ++ (key.now ++ signed_decimal n ++ other.now ++ signed_decimal n) }
     ensures len { array_vec_len object.new ≤ array_vec_len object.old + length key.now + length other.now + 64 }
 {
-    let number = signed_field(Some(n));
-    push_member(object, key, &number);
-    push_member(object, other, &number);
+    let mut buffer = Buffer::new();
+    let number = buffer.format(n).as_bytes();
+    push_text(object, key);
+    push_text(object, number);
+    push_text(object, other);
+    push_text(object, number);
 }
 
 /// Appends `gs`, `speed` and `track`, or `mag_heading` and an airspeed.
@@ -100,12 +84,10 @@ fn push_ground(object: &mut Object, east: i16, north: i16)
     ensures len { array_vec_len object.new ≤ array_vec_len object.old + 128 }
 {
     let speed = speed_tenths(east, north);
-    push_member(object, b",\"gs\":", &tenths_field(speed));
-    push_member(
-        object,
-        b",\"speed\":",
-        &decimal_field(u64::from(speed / 10)),
-    );
+    push_text(object, b",\"gs\":");
+    push_tenths(object, speed);
+    push_text(object, b",\"speed\":");
+    push_number(object, u64::from(speed / 10));
     push_track(object, track(east, north));
 }
 
@@ -116,7 +98,8 @@ fn push_track(object: &mut Object, degrees: Option<u16>)
     ensures len { array_vec_len object.new ≤ array_vec_len object.old + 48 }
 {
     if let Some(degrees) = degrees {
-        push_member(object, b",\"track\":", &decimal_field(u64::from(degrees)));
+        push_text(object, b",\"track\":");
+        push_number(object, u64::from(degrees));
     }
 }
 
@@ -128,12 +111,10 @@ fn push_air(object: &mut Object, heading: u16, is_true: bool, speed: u16)
     ensures len { array_vec_len object.new ≤ array_vec_len object.old + 128 }
 {
     let tenths = u32::from(heading) * 3600 / 1024;
-    push_member(object, b",\"mag_heading\":", &tenths_field(tenths));
-    push_member(
-        object,
-        airspeed_key(is_true),
-        &decimal_field(u64::from(speed)),
-    );
+    push_text(object, b",\"mag_heading\":");
+    push_tenths(object, tenths);
+    push_text(object, airspeed_key(is_true));
+    push_number(object, u64::from(speed));
 }
 
 fn airspeed_key(is_true: bool) -> &'static [u8]
@@ -162,8 +143,9 @@ pub(crate) fn push_squawk(object: &mut Object, code: Option<Squawk>)
     ensures items { object.new.items ≡ object.old.items ++ if_known squawk code }
     ensures len { array_vec_len object.new ≤ array_vec_len object.old + 48 }
 {
-    if code.is_some() {
-        push_member(object, b",\"squawk\":\"", &squawk_field(code));
+    if let Some(code) = code {
+        push_text(object, b",\"squawk\":\"");
+        push_octal(object, code);
         push_text(object, b"\"");
     }
 }
@@ -181,9 +163,11 @@ pub(crate) fn push_place(
     ensures items { object.new.items ≡ object.old.items ++ if_known (place now placed) position }
     ensures len { array_vec_len object.new ≤ array_vec_len object.old + 128 }
 {
-    if position.is_some() {
-        push_member(object, b",\"lat\":", &latitude_field(position));
-        push_member(object, b",\"lon\":", &longitude_field(position));
+    if let Some(position) = position {
+        push_text(object, b",\"lat\":");
+        push_degrees(object, position.lat);
+        push_text(object, b",\"lon\":");
+        push_degrees(object, position.lon);
         push_seen_pos(object, now, placed);
     }
 }
@@ -195,10 +179,7 @@ fn push_seen_pos(object: &mut Object, now: u64, placed: Option<u64>)
     ensures len { array_vec_len object.new ≤ array_vec_len object.old + 48 }
 {
     if let Some(at) = placed {
-        push_member(
-            object,
-            b",\"seen_pos\":",
-            &seconds_field(u128::from(now.saturating_sub(at))),
-        );
+        push_text(object, b",\"seen_pos\":");
+        push_seconds(object, now.saturating_sub(at));
     }
 }

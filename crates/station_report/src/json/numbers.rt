@@ -1,45 +1,71 @@
 //! Numbers of JSON, and lower-case hexadecimal digits.
 
-ghost use Rattle.std.specs.Prelude.{◌≡◌, ◌+◌, ◌^◌, ◌<◌, ◌≤◌, ◌++◌};
+ghost use Rattle.std.specs.Prelude.{◌≡◌, ◌+◌, ◌<◌, ◌≤◌, ◌++◌, codes};
+ghost use Rattle.std.specs.Fmt.{decimal};
 ghost use Rattle.arrayvec.specs.ArrayVec.{array_vec_len};
 ghost use Rattle.station_report.specs.Json.{three_digits, seconds, tenths, low_hex_digit, low_address};
 
-use crate::decimals::{Field, push_number};
+use crate::decimals::push_number;
+use arrayvec::ArrayVec;
 
 // Appends the last three decimal digits of a number, zeros too.
 #[tactic(auto, unfolding(crate::specs::Json::three_digits))]
-fn push_three_digits(field: &mut Field, n: u128)
-    requires { array_vec_len field.old + 3 ≤ 32 }
-    ensures { field.new.items ≡ field.old.items ++ three_digits n }
+fn push_three_digits<const CAP: usize>(to: &mut ArrayVec<u8, CAP>, n: u16)
+    requires { array_vec_len to.old + 3 ≤ CAP }
+    ensures items { to.new.items ≡ to.old.items ++ three_digits n }
+    ensures len { array_vec_len to.new ≡ array_vec_len to.old + 3 }
 {
-    field.push(b'0' + (n / 100 % 10) as u8);
-    field.push(b'0' + (n / 10 % 10) as u8);
-    field.push(b'0' + (n % 10) as u8);
+    to.push(b'0' + (n / 100 % 10) as u8);
+    to.push(b'0' + (n / 10 % 10) as u8);
+    to.push(b'0' + (n % 10) as u8);
 }
 
-/// Milliseconds as seconds with three decimals.
-#[tactic(auto, unfolding(crate::specs::Json::seconds))]
-pub(crate) fn seconds_field(milliseconds: u128) -> Field
-    requires { milliseconds < 2 ^ 65 }
-    ensures { result.items ≡ seconds milliseconds }
+// Appends whole seconds, and thousandths of a second as three decimals.
+fn push_thousandths<const CAP: usize>(to: &mut ArrayVec<u8, CAP>, seconds: u64, thousandths: u16)
+    requires { array_vec_len to.old + 24 ≤ CAP }
+    ensures items { to.new.items ≡ to.old.items ++ (decimal seconds ++ codes "." ++ three_digits thousandths) }
+    ensures len { array_vec_len to.new ≤ array_vec_len to.old + 24 }
 {
-    let mut field = Field::new();
-    push_number(&mut field, (milliseconds / 1000) as u64);
-    field.push(b'.');
-    push_three_digits(&mut field, milliseconds);
-    field
+    push_number(to, seconds);
+    to.push(b'.');
+    push_three_digits(to, thousandths);
 }
 
-/// Tenths as a number with one decimal.
+/// Appends milliseconds as seconds with three decimals.
+#[tactic(auto, unfolding(crate::specs::Json::seconds, crate::specs::Json::three_digits))]
+pub(crate) fn push_seconds<const CAP: usize>(to: &mut ArrayVec<u8, CAP>, milliseconds: u64)
+    requires { array_vec_len to.old + 24 ≤ CAP }
+    ensures items { to.new.items ≡ to.old.items ++ seconds milliseconds }
+    ensures len { array_vec_len to.new ≤ array_vec_len to.old + 24 }
+{
+    push_thousandths(to, milliseconds / 1000, (milliseconds % 1000) as u16);
+}
+
+/// Appends the sum of two times in milliseconds as seconds with three decimals.
+#[tactic(auto, unfolding(crate::specs::Json::seconds, crate::specs::Json::three_digits))]
+pub(crate) fn push_sum<const CAP: usize>(to: &mut ArrayVec<u8, CAP>, origin: u64, now: u64)
+    requires { array_vec_len to.old + 24 ≤ CAP }
+    ensures items { to.new.items ≡ to.old.items ++ seconds (origin + now) }
+    ensures len { array_vec_len to.new ≤ array_vec_len to.old + 24 }
+{
+    let milliseconds = u128::from(origin) + u128::from(now);
+    push_thousandths(
+        to,
+        (milliseconds / 1000) as u64,
+        (milliseconds % 1000) as u16,
+    );
+}
+
+/// Appends tenths as a number with one decimal.
 #[tactic(auto, unfolding(crate::specs::Json::tenths))]
-pub(crate) fn tenths_field(n: u32) -> Field
-    ensures { result.items ≡ tenths n }
+pub(crate) fn push_tenths<const CAP: usize>(to: &mut ArrayVec<u8, CAP>, n: u32)
+    requires { array_vec_len to.old + 22 ≤ CAP }
+    ensures items { to.new.items ≡ to.old.items ++ tenths n }
+    ensures len { array_vec_len to.new ≤ array_vec_len to.old + 22 }
 {
-    let mut field = Field::new();
-    push_number(&mut field, (n / 10) as u64);
-    field.push(b'.');
-    field.push(b'0' + (n % 10) as u8);
-    field
+    push_number(to, u64::from(n / 10));
+    to.push(b'.');
+    to.push(b'0' + (n % 10) as u8);
 }
 
 fn low_hex_digit(d: u32) -> u8
@@ -53,17 +79,17 @@ fn low_hex_digit(d: u32) -> u8
     }
 }
 
-/// Six hexadecimal digits in lower case.
+/// Appends six hexadecimal digits in lower case.
 #[tactic(auto, unfolding(crate::specs::Json::low_address))]
-pub(crate) fn low_address_field(address: u32) -> Field
-    ensures { result.items ≡ low_address address }
+pub(crate) fn push_low_address<const CAP: usize>(to: &mut ArrayVec<u8, CAP>, address: u32)
+    requires { array_vec_len to.old + 6 ≤ CAP }
+    ensures items { to.new.items ≡ to.old.items ++ low_address address }
+    ensures len { array_vec_len to.new ≡ array_vec_len to.old + 6 }
 {
-    let mut field = Field::new();
-    field.push(low_hex_digit(address / 1048576 % 16));
-    field.push(low_hex_digit(address / 65536 % 16));
-    field.push(low_hex_digit(address / 4096 % 16));
-    field.push(low_hex_digit(address / 256 % 16));
-    field.push(low_hex_digit(address / 16 % 16));
-    field.push(low_hex_digit(address % 16));
-    field
+    to.push(low_hex_digit(address / 1048576 % 16));
+    to.push(low_hex_digit(address / 65536 % 16));
+    to.push(low_hex_digit(address / 4096 % 16));
+    to.push(low_hex_digit(address / 256 % 16));
+    to.push(low_hex_digit(address / 16 % 16));
+    to.push(low_hex_digit(address % 16));
 }

@@ -113,6 +113,18 @@ fn a_moment_more_than_70_seconds_is_left_behind(rt: HostRuntime) -> Result<(), F
     Ok(())
 }
 
+// A tick at each millisecond.
+#[test]
+fn twenty_thousand_recent_entries_are_kept(rt: HostRuntime) -> Result<(), Fail> {
+    let mut journal = Journal::new(rt.alloc(), MANY);
+    for at in 1..=20_000 {
+        assert!(rt; journal.tick(0, at).is_ok());
+    }
+    let kept = journal.recent(rt.alloc())?;
+    assert_eq!(rt; (kept.base, kept.entries.len()), (0, 20_000));
+    Ok(())
+}
+
 #[test]
 fn an_overlaid_frame_goes_on_alone(rt: HostRuntime) -> Result<(), Fail> {
     let given = Recent {
