@@ -1,7 +1,7 @@
 //! Sources that are taken in portions.
 
 use station_lines::Source;
-use station_portions::{PathEnd, connect};
+use station_portions::{PathEnd, Reopen, connect};
 use station_report::Failed;
 use std::alloc::Global;
 use std::io::{self, ErrorKind, Read};
@@ -9,7 +9,7 @@ use std::sync::atomic::{AtomicBool, Ordering};
 use std::sync::{Arc, Wait};
 use std::test::Fail;
 use std::thread;
-use std::time::Duration;
+use std::time::{Clock, Duration};
 
 // A path that gives one part a read. Before the part `pause` it is silent until it is released.
 #[derive(Drop)]
@@ -161,5 +161,114 @@ fn a_long_line_is_cut_short_and_a_begun_one_dropped_at_a_failed_read(
     let mut path = handle.join(&rt);
     assert!(rt; path.end == PathEnd::ReadFailed && path.from.is_over);
     assert!(rt; portions.gave_all(&mut path));
+    Ok(())
+}
+
+// A path that gives these bytes and ends, or fails after them.
+#[derive(Drop)]
+struct Opening {
+    bytes: &'static [u8],
+    fails: bool,
+}
+
+impl Read for Opening {
+    fn read(&mut self, buffer: &mut [u8]) -> io::Result<usize> {
+        if self.bytes.is_empty() && self.fails {
+            return Err(io::Error::from(ErrorKind::Other));
+        }
+        let count = self.bytes.len().min(buffer.len());
+        let (now, later) = self.bytes.split_at(count);
+        buffer[..count].copy_from_slice(now);
+        self.bytes = later;
+        Ok(count)
+    }
+}
+
+// Further openings of a path, and how those before them have to end. After the last it stays closed.
+#[derive(Drop)]
+struct Openings<W> {
+    rt: W,
+    ends: &'static [PathEnd],
+    next: usize,
+}
+
+impl<W: Wait + Clock> Reopen<Opening> for Openings<W> {
+    fn reopen(&mut self, end: PathEnd) -> Opening {
+        let ends = self.ends;
+        for _ in self.rt.forever() {
+            if self.next < ends.len() && ends[self.next] == end {
+                break;
+            }
+            thread::sleep(&self.rt, Duration::from_secs(1));
+        }
+        self.next = self.next.saturating_add(1);
+        Opening {
+            bytes: b"*four;\n",
+            fails: true,
+        }
+    }
+}
+
+#[test]
+fn a_path_is_read_again_each_time_that_it_ends(rt: HostRuntime) -> Result<(), Fail> {
+    let alloc = rt.alloc();
+    let (reader, mut portions, hand_over) = connect(&rt, alloc)?;
+    let first = Opening {
+        bytes: b"*one;\n*two;",
+        fails: false,
+    };
+    let openings = Openings {
+        rt,
+        ends: &[PathEnd::AtEnd, PathEnd::ReadFailed],
+        next: 0,
+    };
+    let _thread = reader.start_again(&rt, rt, first, openings)?;
+    let mut bytes = Vec::new(alloc);
+    let mut buffer = [0u8; 7];
+    for _ in 0..100 {
+        let count = portions.read(&mut buffer).unwrap_or(0);
+        bytes.extend_from_slice(&buffer[..count])?;
+        if bytes.len() >= 26 {
+            break;
+        }
+    }
+    assert_eq!(rt;
+        bytes.as_slice(),
+        b"*one;\n*two;\n*four;\n*four;\n".as_slice()
+    );
+    assert!(rt; portions.end().is_none());
+    hand_over.request();
+    assert!(rt; portions.read(&mut buffer) == Ok(0));
+    Ok(())
+}
+
+// A path that gives its line this many times, one a read.
+#[derive(Drop)]
+struct Repeated {
+    times: u32,
+}
+
+impl Read for Repeated {
+    fn read(&mut self, buffer: &mut [u8]) -> io::Result<usize> {
+        if self.times == 0 {
+            return Ok(0);
+        }
+        self.times -= 1;
+        let mut line: &[u8] = b"*line;\n";
+        line.read(buffer)
+    }
+}
+
+// The source is read once for each line, and once more.
+#[test]
+fn a_path_of_many_lines_is_given_to_its_end(rt: HostRuntime) -> Result<(), Fail> {
+    let alloc = rt.alloc();
+    let (reader, mut portions, _) = connect(&rt, alloc)?;
+    let handle = reader.start(&rt, rt, Repeated { times: 10_000 })?;
+    let mut bytes = Vec::new(alloc);
+    read_portion(&mut portions, &mut bytes)?;
+    assert_eq!(rt; bytes.len(), 70_000);
+    assert!(rt; portions.end() == Some(PathEnd::AtEnd));
+    handle.join(&rt);
     Ok(())
 }

@@ -1,6 +1,9 @@
 //! The program over words and streams of these tests.
 mod displays;
+mod hand_overs;
+mod help;
 mod json;
+mod limits;
 mod outputs;
 mod records;
 mod replies;
@@ -12,7 +15,7 @@ mod through_time;
 mod ticks;
 mod words;
 
-use station_main::{StandardError, exit_code, obey, own_words};
+use station_main::{Alarms, PathHost, StandardError, exit_code, obey, own_words};
 use std::alloc::{AllocError, Global};
 use std::env::{Env, FillError};
 use std::fs::File;
@@ -51,6 +54,7 @@ struct Told {
     status: u8,
     alarm: Vec<u8>,
     display_alarm: Vec<u8>,
+    limit_alarm: Vec<u8>,
     err: Vec<u8>,
 }
 
@@ -62,23 +66,33 @@ fn stream(rt: &impl Abort, alloc: Global) -> Vec<u8> {
     }
 }
 
+// Alarms that nothing reads.
+fn unread_alarms(alloc: Global) -> Alarms<Vec<u8>> {
+    Alarms {
+        record: Vec::new(alloc),
+        displays: Vec::new(alloc),
+        limits: Vec::new(alloc),
+    }
+}
+
 // Runs the program, and answers its status.
 fn status_of<
     R: Threads + Wait + Clock + Files<File = File, Dir: Send> + Sync,
+    W: Wait + Clock + PathHost + Copy + Send + 'static,
     I: Read + Drop,
     O: Write + Send + Drop,
     E: Write + Drop,
->(rt: &R, alloc: Global, words: &[&str], input: I, out: O, err: E) -> u8 {
+>(rt: &R, own: W, alloc: Global, words: &[&str], input: I, out: O, err: E) -> u8 {
     let mut err = StandardError::new(err);
     obey(
         rt,
+        own,
         alloc,
         words,
         ORIGIN,
         input,
         out,
-        Vec::new(alloc),
-        Vec::new(alloc),
+        unread_alarms(alloc),
         &mut err,
     )
     .status
@@ -86,19 +100,21 @@ fn status_of<
 
 fn run_words<
     R: Threads + Wait + Clock + Files<File = File, Dir: Send> + Sync + AllocGlobal + Abort,
+    W: Wait + Clock + PathHost + Copy + Send + 'static,
     I: Read + Drop,
->(rt: &R, words: &[&str], input: I) -> Ran {
+>(rt: &R, own: W, words: &[&str], input: I) -> Ran {
     let mut out = stream(rt, rt.alloc());
     let mut err = stream(rt, rt.alloc());
-    let status = status_of(rt, rt.alloc(), words, input, &mut out, &mut err);
+    let status = status_of(rt, own, rt.alloc(), words, input, &mut out, &mut err);
     Ran { status, out, err }
 }
 
 fn replay<
     R: Threads + Wait + Clock + Files<File = File, Dir: Send> + Sync + AllocGlobal + Abort,
+    W: Wait + Clock + PathHost + Copy + Send + 'static,
     I: Read + Drop,
->(rt: &R, input: I) -> Ran {
-    run_words(rt, ["groundstation", "replay"].as_slice(), input)
+>(rt: &R, own: W, input: I) -> Ran {
+    run_words(rt, own, ["groundstation", "replay"].as_slice(), input)
 }
 
 // The words of a line, which are parted by single blanks, and then these paths.
@@ -118,21 +134,27 @@ fn words_of<'a>(
 // Runs the program on the words of a line and these paths.
 fn run_line<
     R: Threads + Wait + Clock + Files<File = File, Dir: Send> + Sync,
+    W: Wait + Clock + PathHost + Copy + Send + 'static,
     O: Write + Send + Drop,
->(rt: &R, alloc: Global, line: &str, paths: &[&str], out: O) -> Result<Told, AllocError> {
+>(rt: &R, own: W, alloc: Global, line: &str, paths: &[&str], out: O) -> Result<Told, AllocError> {
     let words = words_of(alloc, line, paths)?;
     let (mut alarm, mut display_alarm) = (Vec::new(alloc), Vec::new(alloc));
-    let mut err = Vec::new(alloc);
+    let (mut limit_alarm, mut err) = (Vec::new(alloc), Vec::new(alloc));
+    let alarms = Alarms {
+        record: &mut alarm,
+        displays: &mut display_alarm,
+        limits: &mut limit_alarm,
+    };
     let mut reports = StandardError::new(&mut err);
     let ran = obey(
         rt,
+        own,
         alloc,
         words.as_slice(),
         ORIGIN,
         NO_LINES,
         out,
-        &mut alarm,
-        &mut display_alarm,
+        alarms,
         &mut reports,
     );
     let status = ran.status;
@@ -140,6 +162,7 @@ fn run_line<
         status,
         alarm,
         display_alarm,
+        limit_alarm,
         err,
     })
 }
@@ -166,7 +189,7 @@ const LINES_OF_ALL_KINDS: &[u8] = b"\
 
 #[test]
 fn each_count_stands_by_its_word(rt: HostRuntime) {
-    let counted = replay(&rt, LINES_OF_ALL_KINDS);
+    let counted = replay(&rt, rt, LINES_OF_ALL_KINDS);
     assert_eq!(rt;
         text(&counted.err),
         "lines 23 frames 5 ticks 8 shows 1 blank 2 modeac 3 faults 4 accepted 7 refused 6\n"
@@ -185,10 +208,10 @@ fn wants_memory(told: &str) -> bool {
 
 #[test]
 fn an_identification_is_shown(rt: HostRuntime) {
-    let mut shown = replay(&rt, IDENTIFICATION);
+    let mut shown = replay(&rt, rt, IDENTIFICATION);
     if wants_memory(text(&shown.err)) {
         assert!(rt; shown.status == 1 && shown.out.is_empty());
-        shown = replay(&rt, IDENTIFICATION);
+        shown = replay(&rt, rt, IDENTIFICATION);
     }
     assert_eq!(rt;
         text(&shown.out),
@@ -219,7 +242,7 @@ fn nobody_is_shown_before_a_frame(rt: HostRuntime) {
             "lines 1 frames 0 ticks 0 shows 1 blank 0 modeac 0 faults 0 accepted 0 refused 0\n",
         ),
     ] {
-        let ran = replay(&rt, lines.as_bytes());
+        let ran = replay(&rt, rt, lines.as_bytes());
         assert_eq!(rt; text(&ran.out), tables);
         assert_eq!(rt; text(&ran.err), counts);
         assert_eq!(rt; ran.status, 0);
@@ -259,7 +282,7 @@ impl Write for Closed {
 
 #[test]
 fn a_failed_read_or_write_is_told_after_the_tally(rt: HostRuntime) -> Result<(), AllocError> {
-    let torn = replay(&rt, Torn { is_torn: false });
+    let torn = replay(&rt, rt, Torn { is_torn: false });
     assert_eq!(rt;
         text(&torn.err),
         "lines 2 frames 1 ticks 0 shows 1 blank 0 modeac 0 faults 0 accepted 1 refused 0\n\
@@ -270,6 +293,7 @@ fn a_failed_read_or_write_is_told_after_the_tally(rt: HostRuntime) -> Result<(),
     let words = words_of(rt.alloc(), "groundstation replay", [].as_slice())?;
     let status = status_of(
         &rt,
+        rt,
         rt.alloc(),
         words.as_slice(),
         IDENTIFICATION,
@@ -315,12 +339,12 @@ fn a_word_that_is_not_utf8_is_refused(rt: HostRuntime) {
     let (mut out, mut err) = (Vec::new(alloc), Vec::new(alloc));
     let code = exit_code(
         &rt,
+        rt,
         alloc,
         words,
         NO_LINES,
         &mut out,
-        Vec::new(alloc),
-        Vec::new(alloc),
+        unread_alarms(alloc),
         &mut err,
     );
     assert!(rt; code == ExitCode::from(2) && out.is_empty());

@@ -13,3 +13,4 @@ pub mod ForgettingLemmas
 pub mod KeepingLemmas
 pub mod LimitLemmas
 pub mod ForgettingWalkLemmas
+pub mod FullLimitLemmas

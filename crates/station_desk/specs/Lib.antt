@@ -4,6 +4,8 @@ pub mod DeskPump
 pub mod History
 pub mod Replay
 pub mod ReplayLaws
+pub mod FullLimits
+pub mod FullLimitLaws
 pub mod Forgetting
 pub mod ForgettingReplay
 pub mod ForgettingLaws

@@ -7,22 +7,26 @@ use lib.ListN.{get_or-append}
 use Rattle.std.proofs.lemmas.List.{get_or_at, get_or-map, length-map}
 use Rattle.std.proofs.lemmas.List.Sums.{sum_by-cons}
 use native.Mathlib.Decide.{dec_lt}
-use Rattle.clap.specs.Words.{Text}
 use Rattle.station_journal.specs.declared.entry.Entry.{Entry}
 use Rattle.station_desk.specs.Start.{Start}
-use Rattle.station_shared.specs.Closing.{EachOnce}
+use Rattle.station_shared.specs.Closing.{Closes, EachOnce}
 use Rattle.station_shared.specs.Seats.{Seated, Looks, new_seat, new_seats, newcomers}
 use Rattle.station_shared.specs.Workers.{Works}
-use Rattle.station_lines.specs.declared.from_buffer.FromBuffer.{FromBuffer}
+use Rattle.station_portions.specs.declared.portions.Portions.{Portions}
+use Rattle.station_lines.specs.Drawing.{Drawn}
+use Rattle.station_report.specs.declared.formats.Format.{Format}
+use Rattle.station_report.specs.declared.sinks.WriteFault.{WriteFault}
 use Rattle.station_lines.specs.declared.pumping.PumpFault.{PumpFault}
 use Rattle.station_lines.specs.declared.tally.Tally.{Tally}
-use Rattle.station_main.specs.Inputs.{IsUnread, path_of}
 use Rattle.station_main.specs.Limits.{most_reads}
-use Rattle.station_main.specs.Recorded.{Recording}
-use Rattle.station_main.specs.Reporter.{Showing, Showings, Ticks, seat_after}
-use Rattle.station_main.specs.Run.{HaveAnswers, HavePumped, HaveWorked, LastLook, Leaves, Receives, drawn_from}
-use Rattle.station_main.specs.declared.opened.Opened.{Opened}
-use Rattle.station_main.specs.declared.schedule.Tables.{Tables}
+use Rattle.station_main.specs.Output.{Printed}
+use Rattle.station_main.specs.Recorded.{PrintsAndRecords, Recording}
+use Rattle.station_main.specs.Reporter.{IsLater, MayHandOver, ReportsByAClock, Showing, Showings, Ticks, seat_after}
+use Rattle.station_main.specs.Rounds.{Begun, IsServedBy, Serves}
+use Rattle.station_main.specs.Run.{AreNumbered, Closing, HavePumped, HaveWorked, IsClosed, PrintsLast, drawn_from}
+use Rattle.station_main.specs.Sums.{AddsAll, AddsEach}
+use Rattle.station_main.specs.declared.duties.Duties.{Duties}
+use Rattle.station_main.specs.declared.schedule.Due.{Due}
 use Rattle.station_main.proofs.RunJobLemmas.{length_new_seats}
 
 -- ---- elements of lists
@@ -55,7 +59,7 @@ answer_there : {T : Type 0} (o : Option T) → is_some o ≡ true → (x : T) ×
 answer_there None e = absurd (search rules)
 answer_there (Some x) e = (x, refl)
 
-answers_of : {W T : Type 0} (answer : W → Option T) (ws : List W) → All (λ w. is_some (answer w) ≡ true) ws → (answers : List T) × (map answer ws ≡ map Some answers)
+pub answers_of : {W T : Type 0} (answer : W → Option T) (ws : List W) → All (λ w. is_some (answer w) ≡ true) ws → (answers : List T) × (map answer ws ≡ map Some answers)
 answers_of answer [] all = ([], refl)
 answers_of answer (w ∷ ws) all =
     let one = answer_there (answer w) (all zero w (omega arith)) in
@@ -65,12 +69,12 @@ answers_of answer (w ∷ ws) all =
 some_same : {T : Type 0} (x y : T) → Some x ≡ Some y → x ≡ y
 some_same x y e = cc (e)
 
-module _ {W : Type 0} (start : Start) (entries : List Entry) (seat : W → Seated) (source : W → FromBuffer Opened) (answer : W → Option (Result Tally PumpFault)) where
-  one_receives : (inputs : List (FromBuffer Opened)) (old new : List W) (answers : List (Result Tally PumpFault)) → map seat old ≡ newcomers entries (length inputs) → map source old ≡ inputs → All IsUnread inputs
+module _ {W R : Type 0} (start : Start) (entries : List Entry) (seat : W → Seated) (source : W → Portions R) (answer : W → Option (Result Tally PumpFault)) where
+  one_receives : (inputs : List (Portions R)) (old new : List W) (answers : List (Result Tally PumpFault)) → map seat old ≡ newcomers entries (length inputs) → map source old ≡ inputs
       → HaveWorked start seat source answer old new → map answer new ≡ map Some answers
-      → (i : ℕ) (path : Text) (s : Seated) (a : Result Tally PumpFault) → i < length inputs
-      → Receives start (get_or (map path_of inputs) i path) (new_seat entries false i) (get_or (map seat new) i s) (get_or answers i a)
-  one_receives inputs old new answers seats sources unread worked answered i path s a inside =
+      → (i : ℕ) (b : Drawn) (s : Seated) (a : Result Tally PumpFault) → i < length inputs
+      → Works start (new_seat entries false i) (get_or (map seat new) i s) (get_or (map drawn_from inputs) i b) (get_or (map drawn_from (map source new)) i b) most_reads (get_or answers i a)
+  one_receives inputs old new answers seats sources worked answered i b s a inside =
       let many : length old ≡ length inputs = sym (length-map old source) ∙ ap length sources in
       let in_old : i < length old = omega (arith, inside, many) in
       let in_new : i < length new = omega (arith, in_old, worked.many) in
@@ -80,42 +84,37 @@ module _ {W : Type 0} (start : Start) (entries : List Entry) (seat : W → Seate
       let was = get_or old i d in
       let is = get_or new i d in
       let work = worked.each i d in_old in
-      let input_is : source was ≡ get_or inputs i (source d) = sym (get_or-map source old i d (source d) in_old) ∙ ap (λ l. get_or l i (source d)) sources in
-      let path_is : path_of (source was) ≡ get_or (map path_of inputs) i path = ap path_of input_is ∙ sym (get_or-map path_of inputs i (source d) path inside) in
+      let in_sources : i < length (map source new) = omega (arith, in_new, length-map new source) in
+      let before_is : drawn_from (source was) ≡ get_or (map drawn_from inputs) i b =
+      ap drawn_from (sym (get_or-map source old i d (source d) in_old) ∙ ap (λ l. get_or l i (source d)) sources) ∙ sym (get_or-map drawn_from inputs i (source d) b inside) in
+      let after_is : drawn_from (source is) ≡ get_or (map drawn_from (map source new)) i b =
+      ap drawn_from (sym (get_or-map source new i d (source d) in_new)) ∙ sym (get_or-map drawn_from (map source new) i (source d) b in_sources) in
       let old_is : seat was ≡ new_seat entries false i = sym (get_or-map seat old i d (seat d) in_old) ∙ ap (λ l. get_or l i (seat d)) seats ∙ newcomer_at entries (length inputs) i (seat d) inside in
       let new_is : get_or (map seat new) i s ≡ seat is = get_or-map seat new i d s in_new in
-      let answer_is : work.2.result ≡ get_or answers i a =
-      some_same _ _ (sym work.2.answered ∙ sym (get_or-map answer new i d (Some a) in_new) ∙ ap (λ l. get_or l i (Some a)) answered ∙ get_or-map Some answers i a (Some a) in_answers) in
-      record {
-        input = source was;
-        opened = path_is;
-        unread = subst IsUnread (sym input_is) (unread i (source d) inside);
-        left = work.0;
-        after = drawn_from work.1 (source is);
-        works = subst (λ x. Works start x (get_or (map seat new) i s) (drawn_from work.0 (source was)) (drawn_from work.1 (source is)) most_reads (get_or answers i a)) old_is
-            (subst (λ x. Works start (seat was) x (drawn_from work.0 (source was)) (drawn_from work.1 (source is)) most_reads (get_or answers i a)) (sym new_is)
-            (subst (λ x. Works start (seat was) (seat is) (drawn_from work.0 (source was)) (drawn_from work.1 (source is)) most_reads x) answer_is work.2.works));
-      }
+      let answer_is : work.result ≡ get_or answers i a =
+      some_same _ _ (sym work.answered ∙ sym (get_or-map answer new i d (Some a) in_new) ∙ ap (λ l. get_or l i (Some a)) answered ∙ get_or-map Some answers i a (Some a) in_answers) in
+      subst (λ x. Works start (new_seat entries false i) (get_or (map seat new) i s) x (get_or (map drawn_from (map source new)) i b) most_reads (get_or answers i a)) before_is
+      (subst (λ x. Works start (new_seat entries false i) (get_or (map seat new) i s) (drawn_from (source was)) x most_reads (get_or answers i a)) after_is
+      (subst (λ x. Works start x (get_or (map seat new) i s) (drawn_from (source was)) (drawn_from (source is)) most_reads (get_or answers i a)) old_is
+      (subst (λ x. Works start (seat was) x (drawn_from (source was)) (drawn_from (source is)) most_reads (get_or answers i a)) (sym new_is)
+      (subst (λ x. Works start (seat was) (seat is) (drawn_from (source was)) (drawn_from (source is)) most_reads x) answer_is work.works))))
 
-  pub have_answers : (inputs : List (FromBuffer Opened)) (old new : List W) → map seat old ≡ newcomers entries (length inputs) → map source old ≡ inputs → All IsUnread inputs
-      → HaveWorked start seat source answer old new → All (λ w. is_some (answer w) ≡ true) new → HaveAnswers start entries (map path_of inputs) seat answer new
-  have_answers inputs old new seats sources unread worked all =
-      let found = answers_of answer new all in
+  pub have_pumped : (inputs : List (Portions R)) (old new : List W) (answers : List (Result Tally PumpFault)) → map seat old ≡ newcomers entries (length inputs) → map source old ≡ inputs
+      → HaveWorked start seat source answer old new → map answer new ≡ map Some answers
+      → HavePumped start entries (map drawn_from inputs) (map drawn_from (map source new)) (map seat new) answers
+  have_pumped inputs old new answers seats sources worked answered =
       let many : length old ≡ length inputs = sym (length-map old source) ∙ ap length sources in
-      let size : length found.0 ≡ length new = sym (length-map found.0 Some) ∙ ap length (sym found.1) ∙ length-map new answer in
-      let paths = length-map inputs path_of in
+      let size : length answers ≡ length new = sym (length-map answers Some) ∙ ap length (sym answered) ∙ length-map new answer in
+      let inputs_size = length-map inputs drawn_from in
       record {
-        answers = found.0;
-        answered = found.1;
-        pumped = record {
-          many_seats = length-map new seat ∙ worked.many ∙ many ∙ sym paths;
-          many_answers = size ∙ worked.many ∙ many ∙ sym paths;
-          each = λ i path s a inside. one_receives inputs old new found.0 seats sources unread worked found.1 i path s a (omega (arith, inside, paths));
-        };
+        many_sources = length-map (map source new) drawn_from ∙ length-map new source ∙ worked.many ∙ many ∙ sym inputs_size;
+        many_seats = length-map new seat ∙ worked.many ∙ many ∙ sym inputs_size;
+        many_answers = size ∙ worked.many ∙ many ∙ sym inputs_size;
+        each = λ i b s a inside. one_receives inputs old new answers seats sources worked answered i b s a (omega (arith, inside, inputs_size));
       }
 
   -- each receiver's seat keeps its number
-  pub seats_numbered : (inputs : List (FromBuffer Opened)) (old new : List W) → map seat old ≡ newcomers entries (length inputs) → map source old ≡ inputs
+  pub seats_numbered : (inputs : List (Portions R)) (old new : List W) → map seat old ≡ newcomers entries (length inputs) → map source old ≡ inputs
       → HaveWorked start seat source answer old new → (i : ℕ) (d : Seated) → i < length inputs → (get_or (map seat new) i d).number ≡ i
   seats_numbered inputs old new seats sources worked i d inside =
       let many : length old ≡ length inputs = sym (length-map old source) ∙ ap length sources in
@@ -124,7 +123,26 @@ module _ {W : Type 0} (start : Start) (entries : List Entry) (seat : W → Seate
       let e = default_for old i in_old in
       let work = worked.each i e in_old in
       let old_is : seat (get_or old i e) ≡ new_seat entries false i = sym (get_or-map seat old i e (seat e) in_old) ∙ ap (λ l. get_or l i (seat e)) seats ∙ newcomer_at entries (length inputs) i (seat e) inside in
-      ap (λ (s : Seated). s.number) (get_or-map seat new i e d in_new) ∙ work.2.works.fed.number ∙ ap (λ (s : Seated). s.number) old_is
+      ap (λ (s : Seated). s.number) (get_or-map seat new i e d in_new) ∙ work.works.fed.number ∙ ap (λ (s : Seated). s.number) old_is
+
+-- ---- what was counted before is added
+
+pub adds_each : (before since sums : List (Result Tally PumpFault)) → AddsAll before (map Some since) sums → AddsEach before since sums
+adds_each [] [] [] adds = tt
+adds_each [] [] (s ∷ sums) adds = absurd adds
+adds_each [] (x ∷ since) sums adds = absurd adds
+adds_each (b ∷ before) [] sums adds = absurd adds
+adds_each (b ∷ before) (x ∷ since) [] adds = absurd adds
+adds_each (b ∷ before) (x ∷ since) (s ∷ sums) adds = (adds.0, adds_each before since sums adds.1)
+
+pub adds_size : (before : List (Result Tally PumpFault)) (since : List (Option (Result Tally PumpFault))) (sums : List (Result Tally PumpFault)) → AddsAll before since sums → length sums ≡ length before
+adds_size [] [] [] adds = refl
+adds_size [] [] (s ∷ sums) adds = absurd adds
+adds_size [] (x ∷ since) sums adds = absurd adds
+adds_size (b ∷ before) [] sums adds = absurd adds
+adds_size (b ∷ before) (None ∷ since) sums adds = absurd adds
+adds_size (b ∷ before) (Some x ∷ since) [] adds = absurd adds
+adds_size (b ∷ before) (Some x ∷ since) (s ∷ sums) adds = omega (arith, adds_size before since sums adds.1)
 
 -- ---- the reporter's seat keeps its number
 
@@ -143,15 +161,29 @@ showings_number start old new (showing ∷ showings) walk =
     ∙ look_number start showing.ticked showing.look walk.0.looks
     ∙ ticks_number start old showing.ticked showing.acting.at walk.0.ticks
 
-last_number : (start : Start) (old new : Seated) (has_failed : Bool) (looks : List (Option Seated)) → LastLook start old new has_failed looks → new.number ≡ old.number
-last_number start old new false looks (look, one, is, looked) = ap (λ (s : Seated). s.number) (sym is) ∙ look_number start old look looked
-last_number start old new true looks last = ap (λ (s : Seated). s.number) last.1
+later_number : (start : Start) (old new : Seated) → IsLater start old new → new.number ≡ old.number
+later_number start old new (inl same) = ap (λ (s : Seated). s.number) same
+later_number start old new (inr looks) = looks.number
 
-pub reporter_numbered : (start : Start) (tables : Tables) (last_tick : ℕ) (first closing : Seated) (before after : Option (List ℕ)) (was is : Option Recording) (has_failed : Bool)
-    → Leaves start tables last_tick first closing before after was is has_failed → closing.number ≡ first.number
-reporter_numbered start tables last_tick first closing before after was is has_failed leaves =
-    last_number start leaves.mid closing leaves.failed_before leaves.last leaves.looks
-    ∙ showings_number start first leaves.mid leaves.showings leaves.keeps.walk
+hand_over_number : (start : Start) (duties : Duties) (asked_at : Option ℕ) (due next : Due) (old new : Seated) (has_failed : Bool) → MayHandOver start duties asked_at due next old new has_failed → new.number ≡ old.number
+hand_over_number start duties None due next old new has_failed is = ap (λ (s : Seated). s.number) is.0
+hand_over_number start duties (Some at) due next old new has_failed is = ticks_number start old new at is.ticks
+
+pub reporter_numbered : (start : Start) (duties : Duties) (next : Due) (asked_at : Option ℕ) (old new : Seated) (before after : Printed) (was is : Option Recording) (has_failed : Bool)
+    → ReportsByAClock start duties next asked_at old new before after was is has_failed → new.number ≡ old.number
+reporter_numbered start duties next asked_at old new before after was is has_failed by_clock =
+    hand_over_number start duties asked_at by_clock.due next by_clock.mid new has_failed by_clock.hands_over
+    ∙ later_number start by_clock.reports.shown by_clock.mid by_clock.reports.later
+    ∙ showings_number start old by_clock.reports.shown by_clock.reports.showings by_clock.reports.keeps.walk
+
+pub last_numbered : (format : Format) (start : Start) (old new : Seated) (before : Printed) (after : Option (List ℕ)) (was is : Option Recording) (failed_before has_failed : Bool)
+    → PrintsLast format start old new before failed_before after was is has_failed → new.number ≡ old.number
+last_numbered format start old new before after was is true has_failed prints = ap (λ (s : Seated). s.number) prints.0
+last_numbered format start old new before after was is false has_failed prints = printed_number format start old new before prints.sink was is prints.result prints.prints
+  where
+    printed_number : (format : Format) (start : Start) (old new : Seated) (before after : Printed) (was is : Option Recording) (result : Result (Unit {0}) WriteFault) → PrintsAndRecords format start old new before after was is result → new.number ≡ old.number
+    printed_number format start old new before after was is result (inl prints) = prints.0.looks.number
+    printed_number format start old new before after was is result (inr passes) = ap (λ (s : Seated). s.number) passes.0.same_seat
 
 -- ---- seats whose numbers are their places
 
@@ -231,3 +263,45 @@ each_once n reporter seats many last numbered = record {
         let same : k ≡ reporter.number = omega (arith, below, many, last, after) in
         let rest = none_outside 0 k seats from_zero (inr (omega (arith, same, last))) in
         omega (arith, here k reporter seats same, rest)
+
+pub all_once : (n : ℕ) (reporter : Seated) (receivers : List Seated) → AreNumbered n reporter receivers → EachOnce n (reporter ∷ receivers)
+all_once n reporter receivers is = each_once n reporter receivers is.many is.last is.each
+
+-- a station that is closed with such seats
+pub closed_by : (start : Start) (n : ℕ) (entries : List Entry) (seats : List Seated) (reporter : Seated) (receivers : List Seated) → AreNumbered n reporter receivers → seats ≡ reporter ∷ receivers → Closes start n entries seats
+    → IsClosed start (record { reporter = reporter; receivers = receivers; journal = entries })
+closed_by start n entries seats reporter receivers numbered same closes = record {
+  once = subst (λ (k : ℕ). EachOnce k (reporter ∷ receivers)) (sym numbered.many) (all_once n reporter receivers numbered);
+  closes = subst (λ (k : ℕ). Closes start k entries (reporter ∷ receivers)) (sym numbered.many) (subst (Closes start n entries) same closes);
+}
+
+-- what a station that is closed has served
+pub serves_by : (begun : Begun) (start : Start) (closing : Closing) (now sources : List Drawn) (options : List (Option (Result Tally PumpFault))) (answers : List (Result Tally PumpFault))
+    → IsServedBy begun start closing.receivers now options → sources ≡ now → AddsAll begun.answers options answers → IsClosed start closing → Serves begun start closing sources answers
+serves_by begun start closing now sources options answers served same adds closed = record {
+  goes_on = served.goes_on;
+  counted = served.counted;
+  pumped = subst (λ (ss : List Drawn). HavePumped start begun.given.entries begun.sources ss closing.receivers served.counted) (sym same) served.pumped;
+  sums = adds_each begun.answers served.counted answers (subst (λ (os : List (Option (Result Tally PumpFault))). AddsAll begun.answers os answers) served.answers_are adds);
+  closed = closed;
+}
+
+-- a reporter that has asked for a hand-over has not failed
+pub hand_over_reports : (start : Start) (duties : Duties) (next : Due) (asked_at : Option ℕ) (at : ℕ) (old new : Seated) (before after : Printed) (was is : Option Recording) (has_failed : Bool) → asked_at ≡ Some at
+    → ReportsByAClock start duties next asked_at old new before after was is has_failed → ReportsByAClock start duties next (Some at) old new before after was is false
+hand_over_reports start duties next asked_at at old new before after was is has_failed asked by_clock =
+    let with_time = subst (λ (o : Option ℕ). ReportsByAClock start duties next o old new before after was is has_failed) asked by_clock in
+    subst (λ (b : Bool). ReportsByAClock start duties next (Some at) old new before after was is b) with_time.hands_over.well with_time
+
+-- what a reporter has done, by other words for its duties and for what is due next
+pub reports_by : (start : Start) (duties other : Duties) (due next : Due) (asked_at : Option ℕ) (old new : Seated) (before after : Printed) (was is : Option Recording) (has_failed : Bool) → other ≡ duties → next ≡ due
+    → ReportsByAClock start duties due asked_at old new before after was is has_failed → ReportsByAClock start other next asked_at old new before after was is has_failed
+reports_by start duties other due next asked_at old new before after was is has_failed same same_due by_clock =
+    subst (λ (d : Duties). ReportsByAClock start d next asked_at old new before after was is has_failed) (sym same)
+    (subst (λ (n : Due). ReportsByAClock start duties n asked_at old new before after was is has_failed) (sym same_due) by_clock)
+
+-- the same of a seat that equals the one that it began with
+pub reports_from : (start : Start) (duties : Duties) (due : Due) (asked_at : Option ℕ) (old first new : Seated) (before after : Printed) (was is : Option Recording) (has_failed : Bool) → old ≡ first
+    → ReportsByAClock start duties due asked_at old new before after was is has_failed → ReportsByAClock start duties due asked_at first new before after was is has_failed
+reports_from start duties due asked_at old first new before after was is has_failed same by_clock =
+    subst (λ (s : Seated). ReportsByAClock start duties due asked_at s new before after was is has_failed) same by_clock

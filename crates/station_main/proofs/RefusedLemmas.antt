@@ -1,12 +1,12 @@
 -- What `clap` answers that is no job, and what of it is shown on the output.
-use Rattle.std.proofs.Common.{rules, ◌≡◌, ◌≢◌, ◌⊎◌, inl, inr, Bool, true, false, List, Option, ℕ, refl, sym, ap, ◌∙◌, subst}
+use Rattle.std.proofs.Common.{rules, ◌≡◌, ◌≢◌, ◌⊎◌, inl, inr, Bool, true, false, List, [], Option, ℕ, refl, sym, ap, ◌∙◌, subst}
 use Rattle.clap.specs.Words.{App, IsAmong, HasKind, Text, fault_of, kind_of, takes}
 use Rattle.clap.specs.declared.error.Error.{Error}
 use Rattle.clap.specs.declared.error.kind.ErrorKind.{ErrorKind}
 use Rattle.clap.specs.declared.error.kind.ErrorKind.TheVariants as kind
-use Rattle.station_main.specs.Command.{IsWordsFault}
-use Rattle.station_main.specs.Jobs.{HasNoMemory, IsObeyed, Says, is_shown}
-use Rattle.station_main.specs.Telling.{Told}
+use Rattle.station_main.specs.Command.{IsOwnFault, IsWordsFault, reopens_rounds}
+use Rattle.station_main.specs.Jobs.{HasNoMemory, IsObeyed, RefusesBoth, Says, is_shown}
+use Rattle.station_main.specs.Telling.{Told, reopens_rounds_text}
 use Rattle.station_main.specs.declared.words.WordsFault.{WordsFault}
 use Rattle.station_main.specs.declared.words.WordsFault.TheVariants as words_fault
 
@@ -24,13 +24,13 @@ not_shown _ no_help no_version = refl
 pub words_fault_of : (made app : App) (words : List Text) (error : Error) (fault : WordsFault) → made ≡ app
     → ((kind_of error ≡ kind.OutOfMemory) × (fault ≡ words_fault.NoMemory)) ⊎ ((kind_of error ≢ kind.OutOfMemory) × (fault ≡ words_fault.Clap error))
     → (takes made words ≡ true → kind_of error ≡ kind.OutOfMemory) → HasKind (fault_of made words) error
-    → IsWordsFault app words fault × (takes app words ≡ true → fault ≡ words_fault.NoMemory)
+    → IsWordsFault app words fault × (takes app words ≡ true → IsOwnFault app words fault)
 words_fault_of made app words error fault same (inl memory) passes kinds =
-    subst (λ (f : WordsFault). IsWordsFault app words f × (takes app words ≡ true → f ≡ words_fault.NoMemory)) (sym memory.1) (tt, λ _. refl)
+    subst (λ (f : WordsFault). IsWordsFault app words f × (takes app words ≡ true → IsOwnFault app words f)) (sym memory.1) (tt, λ _. tt)
 words_fault_of made app words error fault same (inr other) passes (inl memory) = absurd (other.0 memory)
 words_fault_of made app words error fault same (inr other) passes (inr among) =
     let are_among : IsAmong (kind_of error) (fault_of app words) = subst (λ (a : App). IsAmong (kind_of error) (fault_of a words)) same among in
-    subst (λ (f : WordsFault). IsWordsFault app words f × (takes app words ≡ true → f ≡ words_fault.NoMemory)) (sym other.1)
+    subst (λ (f : WordsFault). IsWordsFault app words f × (takes app words ≡ true → IsOwnFault app words f)) (sym other.1)
     (are_among, λ taken. absurd (other.0 (passes (ap (λ (a : App). takes a words) same ∙ taken))))
 
 -- what a command line leaves whose answer of `clap` is written, or for whose text there was no memory
@@ -38,7 +38,22 @@ pub refused_obeyed : (app : App) (words : List Text) (origin : ℕ) (input befor
     → fault ≡ words_fault.Clap error → IsWordsFault app words fault
     → HasNoMemory after err_old err_new status ⊎ ((text : List ℕ) × Says (is_shown (kind_of error)) text before after err_old err_new status)
     → IsObeyed app words origin input before after alarm err_old err_new status
-refused_obeyed app words origin input before after alarm err_old err_new status fault error same said (inl none) = inl (inr none)
+refused_obeyed app words origin input before after alarm err_old err_new status fault error same said (inl none) = inl (inr (inl none))
 refused_obeyed app words origin input before after alarm err_old err_new status fault error same said (inr written) =
     let among : IsAmong (kind_of error) (fault_of app words) = subst (λ (f : WordsFault). IsWordsFault app words f) same said in
     inr (record { kind = kind_of error; given = among; text = written.0; says = written.1 })
+
+-- what a command line leaves that is refused as both `--reopen` and `--rounds` are given
+pub refused_both : (app : App) (words : List Text) (before : Option (List ℕ)) (after : Option (Option (List ℕ))) (err_old err_new : Told) (status : ℕ) (fault : WordsFault)
+    → fault ≡ words_fault.ReopensRounds → IsWordsFault app words fault → Says false reopens_rounds_text before after err_old err_new status
+    → RefusesBoth app words before after err_old err_new status
+refused_both app words before after err_old err_new status fault same said says =
+    let given : (fault_of app words ≡ []) × (reopens_rounds app words ≡ true) = subst (λ (f : WordsFault). IsWordsFault app words f) same said in
+    record { accepted = given.0; both = given.1; says = says }
+
+-- `clap` refuses no command line that it takes
+pub not_taken : (app : App) (words : List Text) (fault : WordsFault) (error : Error) → fault ≡ words_fault.Clap error → IsOwnFault app words fault → ⊥
+not_taken app words fault error same own = subst (λ (f : WordsFault). IsOwnFault app words f) same own
+
+pub not_both_ways : (b : Bool) → b ≡ true → b ≡ false → ⊥
+not_both_ways b is is_not = let bad : true ≡ false = sym is ∙ is_not in absurd (search rules)

@@ -1,5 +1,5 @@
 -- Showings of the reporter, one more at the end.
-use Rattle.std.proofs.Common.{rules, ◌≡◌, ◌∙◌, ◌⊎◌, inl, inr, ℕ, ◌≤◌, ◌<◌, Bool, true, false, List, [], ◌∷◌, ◌++◌, Option, Some, None, Result, Ok, Err, IfSome, refl, sym, ap, subst, append_assoc, append-nil, cond, map}
+use Rattle.std.proofs.Common.{rules, ◌≡◌, ◌∙◌, ◌⊎◌, inl, inr, ℕ, ◌+◌, ◌≤◌, ◌<◌, Bool, true, false, List, [], ◌∷◌, ◌++◌, Option, Some, None, Result, Ok, Err, IfSome, refl, sym, ap, subst, append_assoc, append-nil, cond, map}
 use Rattle.std.proofs.lemmas.Bool.{lt-leb, le-leb}
 use Rattle.std.specs.Prelude.{is_err, IfOk, IfErr, nat_le}
 use Rattle.std.specs.Io.KnownBytes.{Appends}
@@ -10,10 +10,12 @@ use Rattle.station_report.specs.Sink.{counted}
 use Rattle.station_report.specs.declared.formats.Format.{Format}
 use Rattle.station_report.specs.declared.sinks.WriteFault.{WriteFault}
 use Rattle.station_desk.specs.Start.{Start}
+use mathlib.Core.List.{IsPrefix}
+use Rattle.station_journal.specs.declared.entry.Entry.{Entry}
 use Rattle.station_shared.specs.Seats.{Seated, Accepted, Refused, Looks}
 use Rattle.station_desk.specs.History.{Known}
 use Rattle.station_main.specs.Output.{Printed}
-use Rattle.station_main.specs.Reporter.{Acting, IsShowing, Reports, Showing, Showings, Ticks, after_table, after_tick, due_moments, has_come, looks_of, seat_after}
+use Rattle.station_main.specs.Reporter.{Acting, IsShowing, IsLater, Reports, Showing, Showings, Ticks, after_table, after_tick, due_after, due_moments, has_come, looks_of, seat_after}
 use Rattle.station_main.specs.Recorded.{IfRecording, PrintsAndRecords, Recording, Records, seen_by}
 use Rattle.station_main.specs.declared.schedule.Due.{Due}
 use Rattle.station_main.specs.declared.schedule.Pace.{Pace}
@@ -22,13 +24,6 @@ use Rattle.station_main.specs.Tables.{Prints, PassesOver, TakesTexts, shown, tex
 use Rattle.station_main.proofs.RecordedLemmas.{no-more-records, no-records, one-more-look}
 
 -- ---- times
-
--- what is due next, after these times
-abbrev pub due_after : Pace → Due → List ℕ → Due
-due_after pace due [] = due
-due_after pace due (now ∷ moments) =
-    cond (nat_le due.table now) (due_after pace (after_table pace now) moments)
-    (cond (has_come due.tick now) (due_after pace (after_tick pace due now) moments) (due_after pace due moments))
 
 append-by : (table tick : Bool) (later : Due → List Acting) (t u : Acting) (a b c : Due) (of_a of_b of_c all_a all_b all_c : List Acting)
     → all_a ≡ of_a ++ later a → all_b ≡ of_b ++ later b → all_c ≡ of_c ++ later c
@@ -166,42 +161,65 @@ pub printed_at_most : (format : Format) (station : Start) (looks : List (Option 
 printed_at_most format station looks old new start before after was is result so_far same (inl prints) = printed format station looks old new start before after was is result so_far same prints.0 prints.1
 printed_at_most format station looks old new start before after was is result so_far same (inr passes) = passed format station looks old new start before after was is result so_far same passes.0 passes.1
 
+-- ---- looks that show nothing
+
+prefix_trans : (a b c : List Entry) → IsPrefix a b → IsPrefix b c → IsPrefix a c
+prefix_trans a b c p q = (p.0 ++ q.0, sym (append_assoc a p.0 q.0) ∙ ap (λ (es : List Entry). es ++ q.0) p.1 ∙ q.1)
+
+looks_both : (station : Start) (a b c : Seated) → Looks station a b → Looks station b c → Looks station a c
+looks_both station a b c l m = record { later = prefix_trans a.seen b.seen c.seen l.later m.later; legal = m.legal; accepted = m.accepted ∙ l.accepted; number = m.number ∙ l.number; had_place = l.had_place; has_place = m.has_place }
+
+pub later_later : (station : Start) (a b c : Seated) → IsLater station a b → IsLater station b c → IsLater station a c
+later_later station a b c (inl p) q = subst (λ (s : Seated). IsLater station s c) p q
+later_later station a b c (inr l) (inl q) = inr (subst (λ (s : Seated). Looks station a s) (sym q) l)
+later_later station a b c (inr l) (inr m) = inr (looks_both station a b c l m)
+
+pub ticks_later : (station : Start) (a b c : Seated) (at : ℕ) → IsLater station a b → Ticks station b at c → Ticks station a at c
+ticks_later station a b c at (inl p) t = subst (λ (s : Seated). Ticks station s at c) p t
+ticks_later station a b c at (inr l) (inl t) =
+    let is = subst (λ (n : ℕ). Accepted station b c (Tick n at) t.0) l.number t.1 in
+    inl (t.0, record { mid = is.mid; seen = is.seen; legal = is.legal; later = prefix_trans a.seen b.seen is.mid l.later is.later; verdict = is.verdict; list = is.list; accepted = is.accepted ∙ ap (λ (n : ℕ). n + 1) l.accepted; number = is.number ∙ l.number; place = is.place ∙ (l.has_place ∙ sym l.had_place) })
+ticks_later station a b c at (inr l) (inr t) =
+    let is = subst (λ (n : ℕ). Refused station b c (Tick n at) t.0) l.number t.1 in
+    inr (t.0, record { later = prefix_trans a.seen b.seen c.seen l.later is.later; legal = is.legal; verdict = is.verdict; accepted = is.accepted ∙ l.accepted; number = is.number ∙ l.number; place = is.place ∙ (l.has_place ∙ sym l.had_place) })
+
 -- the showings so far, by the times that a clock gave after the first ones, and what is due next
-pub record ReportsTo (station : Start) (tables : Tables) (last : ℕ) (due : Due) (given given_now : Option (List ℕ)) (old new : Seated) (before after : Printed) (was is : Option Recording) (has_failed : Bool) : Type 0 where
+pub record ReportsTo (station : Start) (tables : Tables) (first : Due) (due : Due) (given given_now : Option (List ℕ)) (old new : Seated) (before after : Printed) (was is : Option Recording) (has_failed : Bool) : Type 0 where
   pub moments : List ℕ
   pub are_given : Appends given given_now moments
-  pub due_is : due ≡ due_after tables.pace (after_table tables.pace last) moments
-  pub reports : Reports station tables last moments old new before after was is has_failed
+  pub reports : Reports station tables first due moments old new before after was is has_failed
 
-pub no_moment : (station : Start) (tables : Tables) (last : ℕ) (seat : Seated) (sink : Printed) (was : Option Recording) → Reports station tables last [] seat seat sink sink was was false
-no_moment station tables last seat sink was = record { showings = []; keeps = record { due = refl; walk = refl }; takes = Appends-nil sink.taken; failures = refl; records = no-records was }
+pub no_moment : (station : Start) (tables : Tables) (first : Due) (seat : Seated) (sink : Printed) (was : Option Recording) → Reports station tables first first [] seat seat sink sink was was false
+no_moment station tables first seat sink was = record { showings = []; shown = seat; keeps = record { acts = refl; walk = refl }; later = inl refl; next_is = refl; takes = Appends-nil sink.taken; failures = refl; records = no-records was }
 
 -- the acts up to one more time
-acts-then : (pace : Pace) (last : ℕ) (due next : Due) (now : ℕ) (moments : List ℕ) (acts : List Acting) → due ≡ due_after pace (after_table pace last) moments → OneMore pace due next now acts
-    → due_moments pace (after_table pace last) (moments ++ now ∷ []) ≡ due_moments pace (after_table pace last) moments ++ acts
-acts-then pace last due next now moments acts is more =
-    due_moments-append pace (after_table pace last) moments (now ∷ []) ∙ ap (λ (d : Due). due_moments pace (after_table pace last) moments ++ due_moments pace d (now ∷ [])) (sym is)
-    ∙ ap (λ (acts : List Acting). due_moments pace (after_table pace last) moments ++ acts) more.moments
+acts-then : (pace : Pace) (first : Due) (due next : Due) (now : ℕ) (moments : List ℕ) (acts : List Acting) → due ≡ due_after pace first moments → OneMore pace due next now acts
+    → due_moments pace first (moments ++ now ∷ []) ≡ due_moments pace first moments ++ acts
+acts-then pace first due next now moments acts is more =
+    due_moments-append pace first moments (now ∷ []) ∙ ap (λ (d : Due). due_moments pace first moments ++ due_moments pace d (now ∷ [])) (sym is)
+    ∙ ap (λ (acts : List Acting). due_moments pace first moments ++ acts) more.moments
 
-due-then : (pace : Pace) (last : ℕ) (due next : Due) (now : ℕ) (moments : List ℕ) (acts : List Acting) → due ≡ due_after pace (after_table pace last) moments → OneMore pace due next now acts
-    → next ≡ due_after pace (after_table pace last) (moments ++ now ∷ [])
-due-then pace last due next now moments acts is more =
-    sym (due_after-append pace (after_table pace last) moments (now ∷ []) ∙ ap (λ (d : Due). due_after pace d (now ∷ [])) (sym is) ∙ more.after)
+due-then : (pace : Pace) (first : Due) (due next : Due) (now : ℕ) (moments : List ℕ) (acts : List Acting) → due ≡ due_after pace first moments → OneMore pace due next now acts
+    → next ≡ due_after pace first (moments ++ now ∷ [])
+due-then pace first due next now moments acts is more =
+    sym (due_after-append pace first moments (now ∷ []) ∙ ap (λ (d : Due). due_after pace d (now ∷ [])) (sym is) ∙ more.after)
 
 -- nothing is done at a time at which nothing is due
-pub one_more_sleep : (station : Start) (tables : Tables) (last : ℕ) (due : Due) (now : ℕ) (given given_before given_now : Option (List ℕ)) (old new : Seated) (before after : Printed) (was is : Option Recording) (has_failed : Bool)
-    → ReportsTo station tables last due given given_before old new before after was is has_failed → Appends given_before given_now (now ∷ []) → now < due.table → has_come due.tick now ≡ false
-    → ReportsTo station tables last due given given_now old new before after was is has_failed
-one_more_sleep station tables last due now given given_before given_now old new before after was is has_failed so_far gives early none =
+pub one_more_sleep : (station : Start) (tables : Tables) (first : Due) (due : Due) (now : ℕ) (given given_before given_now : Option (List ℕ)) (old new : Seated) (before after : Printed) (was is : Option Recording) (has_failed : Bool)
+    → ReportsTo station tables first due given given_before old new before after was is has_failed → Appends given_before given_now (now ∷ []) → now < due.table → has_come due.tick now ≡ false
+    → ReportsTo station tables first due given given_now old new before after was is has_failed
+one_more_sleep station tables first due now given given_before given_now old new before after was is has_failed so_far gives early none =
     let more = nothing-due tables.pace due now early none in
     record {
       moments = so_far.moments ++ now ∷ [];
       are_given = Appends-trans given given_before given_now _ _ so_far.are_given gives;
-      due_is = due-then tables.pace last due due now so_far.moments [] so_far.due_is more;
       reports = record {
         showings = so_far.reports.showings;
+        shown = so_far.reports.shown;
+        later = so_far.reports.later;
+        next_is = due-then tables.pace first due due now so_far.moments [] so_far.reports.next_is more;
         keeps = record {
-          due = so_far.reports.keeps.due ∙ sym (acts-then tables.pace last due due now so_far.moments [] so_far.due_is more ∙ append-nil (due_moments tables.pace (after_table tables.pace last) so_far.moments));
+          acts = so_far.reports.keeps.acts ∙ sym (acts-then tables.pace first due due now so_far.moments [] so_far.reports.next_is more ∙ append-nil (due_moments tables.pace first so_far.moments));
           walk = so_far.reports.keeps.walk;
         };
         takes = so_far.reports.takes;
@@ -211,31 +229,33 @@ one_more_sleep station tables last due now given given_before given_now old new 
     }
 
 -- a tick alone, at a time at which only that is due
-pub one_more_tick : (station : Start) (tables : Tables) (last : ℕ) (due : Due) (now : ℕ) (given given_before given_now : Option (List ℕ)) (old mid new : Seated) (start before : Printed) (first was : Option Recording)
-    → ReportsTo station tables last due given given_before old mid start before first was false → Appends given_before given_now (now ∷ []) → now < due.table → has_come due.tick now ≡ true
+pub one_more_tick : (station : Start) (tables : Tables) (first : Due) (due : Due) (now : ℕ) (given given_before given_now : Option (List ℕ)) (old mid new : Seated) (start before : Printed) (from was : Option Recording)
+    → ReportsTo station tables first due given given_before old mid start before from was false → Appends given_before given_now (now ∷ []) → now < due.table → has_come due.tick now ≡ true
     → Ticks station mid now new
-    → ReportsTo station tables last (after_tick tables.pace due now) given given_now old new start before first was false
-one_more_tick station tables last due now given given_before given_now old mid new start before first was so_far gives early come ticks =
+    → ReportsTo station tables first (after_tick tables.pace due now) given given_now old new start before from was false
+one_more_tick station tables first due now given given_before given_now old mid new start before from was so_far gives early come ticks =
     let more = tick-due tables.pace due now early come in
     let showings = so_far.reports.showings in
     let showing : Showing = record { acting = record { at = now; has_table = false }; ticked = new; look = None } in
-    let shows : IsShowing station mid showing = record { ticks = ticks; looks = tt; alone = λ _. refl } in
+    let shows : IsShowing station so_far.reports.shown showing = record { ticks = ticks_later station so_far.reports.shown mid _ now so_far.reports.later ticks; looks = tt; alone = λ _. refl } in
     record {
       moments = so_far.moments ++ now ∷ [];
       are_given = Appends-trans given given_before given_now _ _ so_far.are_given gives;
-      due_is = due-then tables.pace last due (after_tick tables.pace due now) now so_far.moments _ so_far.due_is more;
       reports = record {
         showings = showings ++ showing ∷ [];
+        shown = new;
+        later = inl refl;
+        next_is = due-then tables.pace first due (after_tick tables.pace due now) now so_far.moments _ so_far.reports.next_is more;
         keeps = record {
-          due = acts_snoc showings showing ∙ ap (λ (acts : List Acting). acts ++ showing.acting ∷ []) so_far.reports.keeps.due
-              ∙ sym (acts-then tables.pace last due (after_tick tables.pace due now) now so_far.moments _ so_far.due_is more);
-          walk = Showings_snoc station old mid showings showing so_far.reports.keeps.walk shows;
+          acts = acts_snoc showings showing ∙ ap (λ (acts : List Acting). acts ++ showing.acting ∷ []) so_far.reports.keeps.acts
+              ∙ sym (acts-then tables.pace first due (after_tick tables.pace due now) now so_far.moments _ so_far.reports.next_is more);
+          walk = Showings_snoc station old so_far.reports.shown showings showing so_far.reports.keeps.walk shows;
         };
         takes = subst (λ ls. TakesTexts tables.format station ls start.taken before.taken false) (sym (looks_snoc showings showing))
             (subst (Appends start.taken before.taken) (sym (texts_snoc tables.format station (looks_of showings) None ∙ append-nil (texts tables.format station (looks_of showings)))) so_far.reports.takes);
         failures = so_far.reports.failures;
-        records = subst (λ (ls : List (Option Seated)). IfRecording (Records (seen_by ls)) first was) (sym (looks_snoc showings showing))
-            (one-more-look (looks_of showings) None first was was so_far.reports.records (no-more-records was was refl));
+        records = subst (λ (ls : List (Option Seated)). IfRecording (Records (seen_by ls)) from was) (sym (looks_snoc showings showing))
+            (one-more-look (looks_of showings) None from was was so_far.reports.records (no-more-records was was refl));
       };
     }
 
@@ -257,31 +277,51 @@ pub ticks_of : {N : Type 0} (station : Start) (old new : Seated) (at : ℕ) (nam
 ticks_of station old new at name n (Ok receipt) accepted refused = inl (receipt, accepted.1)
 ticks_of station old new at name n (Err refusal) accepted refused = inr (refusal, refused)
 
-pub one_more_showing : (station : Start) (tables : Tables) (last : ℕ) (due : Due) (now : ℕ) (given given_before given_now : Option (List ℕ)) (old mid ticked new : Seated) (start before after : Printed) (first was is : Option Recording) (result : Result (Unit {0}) WriteFault)
-    → ReportsTo station tables last due given given_before old mid start before first was false → Appends given_before given_now (now ∷ []) → due.table ≤ now
+pub one_more_showing : (station : Start) (tables : Tables) (first : Due) (due : Due) (now : ℕ) (given given_before given_now : Option (List ℕ)) (old mid ticked new : Seated) (start before after : Printed) (from was is : Option Recording) (result : Result (Unit {0}) WriteFault)
+    → ReportsTo station tables first due given given_before old mid start before from was false → Appends given_before given_now (now ∷ []) → due.table ≤ now
     → Ticks station mid now ticked → PrintsAndRecords tables.format station ticked new before after was is result
-    → ReportsTo station tables last (after_table tables.pace now) given given_now old new start after first is (is_err result)
-one_more_showing station tables last due now given given_before given_now old mid ticked new start before after first was is result so_far gives late ticks prints =
+    → ReportsTo station tables first (after_table tables.pace now) given given_now old new start after from is (is_err result)
+one_more_showing station tables first due now given given_before given_now old mid ticked new start before after from was is result so_far gives late ticks prints =
     let more = table-due tables.pace due now late in
     let showings = so_far.reports.showings in
     let p = printed_at_most tables.format station (looks_of showings) ticked new start before after was is result so_far.reports.takes so_far.reports.failures prints in
     let showing : Showing = record { acting = record { at = now; has_table = true }; ticked = ticked; look = p.look } in
-    let shows : IsShowing station mid showing = record { ticks = ticks; looks = looked_is station ticked new p.look p.looked; alone = λ (e : true ≡ false). absurd (search rules) } in
+    let shows : IsShowing station so_far.reports.shown showing = record { ticks = ticks_later station so_far.reports.shown mid _ now so_far.reports.later ticks; looks = looked_is station ticked new p.look p.looked; alone = λ (e : true ≡ false). absurd (search rules) } in
     record {
       moments = so_far.moments ++ now ∷ [];
       are_given = Appends-trans given given_before given_now _ _ so_far.are_given gives;
-      due_is = due-then tables.pace last due (after_table tables.pace now) now so_far.moments _ so_far.due_is more;
       reports = record {
         showings = showings ++ showing ∷ [];
+        shown = new;
+        later = inl refl;
+        next_is = due-then tables.pace first due (after_table tables.pace now) now so_far.moments _ so_far.reports.next_is more;
         keeps = record {
-          due = acts_snoc showings showing ∙ ap (λ (acts : List Acting). acts ++ showing.acting ∷ []) so_far.reports.keeps.due
-              ∙ sym (acts-then tables.pace last due (after_table tables.pace now) now so_far.moments _ so_far.due_is more);
+          acts = acts_snoc showings showing ∙ ap (λ (acts : List Acting). acts ++ showing.acting ∷ []) so_far.reports.keeps.acts
+              ∙ sym (acts-then tables.pace first due (after_table tables.pace now) now so_far.moments _ so_far.reports.next_is more);
           walk = subst (Showings station old (showings ++ showing ∷ [])) (end_of station ticked new now p.look p.looked)
-              (Showings_snoc station old mid showings showing so_far.reports.keeps.walk shows);
+              (Showings_snoc station old so_far.reports.shown showings showing so_far.reports.keeps.walk shows);
         };
         takes = subst (λ ls. TakesTexts tables.format station ls start.taken after.taken (is_err result)) (sym (looks_snoc showings showing)) p.takes;
         failures = p.failures;
-        records = subst (λ (ls : List (Option Seated)). IfRecording (Records (seen_by ls)) first is) (sym (looks_snoc showings showing))
-            (one-more-look (looks_of showings) p.look first was is so_far.reports.records p.records);
+        records = subst (λ (ls : List (Option Seated)). IfRecording (Records (seen_by ls)) from is) (sym (looks_snoc showings showing))
+            (one-more-look (looks_of showings) p.look from was is so_far.reports.records p.records);
       };
     }
+
+-- a look that shows nothing
+pub one_more_look : (station : Start) (tables : Tables) (first : Due) (due : Due) (given given_now : Option (List ℕ)) (old mid new : Seated) (before after : Printed) (was is : Option Recording) (has_failed : Bool)
+    → ReportsTo station tables first due given given_now old mid before after was is has_failed → IsLater station mid new → ReportsTo station tables first due given given_now old new before after was is has_failed
+one_more_look station tables first due given given_now old mid new before after was is has_failed so_far later = record {
+  moments = so_far.moments;
+  are_given = so_far.are_given;
+  reports = record {
+    showings = so_far.reports.showings;
+    shown = so_far.reports.shown;
+    keeps = so_far.reports.keeps;
+    later = later_later station so_far.reports.shown mid new so_far.reports.later later;
+    next_is = so_far.reports.next_is;
+    takes = so_far.reports.takes;
+    failures = so_far.reports.failures;
+    records = so_far.reports.records;
+  };
+}

@@ -26,7 +26,7 @@ use Rattle.clap.specs.declared.builder.value_parser.ValueParser.TheVariants.{Sig
 use Rattle.clap.specs.declared.parser.matches.ValueSource.{ValueSource}
 use Rattle.clap.specs.declared.parser.matches.ValueSource.TheVariants.{CommandLine, DefaultValue}
 use Rattle.clap.proofs.OnLiterals.{clap_on_literals}
-use Rattle.station_main.specs.Command.{FormatNames, IsGiven, IsNumberUpTo, every, format, json_folder, number, path, record_file, replay, rounds, run, station, tick}
+use Rattle.station_main.specs.Command.{FormatNames, IsFlagText, IsGiven, IsNumberUpTo, every, format, json_folder, number, path, record_file, reopen, replay, rounds, run, station, tick}
 use Rattle.station_main.proofs.WalkedLemmas.{Keeps, both_none, not_none, settles, walks}
 
 -- ---- rows
@@ -35,13 +35,18 @@ use Rattle.station_main.proofs.WalkedLemmas.{Keeps, both_none, not_none, settles
 abbrev pub IsNumber : Text → ℕ → Row → Type 0
 IsNumber id most r = (r.id ≡ id) × (r.reading ≡ WithoutMinus) × ((v : Text) × (r.values ≡ v ∷ []) × (is_signed_in (pos 1) (pos most) v ≡ true))
 
--- the row of `--every`, `--tick`, `--rounds`, PATH, `--record`, `--format` or `--json` after an accepted use or a default
+-- the row of a flag, which has one of two texts
+abbrev pub IsFlag : Text → Row → Type 0
+IsFlag id r = (r.id ≡ id) × (r.reading ≡ AsWritten) × ((r.values ≡ codes "true" ∷ []) ⊎ (r.values ≡ codes "false" ∷ []))
+
+-- the row of `--every`, `--tick`, `--rounds`, PATH, `--record`, `--format`, `--json` or `--reopen` after an accepted use or a
+-- default
 abbrev pub Good : Row → Type 0
 Good r = IsNumber (codes "every") 3600000 r
     ⊎ (IsNumber (codes "tick") 60000 r
     ⊎ (IsNumber (codes "rounds") 1000 r
     ⊎ (((r.id ≡ codes "path") × (1 ≤ length r.values) × (length r.values ≤ 8))
-    ⊎ ((r.id ≡ codes "record") ⊎ ((r.id ≡ codes "format") ⊎ (r.id ≡ codes "json"))))))
+    ⊎ ((r.id ≡ codes "record") ⊎ ((r.id ≡ codes "format") ⊎ ((r.id ≡ codes "json") ⊎ IsFlag (codes "reopen") r))))))
 
 abbrev pub Fine : List Row → Type 0
 Fine [] = ⊤
@@ -111,6 +116,9 @@ tick_rule = with_index 1 (filled tick)
 abbrev pub rounds_rule : Rule
 rounds_rule = with_index 1 (filled rounds)
 
+abbrev pub reopen_rule : Rule
+reopen_rule = with_index 1 (filled reopen)
+
 abbrev pub record_rule : Rule
 record_rule = with_index 1 (filled record_file)
 
@@ -126,16 +134,19 @@ path_rule = with_index 1 (filled path)
 abbrev pub help_flag : Rule
 help_flag = with_index 2 (filled help_rule)
 
-exactly_by : (b : Bool) (n : ℕ) → (1 == n) ≡ b → (if b then [] else kind.WrongNumberOfValues ∷ []) ≡ [] → 1 ≡ n
-exactly_by true n is e = eqb-true 1 n is
-exactly_by false n is e = absurd (not_none _ _ e)
+exactly_by : (k : ℕ) (b : Bool) (n : ℕ) → (k == n) ≡ b → (if b then [] else kind.WrongNumberOfValues ∷ []) ≡ [] → k ≡ n
+exactly_by k true n is e = eqb-true k n is
+exactly_by k false n is e = absurd (not_none _ _ e)
 
 none_given : (b : Bool) (rest : Kinds) → (if b then kind.InvalidValue ∷ [] else rest) ≡ [] → rest ≡ []
 none_given true rest e = absurd (not_none _ _ e)
 none_given false rest e = e
 
 exactly_one : (n : ℕ) → range_kinds 1 1 n ≡ [] → 1 ≡ n
-exactly_one n e = exactly_by (1 == n) n refl (none_given (n == 0) (if 1 == n then [] else kind.WrongNumberOfValues ∷ []) e)
+exactly_one n e = exactly_by 1 (1 == n) n refl (none_given (n == 0) (if 1 == n then [] else kind.WrongNumberOfValues ∷ []) e)
+
+no_value : (n : ℕ) → range_kinds 0 0 n ≡ [] → 0 ≡ n
+no_value n e = exactly_by 0 (0 == n) n refl e
 
 keeps_number : (id : Text) (most : ℕ) → ((r : Row) → IsNumber id most r → Good r) → (v : Text) (vs : List Text) (rows : List Row)
     → or_else (range_kinds 1 1 (length (v ∷ vs))) (or_else (repeat_fault false id rows) (values_kinds false (Signed (pos 1) (pos most)) (v ∷ vs))) ≡ []
@@ -211,7 +222,18 @@ keeps_json (v ∷ vs) rows e f =
     let counted = both_none (range_kinds 1 1 (length (v ∷ vs))) (set_fault false json_rule (v ∷ vs) rows) e in
     let parts = both_none (repeat_fault false (codes "json") rows) (values_fault json_rule (v ∷ vs)) counted.1 in
     let none = not_repeated (has_row (codes "json") rows) parts.0 in
-    subst Fine (sym (set_adds (codes "json") AsWritten (v ∷ vs) rows none)) (fine_snoc rows (row_for CommandLine (codes "json") AsWritten (v ∷ vs)) f (inr (inr (inr (inr (inr (inr refl)))))))
+    subst Fine (sym (set_adds (codes "json") AsWritten (v ∷ vs) rows none)) (fine_snoc rows (row_for CommandLine (codes "json") AsWritten (v ∷ vs)) f (inr (inr (inr (inr (inr (inr (inl refl))))))))
+
+keeps_reopen : (values : List Text) (rows : List Row) → use_fault false reopen_rule values rows ≡ [] → Fine rows → Fine (used reopen_rule values rows)
+unfolding row_for
+keeps_reopen [] rows e f =
+    let parts = both_none (repeat_fault false (codes "reopen") rows) (values_fault reopen_rule (codes "true" ∷ [])) e in
+    let none = not_repeated (has_row (codes "reopen") rows) parts.0 in
+    let row = row_for CommandLine (codes "reopen") AsWritten (codes "true" ∷ []) in
+    subst Fine (sym (set_adds (codes "reopen") AsWritten (codes "true" ∷ []) rows none)) (fine_snoc rows row f (inr (inr (inr (inr (inr (inr (inr (refl, refl, inl refl)))))))))
+keeps_reopen (v ∷ vs) rows e f =
+    let none = no_value (length (v ∷ vs)) (both_none (range_kinds 0 0 (length (v ∷ vs))) (set_fault false reopen_rule (v ∷ vs) rows) e).0 in
+    absurd (omega (arith, none))
 
 keeps_help : (values : List Text) (rows : List Row) → use_fault false help_flag values rows ≡ [] → Fine rows → Fine (used help_flag values rows)
 keeps_help values rows e f = absurd (not_none _ _ (both_none (range_kinds 0 0 (length values)) (kind.DisplayHelp ∷ []) e).1)
@@ -229,7 +251,7 @@ among test [] a e = absurd (none_some a e)
 among test (x ∷ xs) a e = among_step (test x) x (find test xs) xs a e (among test xs a)
 
 abbrev run_rules : FormatNames → List Rule
-run_rules names = every_rule ∷ tick_rule ∷ format_rule names ∷ json_rule ∷ rounds_rule ∷ record_rule ∷ path_rule ∷ help_flag ∷ []
+run_rules names = every_rule ∷ tick_rule ∷ format_rule names ∷ json_rule ∷ rounds_rule ∷ reopen_rule ∷ record_rule ∷ path_rule ∷ help_flag ∷ []
 
 keeps_among : (names : FormatNames) (a : Rule) (values : List Text) (rows : List Row) → Among a (run_rules names) → use_fault false a values rows ≡ [] → Fine rows → Fine (used a values rows)
 keeps_among names a values rows (inl same) e f = subst (λ b. Fine (used b values rows)) same (keeps_every values rows (subst (λ b. use_fault false b values rows ≡ []) (sym same) e) f)
@@ -237,10 +259,11 @@ keeps_among names a values rows (inr (inl same)) e f = subst (λ b. Fine (used b
 keeps_among names a values rows (inr (inr (inl same))) e f = subst (λ b. Fine (used b values rows)) same (keeps_format names values rows (subst (λ b. use_fault false b values rows ≡ []) (sym same) e) f)
 keeps_among names a values rows (inr (inr (inr (inl same)))) e f = subst (λ b. Fine (used b values rows)) same (keeps_json values rows (subst (λ b. use_fault false b values rows ≡ []) (sym same) e) f)
 keeps_among names a values rows (inr (inr (inr (inr (inl same))))) e f = subst (λ b. Fine (used b values rows)) same (keeps_rounds values rows (subst (λ b. use_fault false b values rows ≡ []) (sym same) e) f)
-keeps_among names a values rows (inr (inr (inr (inr (inr (inl same)))))) e f = subst (λ b. Fine (used b values rows)) same (keeps_record values rows (subst (λ b. use_fault false b values rows ≡ []) (sym same) e) f)
-keeps_among names a values rows (inr (inr (inr (inr (inr (inr (inl same))))))) e f = subst (λ b. Fine (used b values rows)) same (keeps_path values rows (subst (λ b. use_fault false b values rows ≡ []) (sym same) e) f)
-keeps_among names a values rows (inr (inr (inr (inr (inr (inr (inr (inl same)))))))) e f = subst (λ b. Fine (used b values rows)) same (keeps_help values rows (subst (λ b. use_fault false b values rows ≡ []) (sym same) e) f)
-keeps_among names a values rows (inr (inr (inr (inr (inr (inr (inr (inr none)))))))) e f = absurd none
+keeps_among names a values rows (inr (inr (inr (inr (inr (inl same)))))) e f = subst (λ b. Fine (used b values rows)) same (keeps_reopen values rows (subst (λ b. use_fault false b values rows ≡ []) (sym same) e) f)
+keeps_among names a values rows (inr (inr (inr (inr (inr (inr (inl same))))))) e f = subst (λ b. Fine (used b values rows)) same (keeps_record values rows (subst (λ b. use_fault false b values rows ≡ []) (sym same) e) f)
+keeps_among names a values rows (inr (inr (inr (inr (inr (inr (inr (inl same)))))))) e f = subst (λ b. Fine (used b values rows)) same (keeps_path values rows (subst (λ b. use_fault false b values rows ≡ []) (sym same) e) f)
+keeps_among names a values rows (inr (inr (inr (inr (inr (inr (inr (inr (inl same))))))))) e f = subst (λ b. Fine (used b values rows)) same (keeps_help values rows (subst (λ b. use_fault false b values rows ≡ []) (sym same) e) f)
+keeps_among names a values rows (inr (inr (inr (inr (inr (inr (inr (inr (inr none))))))))) e f = absurd none
 
 -- ---- the command line of `run`
 
@@ -262,31 +285,33 @@ has_last : (id : Text) (rows : List Row) (r : Row) → bytes_eq r.id id ≡ true
 has_last id [] r e = ap (λ b. b || false) e
 has_last id (x ∷ xs) r e = last_step (bytes_eq x.id id) _ (has_last id xs r e)
 
--- `--rounds` has a row, by its default if it wasn't given
-rounds_default : (b : Bool) (rows : List Row) → has_row (codes "rounds") rows ≡ b → Fine rows
-    → (let after = if b then rows else default_rows (codes "rounds") WithoutMinus (codes "1" ∷ []) rows in
-    Fine after × (has_row (codes "rounds") after ≡ true))
+-- `--reopen` has a row, by its default if it wasn't given
+reopen_default : (b : Bool) (rows : List Row) → has_row (codes "reopen") rows ≡ b → Fine rows
+    → (let after = if b then rows else default_rows (codes "reopen") AsWritten (codes "false" ∷ []) rows in
+    Fine after × (has_row (codes "reopen") after ≡ true))
 unfolding row_for
-rounds_default true rows is f = (f, is)
-rounds_default false rows is f =
-    let row = row_for DefaultValue (codes "rounds") WithoutMinus (codes "1" ∷ []) in
-    let added = absent (codes "rounds") (more_values DefaultValue (codes "1" ∷ [])) (row ∷ []) rows is in
-    (subst Fine (sym added) (fine_snoc rows row f (inr (inr (inl (refl, refl, (codes "1", refl, refl)))))), ap (has_row (codes "rounds")) added ∙ has_last (codes "rounds") rows row refl)
+reopen_default true rows is f = (f, is)
+reopen_default false rows is f =
+    let row = row_for DefaultValue (codes "reopen") AsWritten (codes "false" ∷ []) in
+    let added = absent (codes "reopen") (more_values DefaultValue (codes "false" ∷ [])) (row ∷ []) rows is in
+    (subst Fine (sym added) (fine_snoc rows row f (inr (inr (inr (inr (inr (inr (inr (refl, refl, inr refl))))))))), ap (has_row (codes "reopen")) added ∙ has_last (codes "reopen") rows row refl)
 
-finished_is : (names : FormatNames) (rows : List Row) → fold with_default rows (run_rules names) ≡ with_default rows rounds_rule
+finished_is : (names : FormatNames) (rows : List Row) → fold with_default rows (run_rules names) ≡ with_default rows reopen_rule
 finished_is names rows =
-    let after = with_default rows rounds_rule in
+    let after = with_default rows reopen_rule in
     let of_every = either_way (has_row (codes "every") rows) rows in
     let of_tick = either_way (has_row (codes "tick") rows) rows in
     let of_format = either_way (has_row (codes "format") rows) rows in
     let of_json = either_way (has_row (codes "json") rows) rows in
+    let of_rounds = either_way (has_row (codes "rounds") rows) rows in
     let of_record = either_way (has_row (codes "record") after) after in
     let of_path = either_way (has_row (codes "path") after) after in
     let of_help = either_way (has_row (codes "help") after) after in
-    ap (λ t. fold with_default t (tick_rule ∷ format_rule names ∷ json_rule ∷ rounds_rule ∷ record_rule ∷ path_rule ∷ help_flag ∷ [])) of_every
-    ∙ ap (λ t. fold with_default t (format_rule names ∷ json_rule ∷ rounds_rule ∷ record_rule ∷ path_rule ∷ help_flag ∷ [])) of_tick
-    ∙ ap (λ t. fold with_default t (json_rule ∷ rounds_rule ∷ record_rule ∷ path_rule ∷ help_flag ∷ [])) of_format
-    ∙ ap (λ t. fold with_default t (rounds_rule ∷ record_rule ∷ path_rule ∷ help_flag ∷ [])) of_json
+    ap (λ t. fold with_default t (tick_rule ∷ format_rule names ∷ json_rule ∷ rounds_rule ∷ reopen_rule ∷ record_rule ∷ path_rule ∷ help_flag ∷ [])) of_every
+    ∙ ap (λ t. fold with_default t (format_rule names ∷ json_rule ∷ rounds_rule ∷ reopen_rule ∷ record_rule ∷ path_rule ∷ help_flag ∷ [])) of_tick
+    ∙ ap (λ t. fold with_default t (json_rule ∷ rounds_rule ∷ reopen_rule ∷ record_rule ∷ path_rule ∷ help_flag ∷ [])) of_format
+    ∙ ap (λ t. fold with_default t (rounds_rule ∷ reopen_rule ∷ record_rule ∷ path_rule ∷ help_flag ∷ [])) of_json
+    ∙ ap (λ t. fold with_default t (reopen_rule ∷ record_rule ∷ path_rule ∷ help_flag ∷ [])) of_rounds
     ∙ ap (λ t. fold with_default t (path_rule ∷ help_flag ∷ [])) of_record
     ∙ ap (λ t. fold with_default t (help_flag ∷ [])) of_path ∙ of_help
 
@@ -300,7 +325,7 @@ there None e = absurd (search rules)
 there (Some r) e = (r, refl)
 
 abbrev HasAll : List Row → Type 0
-HasAll rows = Fine rows × (is_given (codes "every") rows ≡ true) × (has_row (codes "rounds") rows ≡ true) × (is_given (codes "path") rows ≡ true)
+HasAll rows = Fine rows × (is_given (codes "every") rows ≡ true) × (has_row (codes "reopen") rows ≡ true) × (is_given (codes "path") rows ≡ true)
 
 run_level : (names : FormatNames) (words : List Text) → level_fault (run_shape names) [] nothing_held words false [] ≡ [] → HasAll (rows_after (run_shape names).rules [] words)
 run_level names words e =
@@ -311,11 +336,11 @@ run_level names words e =
     let fine_end = walks (run_shape names) Fine (keeps_run names) [] (walk_from nothing_held) words walked_on.0 tt in
     let fine_settled = settles (run_shape names) Fine (keeps_run names) end ended.0 fine_end in
     let settled_is = (settled (run_shape names).rules end).rows in
-    let by_default = rounds_default (has_row (codes "rounds") settled_is) settled_is refl fine_settled in
+    let by_default = reopen_default (has_row (codes "reopen") settled_is) settled_is refl fine_settled in
     let fine = subst Fine (sym (finished_is names settled_is)) by_default.0 in
     let rows = finished (run_shape names).rules end in
     let given = both_given (is_given (codes "every") rows) (is_given (codes "path") rows) kind.MissingRequiredArgument checked.1 in
-    (fine, given.0, ap (has_row (codes "rounds")) (finished_is names settled_is) ∙ by_default.1, given.1)
+    (fine, given.0, ap (has_row (codes "reopen")) (finished_is names settled_is) ∙ by_default.1, given.1)
 
 -- ---- from the whole line down to `run`
 
@@ -401,7 +426,8 @@ every_row r (inr (inr (inl h))) e = let bad : false ≡ true = ap (λ t. bytes_e
 every_row r (inr (inr (inr (inl h)))) e = let bad : false ≡ true = ap (λ t. bytes_eq t (codes "every")) (sym h.0) ∙ e in absurd (search rules)
 every_row r (inr (inr (inr (inr (inl h))))) e = let bad : false ≡ true = ap (λ t. bytes_eq t (codes "every")) (sym h) ∙ e in absurd (search rules)
 every_row r (inr (inr (inr (inr (inr (inl h)))))) e = let bad : false ≡ true = ap (λ t. bytes_eq t (codes "every")) (sym h) ∙ e in absurd (search rules)
-every_row r (inr (inr (inr (inr (inr (inr h)))))) e = let bad : false ≡ true = ap (λ t. bytes_eq t (codes "every")) (sym h) ∙ e in absurd (search rules)
+every_row r (inr (inr (inr (inr (inr (inr (inl h))))))) e = let bad : false ≡ true = ap (λ t. bytes_eq t (codes "every")) (sym h) ∙ e in absurd (search rules)
+every_row r (inr (inr (inr (inr (inr (inr (inr h))))))) e = let bad : false ≡ true = ap (λ t. bytes_eq t (codes "every")) (sym h.0) ∙ e in absurd (search rules)
 
 tick_row : (r : Row) → Good r → bytes_eq r.id (codes "tick") ≡ true → IsNumber (codes "tick") 60000 r
 tick_row r (inl h) e = let bad : false ≡ true = ap (λ t. bytes_eq t (codes "tick")) (sym h.0) ∙ e in absurd (search rules)
@@ -410,7 +436,8 @@ tick_row r (inr (inr (inl h))) e = let bad : false ≡ true = ap (λ t. bytes_eq
 tick_row r (inr (inr (inr (inl h)))) e = let bad : false ≡ true = ap (λ t. bytes_eq t (codes "tick")) (sym h.0) ∙ e in absurd (search rules)
 tick_row r (inr (inr (inr (inr (inl h))))) e = let bad : false ≡ true = ap (λ t. bytes_eq t (codes "tick")) (sym h) ∙ e in absurd (search rules)
 tick_row r (inr (inr (inr (inr (inr (inl h)))))) e = let bad : false ≡ true = ap (λ t. bytes_eq t (codes "tick")) (sym h) ∙ e in absurd (search rules)
-tick_row r (inr (inr (inr (inr (inr (inr h)))))) e = let bad : false ≡ true = ap (λ t. bytes_eq t (codes "tick")) (sym h) ∙ e in absurd (search rules)
+tick_row r (inr (inr (inr (inr (inr (inr (inl h))))))) e = let bad : false ≡ true = ap (λ t. bytes_eq t (codes "tick")) (sym h) ∙ e in absurd (search rules)
+tick_row r (inr (inr (inr (inr (inr (inr (inr h))))))) e = let bad : false ≡ true = ap (λ t. bytes_eq t (codes "tick")) (sym h.0) ∙ e in absurd (search rules)
 
 rounds_row : (r : Row) → Good r → bytes_eq r.id (codes "rounds") ≡ true → IsNumber (codes "rounds") 1000 r
 rounds_row r (inl h) e = let bad : false ≡ true = ap (λ t. bytes_eq t (codes "rounds")) (sym h.0) ∙ e in absurd (search rules)
@@ -419,7 +446,18 @@ rounds_row r (inr (inr (inl h))) e = h
 rounds_row r (inr (inr (inr (inl h)))) e = let bad : false ≡ true = ap (λ t. bytes_eq t (codes "rounds")) (sym h.0) ∙ e in absurd (search rules)
 rounds_row r (inr (inr (inr (inr (inl h))))) e = let bad : false ≡ true = ap (λ t. bytes_eq t (codes "rounds")) (sym h) ∙ e in absurd (search rules)
 rounds_row r (inr (inr (inr (inr (inr (inl h)))))) e = let bad : false ≡ true = ap (λ t. bytes_eq t (codes "rounds")) (sym h) ∙ e in absurd (search rules)
-rounds_row r (inr (inr (inr (inr (inr (inr h)))))) e = let bad : false ≡ true = ap (λ t. bytes_eq t (codes "rounds")) (sym h) ∙ e in absurd (search rules)
+rounds_row r (inr (inr (inr (inr (inr (inr (inl h))))))) e = let bad : false ≡ true = ap (λ t. bytes_eq t (codes "rounds")) (sym h) ∙ e in absurd (search rules)
+rounds_row r (inr (inr (inr (inr (inr (inr (inr h))))))) e = let bad : false ≡ true = ap (λ t. bytes_eq t (codes "rounds")) (sym h.0) ∙ e in absurd (search rules)
+
+reopen_row : (r : Row) → Good r → bytes_eq r.id (codes "reopen") ≡ true → IsFlag (codes "reopen") r
+reopen_row r (inl h) e = let bad : false ≡ true = ap (λ t. bytes_eq t (codes "reopen")) (sym h.0) ∙ e in absurd (search rules)
+reopen_row r (inr (inl h)) e = let bad : false ≡ true = ap (λ t. bytes_eq t (codes "reopen")) (sym h.0) ∙ e in absurd (search rules)
+reopen_row r (inr (inr (inl h))) e = let bad : false ≡ true = ap (λ t. bytes_eq t (codes "reopen")) (sym h.0) ∙ e in absurd (search rules)
+reopen_row r (inr (inr (inr (inl h)))) e = let bad : false ≡ true = ap (λ t. bytes_eq t (codes "reopen")) (sym h.0) ∙ e in absurd (search rules)
+reopen_row r (inr (inr (inr (inr (inl h))))) e = let bad : false ≡ true = ap (λ t. bytes_eq t (codes "reopen")) (sym h) ∙ e in absurd (search rules)
+reopen_row r (inr (inr (inr (inr (inr (inl h)))))) e = let bad : false ≡ true = ap (λ t. bytes_eq t (codes "reopen")) (sym h) ∙ e in absurd (search rules)
+reopen_row r (inr (inr (inr (inr (inr (inr (inl h))))))) e = let bad : false ≡ true = ap (λ t. bytes_eq t (codes "reopen")) (sym h) ∙ e in absurd (search rules)
+reopen_row r (inr (inr (inr (inr (inr (inr (inr h))))))) e = h
 
 path_values : (r : Row) → Good r → bytes_eq r.id (codes "path") ≡ true → (1 ≤ length r.values) × (length r.values ≤ 8)
 path_values r (inl h) e = let bad : false ≡ true = ap (λ t. bytes_eq t (codes "path")) (sym h.0) ∙ e in absurd (search rules)
@@ -428,7 +466,8 @@ path_values r (inr (inr (inl h))) e = let bad : false ≡ true = ap (λ t. bytes
 path_values r (inr (inr (inr (inl h)))) e = (h.1, h.2)
 path_values r (inr (inr (inr (inr (inl h))))) e = let bad : false ≡ true = ap (λ t. bytes_eq t (codes "path")) (sym h) ∙ e in absurd (search rules)
 path_values r (inr (inr (inr (inr (inr (inl h)))))) e = let bad : false ≡ true = ap (λ t. bytes_eq t (codes "path")) (sym h) ∙ e in absurd (search rules)
-path_values r (inr (inr (inr (inr (inr (inr h)))))) e = let bad : false ≡ true = ap (λ t. bytes_eq t (codes "path")) (sym h) ∙ e in absurd (search rules)
+path_values r (inr (inr (inr (inr (inr (inr (inl h))))))) e = let bad : false ≡ true = ap (λ t. bytes_eq t (codes "path")) (sym h) ∙ e in absurd (search rules)
+path_values r (inr (inr (inr (inr (inr (inr (inr h))))))) e = let bad : false ≡ true = ap (λ t. bytes_eq t (codes "path")) (sym h.0) ∙ e in absurd (search rules)
 
 abbrev GivesNumber : Text → ℕ → List Row → Type 0
 GivesNumber id most rows = (v : Text) × (one_of id rows ≡ Some v) × IsNumberUpTo most v
@@ -441,21 +480,32 @@ number_given id most r rows found h =
     let numeral = subst (λ b. IsNumeral 10 (cond b (drop 1 v) (without_leading_plus v))) facts.0 (accepts-Accepts false (Signed (pos 1) (pos most)) v h.2.2).0 in
     (v, ap (option_and_then row_text) found ∙ read ∙ ap (λ t. Some t) (no_minus v facts.0), record { numeral = numeral; least = facts.1; most = facts.2 })
 
-tick_if_given : (o : Option Row) (rows : List Row) → find (λ r. bytes_eq r.id (codes "tick")) rows ≡ o → Fine rows → IfSome (one_of (codes "tick") rows) (IsNumberUpTo 60000)
-tick_if_given None rows found f = subst (λ o. IfSome (option_and_then row_text o) (IsNumberUpTo 60000)) (sym found) tt
-tick_if_given (Some r) rows found f =
-    let good = fine_found rows (λ r. bytes_eq r.id (codes "tick")) r found f in
-    let given = number_given (codes "tick") 60000 r rows found (tick_row r good.0 good.1) in
-    subst (λ o. IfSome o (IsNumberUpTo 60000)) (sym given.1) given.2
+-- an option that may be missing has a number if it is given
+number_if_met : (id : Text) (most : ℕ) → ((r : Row) → Good r → bytes_eq r.id id ≡ true → IsNumber id most r) → (o : Option Row) (rows : List Row) → find (λ r. bytes_eq r.id id) rows ≡ o → Fine rows
+    → IfSome (one_of id rows) (IsNumberUpTo most)
+number_if_met id most row None rows found f = subst (λ o. IfSome (option_and_then row_text o) (IsNumberUpTo most)) (sym found) tt
+number_if_met id most row (Some r) rows found f =
+    let good = fine_found rows (λ r. bytes_eq r.id id) r found f in
+    let given = number_given id most r rows found (row r good.0 good.1) in
+    subst (λ o. IfSome o (IsNumberUpTo most)) (sym given.1) given.2
+
+flag_text : (text : Text) (r : Row) → r.reading ≡ AsWritten → r.values ≡ text ∷ [] → row_text r ≡ Some text
+flag_text text r how values = ap₂ {C = Option Text} (λ h vs. option_map (read_as h) (slice_get vs 0)) how values
+
+flag_given : (id : Text) (r : Row) (rows : List Row) → find (λ r. bytes_eq r.id id) rows ≡ Some r → IsFlag id r → IsFlagText (one_of id rows)
+flag_given id r rows found h =
+    elim h.2 [
+      | inl given ↦ inl (ap (option_and_then row_text) found ∙ flag_text (codes "true") r h.1 given)
+      | inr missing ↦ inr (ap (option_and_then row_text) found ∙ flag_text (codes "false") r h.1 missing)
+    ]
 
 given_values : (rows : List Row) → HasAll rows → IsGiven rows
 given_values rows h =
     let met_every = there (find (λ r. bytes_eq r.id (codes "every")) rows) h.1 in
     let good_every = fine_found rows (λ r. bytes_eq r.id (codes "every")) met_every.0 met_every.1 h.0 in
     let milliseconds = number_given (codes "every") 3600000 met_every.0 rows met_every.1 (every_row met_every.0 good_every.0 good_every.1) in
-    let met_rounds = row_of (codes "rounds") rows h.2 in
-    let good_rounds = fine_found rows (λ r. bytes_eq r.id (codes "rounds")) met_rounds.0 met_rounds.1 h.0 in
-    let times = number_given (codes "rounds") 1000 met_rounds.0 rows met_rounds.1 (rounds_row met_rounds.0 good_rounds.0 good_rounds.1) in
+    let met_reopen = row_of (codes "reopen") rows h.2 in
+    let good_reopen = fine_found rows (λ r. bytes_eq r.id (codes "reopen")) met_reopen.0 met_reopen.1 h.0 in
     let met_path = there (find (λ r. bytes_eq r.id (codes "path")) rows) h.3 in
     let good_path = fine_found rows (λ r. bytes_eq r.id (codes "path")) met_path.0 met_path.1 h.0 in
     let counts = path_values met_path.0 good_path.0 good_path.1 in
@@ -463,10 +513,9 @@ given_values rows h =
       text = milliseconds.0;
       every = milliseconds.1;
       every_fits = milliseconds.2;
-      tick_fits = tick_if_given (find (λ r. bytes_eq r.id (codes "tick")) rows) rows refl h.0;
-      rounds_text = times.0;
-      rounds = times.1;
-      rounds_fits = times.2;
+      tick_fits = number_if_met (codes "tick") 60000 tick_row (find (λ r. bytes_eq r.id (codes "tick")) rows) rows refl h.0;
+      rounds_fit = number_if_met (codes "rounds") 1000 rounds_row (find (λ r. bytes_eq r.id (codes "rounds")) rows) rows refl h.0;
+      reopen_is = flag_given (codes "reopen") met_reopen.0 rows met_reopen.1 (reopen_row met_reopen.0 good_reopen.0 good_reopen.1);
       paths = met_path.0.values;
       paths_are = ap (option_map (λ r. r.values)) met_path.1;
       some = counts.0;

@@ -1,6 +1,6 @@
 -- From what `clap` ensures of its getters to the job.
-use Rattle.std.proofs.Common.{inl, inr, ◌⊎◌, ◌≡◌, ◌∙◌, ℕ, ◌≤◌, ◌<◌, ◌^◌, List, Option, Some, None, IfSome, Result, Ok, Err, true, arith, map, option_map, refl, sym, ap, ap₂, length, codes}
-use Rattle.std.specs.Prelude.{unwrap_or}
+use Rattle.std.proofs.Common.{inl, inr, ◌⊎◌, ◌≡◌, ◌∙◌, ℕ, ◌≤◌, ◌<◌, ◌^◌, List, Option, Some, None, IfSome, Result, Ok, Err, Bool, true, false, arith, map, option_map, refl, sym, ap, ap₂, length, codes}
+use Rattle.std.specs.Prelude.{is_some, unwrap_or}
 use Rattle.std.specs.Box.{box_value}
 use Rattle.clap.specs.declared.parser.matches.ArgMatches.{ArgMatches}
 use Rattle.clap.specs.declared.parser.matches.ArgMatches.TheViews.{out-ArgMatches, out-SubCommand}
@@ -13,7 +13,7 @@ use Rattle.clap.specs.Words.{App, ReadsOne, Row, Text, found_of, is_simple, rows
 use Rattle.clap.specs.Faults.{is_simple_and_free}
 use Rattle.station_main.proofs.JobLemmas.{NamesJobOf}
 use Rattle.clap.proofs.OnLiterals.{clap_on_literals}
-use Rattle.station_main.specs.Command.{FormatNames, GivesJob, IsNumberUpTo, NamesJob, number, number_if_given, station}
+use Rattle.station_main.specs.Command.{FormatNames, GivesJob, IsFlagText, IsNumberUpTo, NamesJob, is_set, number, number_if_given, station}
 
 pub is_simple-station : (names : FormatNames) → is_simple (station names) ≡ true
 unfolding clap_on_literals
@@ -46,6 +46,20 @@ pub fits_if_given : (most : ℕ) (one : Option (List ℕ)) → IfSome one (IsNum
 fits_if_given most None fits = tt
 fits_if_given most (Some t) fits = (fits.least, fits.most)
 
+-- rounds that aren't given are one
+pub rounds_in_range : (rounds : Option ℕ) → IfSome rounds (λ n. (1 ≤ n) × (n ≤ 1000)) → (1 ≤ unwrap_or rounds 1) × (unwrap_or rounds 1 ≤ 1000)
+rounds_in_range None fits = (omega arith, omega arith)
+rounds_in_range (Some n) fits = fits
+
+pub number_is_some : (given : Option Text) → is_some (number_if_given given) ≡ is_some given
+number_is_some None = refl
+number_is_some (Some text) = refl
+
+-- what `get_flag` read
+pub reads_flag : (text : Option Text) (got : Bool) → IsFlagText text → (text ≡ Some (codes "true") → got ≡ true) → (text ≡ Some (codes "false") → got ≡ false) → got ≡ is_set text
+reads_flag text got (inl given) if_true if_false = if_true given ∙ sym (ap is_set given)
+reads_flag text got (inr missing) if_true if_false = if_false missing ∙ sym (ap is_set missing)
+
 -- a `map` keeps the number of its items
 pub same_length : {A B C : Type 0} (f : A → C) (g : B → C) (xs : List A) (ys : List B) → map f xs ≡ map g ys → length xs ≡ length ys
 same_length f g xs ys e = sym (length-map xs f) ∙ ap length e ∙ length-map ys g
@@ -69,7 +83,7 @@ known_rows m name rows n r =
 pub names_run : (app : App) (words : List Text) (rows : List Row) → subcommand_of app words ≡ Some (codes "run", rows)
     → (job : Job) → GivesJob rows job → NamesJob app words job
 names_run app words rows is (Replay tables) given = absurd given
-names_run app words rows is (Run pace times paths file tables folder) given = (rows, is, given)
+names_run app words rows is (Run pace times reopens paths file tables folder) given = (rows, is, given)
 
 name_first : {B : Type 0} (f : B → Text) (g : B → List Row) (o : Option B) → option_map {T = Text × List Row} (λ p. p.0) (option_map {U = Text × List Row} (λ b. (f b, g b)) o) ≡ option_map f o
 name_first f g None = refl

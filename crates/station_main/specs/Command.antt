@@ -1,5 +1,5 @@
 -- The command line as `clap` reads it, and the job that it names.
-use Rattle.std.specs.Prelude.{◌≡◌, ◌≤◌, ℕ, List, [], ◌∷◌, Option, IfSome, Some, None, codes, true, false, pos, map, length, option_map, if◌then◌else◌, ⊤}
+use Rattle.std.specs.Prelude.{◌≡◌, ◌≤◌, ℕ, List, [], ◌∷◌, Option, IfSome, Some, None, codes, true, false, pos, map, length, option_map, unwrap_or, Bool, is_some, ◌&&◌, ◌⊎◌, if◌then◌else◌, ⊤}
 use Rattle.std.specs.Borrow.{Bor}
 use Rattle.std.specs.Str.{bytes_eq}
 use Rattle.std.specs.String.{string_bytes}
@@ -9,7 +9,7 @@ use Rattle.clap.specs.Words.{app_of, rule_of, with_rule, with_subcommand}
 use Rattle.clap.specs.declared.builder.arg.Arg.{Arg}
 use Rattle.clap.specs.declared.builder.command.Command.{Command}
 use Rattle.clap.specs.declared.builder.command.Command.TheViews.{out-Command}
-use Rattle.clap.specs.declared.builder.action.ArgAction.TheVariants.{Set}
+use Rattle.clap.specs.declared.builder.action.ArgAction.TheVariants.{Set, SetTrue}
 use Rattle.clap.specs.declared.builder.value_parser.ValueParser.TheVariants.{Names, Signed}
 use Rattle.station_report.specs.declared.formats.Format.{Format}
 use Rattle.station_report.specs.declared.formats.Format.TheVariants as Formats
@@ -38,13 +38,19 @@ tick = record (new_rule (codes "tick")) {
   parser = Some (Signed (pos 1) (pos 60000));
 }
 
--- `--rounds R`: a whole number from 1 to 1,000, or 1 if it isn't given
+-- `--rounds R`: a whole number from 1 to 1,000, and not required
 abbrev pub rounds : Rule
 rounds = record (new_rule (codes "rounds")) {
   long = Some (codes "rounds");
   value_names = 1;
-  defaults = codes "1" ∷ [];
   parser = Some (Signed (pos 1) (pos 1000));
+}
+
+-- `--reopen`: a flag, at most once
+abbrev pub reopen : Rule
+reopen = record (new_rule (codes "reopen")) {
+  long = Some (codes "reopen");
+  action = Some SetTrue;
 }
 
 -- `--record FILE`: any text, at most once, and not required
@@ -96,7 +102,7 @@ abbrev pub run_formats : FormatNames → App
 run_formats names = with_rule (with_rule run_times (format names)) json_folder
 
 abbrev pub run_options : FormatNames → App
-run_options names = with_rule (with_rule (run_formats names) rounds) record_file
+run_options names = with_rule (with_rule (with_rule (run_formats names) rounds) reopen) record_file
 
 abbrev pub run : FormatNames → App
 run names = with_rule (run_options names) path
@@ -139,16 +145,37 @@ format_since form.Json origin = Formats.Json origin
 abbrev pub number_if_given : Option Text → Option ℕ
 number_if_given given = option_map number given
 
--- the values of the options and of PATH in a command line of `run`: the paths in their order, and a tick and a file only if
--- they are given
-pub record GivesRun (rows : List Row) (pace : Pace) (times : ℕ) (paths : List Text) (file : Option Text) (tables : TableFormat) (folder : Option Text) : Type 0 where
+-- whether a flag is given, by its text
+abbrev pub is_set : Option Text → Bool
+is_set None = false
+is_set (Some text) = bytes_eq text (codes "true")
+
+-- the texts of a flag: one if it is given, and else the other
+abbrev pub IsFlagText : Option Text → Type 0
+IsFlagText text = (text ≡ Some (codes "true")) ⊎ (text ≡ Some (codes "false"))
+
+-- both `--reopen` and `--rounds` are among the options of `run`
+abbrev pub gives_both : List Row → Bool
+gives_both rows = is_set (one_of (codes "reopen") rows) && is_some (one_of (codes "rounds") rows)
+
+abbrev pub run_gives_both : Option (Text × List Row) → Bool
+run_gives_both None = false
+run_gives_both (Some named) = bytes_eq named.0 (codes "run") && gives_both named.1
+
+-- the command line is one of `run` with both of them
+abbrev pub reopens_rounds : App → List Text → Bool
+reopens_rounds app words = run_gives_both (subcommand_of app words)
+
+-- the values of the options and of PATH in a command line of `run`: the paths in their order, a tick and a file only if they
+-- are given, one round if no rounds are given, and never both `--reopen` and `--rounds`
+pub record GivesRun (rows : List Row) (pace : Pace) (times : ℕ) (reopens : Bool) (paths : List Text) (file : Option Text) (tables : TableFormat) (folder : Option Text) : Type 0 where
   pub text : Text
   pub every : one_of (codes "every") rows ≡ Some text
   pub every_is : pace.every ≡ number text
   pub tick_is : pace.tick ≡ number_if_given (one_of (codes "tick") rows)
-  pub rounds_text : Text
-  pub rounds : one_of (codes "rounds") rows ≡ Some rounds_text
-  pub rounds_is : times ≡ number rounds_text
+  pub rounds_are : times ≡ unwrap_or (number_if_given (one_of (codes "rounds") rows)) 1
+  pub reopens_is : reopens ≡ is_set (one_of (codes "reopen") rows)
+  pub not_both : gives_both rows ≡ false
   pub paths_are : all_of (codes "path") rows ≡ Some paths
   pub file_is : file ≡ first_of (codes "record") rows
   pub folder_is : folder ≡ first_of (codes "json") rows
@@ -166,9 +193,8 @@ pub record IsGiven (rows : List Row) : Type 0 where
   pub every : one_of (codes "every") rows ≡ Some text
   pub every_fits : IsNumberUpTo 3600000 text
   pub tick_fits : IfSome (one_of (codes "tick") rows) (IsNumberUpTo 60000)
-  pub rounds_text : Text
-  pub rounds : one_of (codes "rounds") rows ≡ Some rounds_text
-  pub rounds_fits : IsNumberUpTo 1000 rounds_text
+  pub rounds_fit : IfSome (one_of (codes "rounds") rows) (IsNumberUpTo 1000)
+  pub reopen_is : IsFlagText (one_of (codes "reopen") rows)
   pub paths : List Text
   pub paths_are : all_of (codes "path") rows ≡ Some paths
   pub some : 1 ≤ length paths
@@ -176,22 +202,29 @@ pub record IsGiven (rows : List Row) : Type 0 where
 
 abbrev pub GivesJob : List Row → Job → Type 0
 GivesJob rows (Replay tables) = ⊥
-GivesJob rows (Run pace times paths file tables folder) =
-    GivesRun rows pace times (map string_bytes paths.items) (option_map string_bytes file) tables (option_map string_bytes folder)
+GivesJob rows (Run pace times reopens paths file tables folder) =
+    GivesRun rows pace times reopens (map string_bytes paths.items) (option_map string_bytes file) tables (option_map string_bytes folder)
 
 -- the job is the one that the command line names
 abbrev pub NamesJob : App → List Text → Job → Type 0
 NamesJob app words (Replay tables) =
     (rows : List Row) × (subcommand_of app words ≡ Some (codes "replay", rows)) × (tables ≡ format_named (first_of (codes "format") rows))
-NamesJob app words (Run pace times paths file tables folder) =
+NamesJob app words (Run pace times reopens paths file tables folder) =
     (rows : List Row) × (subcommand_of app words ≡ Some (codes "run", rows))
-    × GivesRun rows pace times (map string_bytes paths.items) (option_map string_bytes file) tables (option_map string_bytes folder)
+    × GivesRun rows pace times reopens (map string_bytes paths.items) (option_map string_bytes file) tables (option_map string_bytes folder)
 
 -- why there is no job: out of memory, or `clap` finds a fault of this kind in the command line, or help or the version is asked
--- for
+-- for, or `clap` finds no fault and both `--reopen` and `--rounds` are given
 abbrev pub IsWordsFault : App → List Text → WordsFault → Type 0
 IsWordsFault app words words_fault.NoMemory = ⊤
 IsWordsFault app words (words_fault.Clap error) = IsAmong (kind_of error) (fault_of app words)
+IsWordsFault app words words_fault.ReopensRounds = (fault_of app words ≡ []) × (reopens_rounds app words ≡ true)
+
+-- why there is no job if `clap` accepts the command line: out of memory, or both are given
+abbrev pub IsOwnFault : App → List Text → WordsFault → Type 0
+IsOwnFault app words words_fault.NoMemory = ⊤
+IsOwnFault app words (words_fault.Clap error) = ⊥
+IsOwnFault app words words_fault.ReopensRounds = reopens_rounds app words ≡ true
 
 -- a table every 1 to 3,600,000 milliseconds, and a tick, if any, every 1 to 60,000
 pub record IsPace (pace : Pace) : Type 0 where
@@ -202,5 +235,5 @@ pub record IsPace (pace : Pace) : Type 0 where
 -- such a pace, 1 to 1,000 rounds, and 1 to 8 paths
 abbrev pub IsInRange : Job → Type 0
 IsInRange (Replay tables) = ⊤
-IsInRange (Run pace times paths file tables folder) = IsPace pace × (1 ≤ times) × (times ≤ 1000)
+IsInRange (Run pace times reopens paths file tables folder) = IsPace pace × (1 ≤ times) × (times ≤ 1000)
     × (1 ≤ length paths.items) × (length paths.items ≤ 8)

@@ -1,17 +1,32 @@
--- The inputs of a run: what opening the paths gave.
-use Rattle.std.specs.Prelude.{◌≡◌, List}
-use Rattle.std.specs.Io.Buffered.{reader_inner}
+-- The inputs of a run: what threads send of what opening the paths gave.
+use Rattle.std.specs.Prelude.{◌≡◌, List, [], ◌∷◌, Some, ⊤}
 use Rattle.std.specs.String.{string_bytes}
+use Rattle.std.specs.declared.alloc.Global.{Global}
 use Rattle.clap.specs.Words.{Text}
-use Rattle.station_lines.specs.declared.from_buffer.FromBuffer.{FromBuffer}
+use Rattle.rtrb.specs.Ring.{IsPair, received}
+use Rattle.rtrb.specs.declared.consumer.Consumer.{Consumer}
+use Rattle.rtrb.specs.declared.AnyItems.{AnyItems}
+use Rattle.station_lines.specs.Drawing.{Drawn}
+use Rattle.station_portions.specs.declared.finished_path.WholePath.{WholePath}
+use Rattle.station_portions.specs.declared.message.Message.{Message}
 use Rattle.station_main.specs.declared.opened.Opened.{Opened}
 
--- the path that was opened for this input
-abbrev pub path_of : FromBuffer Opened → Text
-path_of input = string_bytes (reader_inner input.inner).path.value
+-- the path that was opened
+abbrev pub path_of : Opened → Text
+path_of opened = string_bytes opened.path.value
 
--- no read of it was made
-pub record IsUnread (input : FromBuffer Opened) : Type 0 where
-  pub reads : input.reads ≡ 0
-  pub ends : input.ends ≡ 0
-  pub failures : input.failures ≡ 0
+-- what this source gives comes from a thread, which promised to send the lines of all that opening this path gave; no byte of it
+-- was given yet
+pub record IsFedBy (path : Text) (source : Drawn) : Type 0 where
+  pub promise : WholePath Opened
+  pub opened : path_of promise.from.value ≡ path
+  pub messages : Consumer Message Global AnyItems
+  pub pair : IsPair promise.reader.value.messages messages
+  pub none : received messages ≡ []
+  pub unread : source.bytes.given ≡ Some []
+
+-- each source comes from the path at its place
+abbrev pub AreFed : List Text → List Drawn → Type 0
+AreFed [] [] = ⊤
+AreFed (path ∷ paths) (source ∷ sources) = IsFedBy path source × AreFed paths sources
+AreFed paths sources = ⊥

@@ -5,11 +5,11 @@ use Rattle.clap.specs.Words.{App, IsAmong, Text, fault_of}
 use Rattle.clap.specs.declared.error.kind.ErrorKind.{ErrorKind}
 use Rattle.clap.specs.declared.error.kind.ErrorKind.TheVariants as kind
 use Rattle.station_report.specs.Sink.{AppendsFront}
-use Rattle.station_main.specs.Command.{IsStation, NamesJob, format_since}
-use Rattle.station_main.specs.Limits.{program_limits}
+use Rattle.station_main.specs.Command.{IsStation, NamesJob, format_since, reopens_rounds}
+use Rattle.station_main.specs.Limits.{forget_at, program_limits}
 use Rattle.station_main.specs.Replay.{EndsReplay}
 use Rattle.station_main.specs.Rounds.{RunsAsked, RunsForDisplays}
-use Rattle.station_main.specs.Telling.{OutOfMemory, Tells, Told}
+use Rattle.station_main.specs.Telling.{OutOfMemory, Tells, Told, reopens_rounds_text}
 use Rattle.station_main.specs.declared.words.Job.{Job}
 use Rattle.station_main.specs.declared.words.Job.TheVariants.{Replay, Run}
 
@@ -18,9 +18,9 @@ use Rattle.station_main.specs.declared.words.Job.TheVariants.{Replay, Run}
 abbrev pub IsDone : Job → (origin : ℕ) → Option (List ℕ) → Option (List ℕ) → Option (Option (List ℕ)) → Option (List ℕ) → Told → Told → ℕ → Type 0
 IsDone (Replay form) origin input before None alarm err_old err_new status = OutOfMemory err_old err_new status
 IsDone (Replay form) origin input before (Some after) alarm err_old err_new status = EndsReplay (format_since form 0) program_limits input before after err_old err_new status
-IsDone (Run pace rounds paths file form folder) origin input before after alarm err_old err_new status =
+IsDone (Run pace rounds reopens paths file form folder) origin input before after alarm err_old err_new status =
     RunsForDisplays (is_some folder)
-    (RunsAsked (option_map string_bytes file) (record { tables = record { pace = pace; format = format_since form origin }; paths = map string_bytes paths.items }) (rounds - 1) before after alarm err_old err_new)
+    (RunsAsked (option_map string_bytes file) (record { tables = record { pace = pace; format = format_since form origin }; paths = map string_bytes paths.items; hand_over_at = forget_at }) (rounds - 1) before after alarm err_old err_new)
     after err_old err_new status
 
 -- `clap` accepts the command line, and the job that it names is done
@@ -56,10 +56,17 @@ pub record IsRefused (app : App) (words : List Text) (before : Option (List ℕ)
   pub text : List ℕ
   pub says : Says (is_shown kind) text before after err_old err_new status
 
--- what a command line leaves that is accepted
+-- `clap` accepts a command line with both `--reopen` and `--rounds`, which is refused in the form of `clap`
+pub record RefusesBoth (app : App) (words : List Text) (before : Option (List ℕ)) (after : Option (Option (List ℕ))) (err_old err_new : Told) (status : ℕ) : Type 0 where
+  pub accepted : fault_of app words ≡ []
+  pub both : reopens_rounds app words ≡ true
+  pub says : Says false reopens_rounds_text before after err_old err_new status
+
+-- what a command line leaves that `clap` accepts
 abbrev pub IsAnswered : App → List Text → (origin : ℕ) → Option (List ℕ) → Option (List ℕ) → Option (Option (List ℕ)) → Option (List ℕ) → Told → Told → ℕ → Type 0
 IsAnswered app words origin input before after alarm err_old err_new status =
-    DoesJob app words origin input before after alarm err_old err_new status ⊎ HasNoMemory after err_old err_new status
+    DoesJob app words origin input before after alarm err_old err_new status
+    ⊎ (HasNoMemory after err_old err_new status ⊎ RefusesBoth app words before after err_old err_new status)
 
 -- what any command line leaves
 abbrev pub IsObeyed : App → List Text → (origin : ℕ) → Option (List ℕ) → Option (List ℕ) → Option (Option (List ℕ)) → Option (List ℕ) → Told → Told → ℕ → Type 0

@@ -1,5 +1,5 @@
 -- When the reporter acts, and what it prints.
-use Rattle.std.specs.Prelude.{◌≡◌, ℕ, ◌+◌, ◌-◌, ◌*◌, ◌^◌, ◌≤◌, ◌<◌, ◌⊎◌, Bool, true, false, List, [], ◌∷◌, Option, Some, None, IfSome, map, min, nat_le, unwrap_or, if◌then◌else◌}
+use Rattle.std.specs.Prelude.{◌≡◌, ℕ, ◌+◌, ◌-◌, ◌*◌, ◌/◌, ◌^◌, ◌≤◌, ◌<◌, ◌⊎◌, ◌&&◌, Bool, true, false, List, [], ◌∷◌, Option, Some, None, IfSome, cond, length, map, min, nat_le, nat_lt, unwrap_or, if◌then◌else◌}
 use Rattle.std.specs.Option.{option_map_or}
 use Rattle.std.specs.Duration.{as_nanos}
 use Rattle.station_journal.specs.declared.entry.Entry.TheVariants.{Tick}
@@ -13,6 +13,7 @@ use Rattle.station_main.specs.Tables.{TakesTexts, failures_after}
 use Rattle.station_main.specs.declared.schedule.Act.{Act}
 use Rattle.station_main.specs.declared.schedule.Act.TheVariants as act
 use Rattle.station_main.specs.declared.schedule.Due.{Due}
+use Rattle.station_main.specs.declared.duties.Duties.{Duties}
 use Rattle.station_main.specs.declared.schedule.Pace.{Pace}
 use Rattle.station_main.specs.declared.schedule.Tables.{Tables}
 
@@ -64,6 +65,13 @@ due_moments pace due (now ∷ moments) =
     else (if has_come due.tick now then (record { at = now; has_table = false } ∷ due_moments pace (after_tick pace due now) moments)
     else due_moments pace due moments)
 
+-- what is due next after these times of a clock
+abbrev pub due_after : Pace → Due → List ℕ → Due
+due_after pace due [] = due
+due_after pace due (now ∷ moments) =
+    cond (nat_le due.table now) (due_after pace (after_table pace now) moments)
+    (cond (has_come due.tick now) (due_after pace (after_tick pace due now) moments) (due_after pace due moments))
+
 -- ---- what it prints
 
 -- a tick alone or with a table: its time, the seat after the tick, and the seat after the look, unless that was refused
@@ -94,20 +102,54 @@ abbrev pub Showings : Start → Seated → List Showing → Seated → Type 0
 Showings start old [] new = new ≡ old
 Showings start old (showing ∷ showings) new = IsShowing start old showing × Showings start (seat_after showing) showings new
 
--- tables and ticks alone at just those times of the clock at which they are due, the first one interval after the last tick
-pub record KeepsTime (start : Start) (pace : Pace) (last : ℕ) (moments : List ℕ) (old : Seated) (showings : List Showing) (new : Seated) : Type 0 where
-  pub due : map (λ (showing : Showing). showing.acting) showings ≡ due_moments pace (after_table pace last) moments
+-- a seat that may have looked, and showed nothing
+abbrev pub IsLater : Start → Seated → Seated → Type 0
+IsLater start old new = (new ≡ old) ⊎ Looks start old new
+
+-- tables and ticks alone at just those times of the clock at which they are due
+pub record KeepsTime (start : Start) (pace : Pace) (due : Due) (moments : List ℕ) (old : Seated) (showings : List Showing) (new : Seated) : Type 0 where
+  pub acts : map (λ (showing : Showing). showing.acting) showings ≡ due_moments pace due moments
   pub walk : Showings start old showings new
 
--- a reporter whose clock gave these times, from one seat to another; the record goes on with what its looks have seen
-pub record Reports (start : Start) (tables : Tables) (last : ℕ) (moments : List ℕ) (old new : Seated) (before after : Printed) (was is : Option Recording) (has_failed : Bool) : Type 0 where
+-- a reporter whose clock gave these times, from one seat to another, and what is due next; the record goes on with what its
+-- looks have seen
+pub record Reports (start : Start) (tables : Tables) (due next : Due) (moments : List ℕ) (old new : Seated) (before after : Printed) (was is : Option Recording) (has_failed : Bool) : Type 0 where
   pub showings : List Showing
-  pub keeps : KeepsTime start tables.pace last moments old showings new
+  pub shown : Seated
+  pub keeps : KeepsTime start tables.pace due moments old showings shown
+  pub later : IsLater start shown new
+  pub next_is : next ≡ due_after tables.pace due moments
   pub takes : TakesTexts tables.format start (looks_of showings) before.taken after.taken has_failed
   pub failures : after.failures ≡ failures_after has_failed before.failures
   pub records : IfRecording (Records (seen_by (looks_of showings))) was is
 
--- a reporter by some clock
-abbrev pub ReportsByAClock : Start → Tables → ℕ → Seated → Seated → Printed → Printed → Option Recording → Option Recording → Bool → Type 0
-ReportsByAClock start tables last old new before after was is has_failed =
-    (moments : List ℕ) × Reports start tables last moments old new before after was is has_failed
+-- a reporter that finds this many entries asks for a hand-over: they are enough, it isn't too early, and no table is due within a
+-- second, or within the interval between tables if that is shorter
+abbrev pub asks : Duties → (entries now : ℕ) → Due → Bool
+asks duties entries now due = nat_le duties.hand_over_at entries && nat_le duties.not_before now && nat_le (min duties.tables.pace.every 1000) (due.table - now)
+
+-- the time before which none is asked for after one that left this many entries: where they are more than half of those that ask
+-- for one, ten seconds after the last tick, at most 2^64 - 1
+abbrev pub not_before : (hand_over_at entries last_tick : ℕ) → ℕ
+not_before hand_over_at entries last_tick = if nat_lt (hand_over_at / 2) entries then next_moment 10000 last_tick else 0
+
+-- a hand-over is asked for at a time: the journal has so many entries, no write has failed, and the seat ticks alone once more;
+-- the table is due where it was
+pub record HandsOver (start : Start) (duties : Duties) (at : ℕ) (due next : Due) (old new : Seated) (has_failed : Bool) : Type 0 where
+  pub full : duties.hand_over_at ≤ length old.seen
+  pub well : has_failed ≡ false
+  pub ticks : Ticks start old at new
+  pub next_is : next ≡ after_tick duties.tables.pace due at
+
+-- where none is asked for nothing is done
+abbrev pub MayHandOver : Start → Duties → Option ℕ → Due → Due → Seated → Seated → Bool → Type 0
+MayHandOver start duties None due next old new has_failed = (new ≡ old) × (next ≡ due)
+MayHandOver start duties (Some at) due next old new has_failed = HandsOver start duties at due next old new has_failed
+
+-- a reporter by some clock, which may ask for a hand-over at its end
+pub record ReportsByAClock (start : Start) (duties : Duties) (next : Due) (asked_at : Option ℕ) (old new : Seated) (before after : Printed) (was is : Option Recording) (has_failed : Bool) : Type 0 where
+  pub moments : List ℕ
+  pub due : Due
+  pub mid : Seated
+  pub reports : Reports start duties.tables duties.due due moments old mid before after was is has_failed
+  pub hands_over : MayHandOver start duties asked_at due next mid new has_failed

@@ -1,22 +1,34 @@
 -- What the job `run` leaves: its rounds, one after another.
-use Rattle.std.specs.Prelude.{◌≡◌, ◌≤◌, ◌⊎◌, ℕ, zero, suc, ◌+◌, Bool, true, false, List, [], ◌∷◌, length, max, reverse, Option, Some, None, option_map}
+use Rattle.std.specs.Prelude.{◌≡◌, ◌≤◌, ◌⊎◌, ℕ, zero, suc, Bool, true, false, List, [], All, length, map, max, reverse, Option, Some, None, Result, Ok, option_map}
 use Rattle.clap.specs.Words.{Text}
 use Rattle.station_journal.specs.declared.entry.Entry.{Entry}
 use Rattle.station_journal.specs.Log.{clock_of}
 use Rattle.station_journal.specs.Resume.{recent_base, recent_of}
 use Rattle.station_desk.specs.History.{base_of}
 use Rattle.station_desk.specs.Start.{Start, log_of}
-use Rattle.station_shared.specs.Closing.{Closes, EachOnce}
+use Rattle.station_lines.specs.Drawing.{Drawn}
+use Rattle.station_lines.specs.declared.pumping.PumpFault.{PumpFault}
+use Rattle.station_lines.specs.declared.tally.Tally.{Tally}
+use Rattle.station_shared.specs.Seats.{Seated, newcomer}
+use Rattle.station_main.specs.Inputs.{AreFed}
 use Rattle.station_main.specs.Limits.{program_limits}
 use Rattle.station_main.specs.Recorded.{IfRecording, IsBlank, Recording, RecordsRest}
 use Rattle.station_main.specs.Status.{fault_status, record_status}
-use Rattle.station_main.specs.Run.{Closing, Ends, EndsEarly}
+use Rattle.station_main.specs.Output.{Printed, buffered_of}
+use Rattle.station_main.specs.Reporter.{ReportsByAClock, after_table, not_before}
+use Rattle.station_main.specs.Run.{Closing, Ends, EndsEarly, HavePumped, IsClosed, Leaves, drawn_from}
+use Rattle.station_main.specs.Sums.{AddsEach}
 use Rattle.station_main.specs.Telling.{OutOfMemory, Tells, Told, cannot_record, fault_line, line_of}
 use Rattle.station_main.specs.declared.faults.Fault.TheVariants as fault
 use Rattle.station_main.specs.declared.kept.Kept.{Kept}
+use Rattle.station_main.specs.declared.duties.Duties.{Duties}
 use Rattle.station_main.specs.declared.round.Round.{Round}
 use Rattle.station_main.specs.declared.round.Round.TheVariants.{Over, GoesOn}
 use Rattle.station_main.specs.declared.schedule.Tables.{Tables}
+use Rattle.station_main.specs.declared.shift.Ended.{Ended}
+use Rattle.station_main.specs.declared.shift.Ended.TheVariants.{HandsOver, Finishes}
+use Rattle.station_main.specs.declared.shift.Finished.{Finished}
+use Rattle.station_main.specs.declared.shift.Shift.{Shift}
 
 -- what a round goes on from: entries with the base of their clock, and the time of the last tick before it
 pub record Given : Type 0 where
@@ -34,26 +46,97 @@ pub record GoesOnFrom (given : Given) (start : Start) : Type 0 where
   pub base : base_of start.history ≡ given.base
   pub resumed : start.resumed ≡ length given.entries
 
--- what was asked of a run
+-- what was asked of a run, and how many entries of its journal make a station hand over
 pub record Asked : Type 0 where
   pub tables : Tables
   pub paths : List Text
+  pub hand_over_at : ℕ
 
--- a round of a station: its seats have seen what the round goes on from, and the reporter's comes after those of the paths
-pub record IsRound (asked : Asked) (given : Given) (start : Start) (closing : Closing) (before after : Option (List ℕ)) (was is : Option Recording) (err_old err_new : Told) (status : ℕ) : Type 0 where
-  pub goes_on : GoesOnFrom given start
-  pub ends : Ends start asked.tables given.last_tick given.entries asked.paths closing before after was is err_old err_new status
+-- ---- the stations of a round
 
--- what is kept of a station that these seats close: the recent entries of its journal, to which the record goes on; what each
--- seat has seen is a prefix of the journal, and each accepted call is there once
-pub record KeepsRecent (start : Start) (closing : Closing) (kept : Given) (was is : Option Recording) : Type 0 where
-  pub journal : List Entry
-  pub once : EachOnce (length closing.receivers + 1) (closing.reporter ∷ closing.receivers)
-  pub closes : Closes start (length closing.receivers + 1) journal (closing.reporter ∷ closing.receivers)
+-- what a station is begun with: what it goes on from, what its reporter does, its sources, and what was counted of each of them
+-- by the stations before it
+pub record Begun : Type 0 where
+  pub given : Given
+  pub duties : Duties
+  pub sources : List Drawn
+  pub answers : List (Result Tally PumpFault)
+
+-- an answer that counted nothing
+abbrev pub HasNoLines : Result Tally PumpFault → Type 0
+HasNoLines answer = (tally : Tally) × (answer ≡ Ok tally) × (tally.lines ≡ 0)
+
+-- the first station of a round: its sources are what threads send of the paths, of which no byte was given, and its table is due
+-- one interval after the last tick
+pub record IsFirst (asked : Asked) (given : Given) (begun : Begun) : Type 0 where
+  pub given_is : begun.given ≡ given
+  pub tables : begun.duties.tables ≡ asked.tables
+  pub due : begun.duties.due ≡ after_table asked.tables.pace given.last_tick
+  pub hand_over_at : begun.duties.hand_over_at ≡ asked.hand_over_at
+  pub not_before : begun.duties.not_before ≡ 0
+  pub fed : AreFed asked.paths begun.sources
+  pub many_answers : length begun.answers ≡ length asked.paths
+  pub none : All HasNoLines begun.answers
+
+-- the work of a station: its receivers have pumped the sources, what they counted is added to what was counted before, and it is
+-- closed with all its seats
+pub record Serves (begun : Begun) (start : Start) (closing : Closing) (sources : List Drawn) (answers : List (Result Tally PumpFault)) : Type 0 where
+  pub goes_on : GoesOnFrom begun.given start
+  pub counted : List (Result Tally PumpFault)
+  pub pumped : HavePumped start begun.given.entries begun.sources sources closing.receivers counted
+  pub sums : AddsEach begun.answers counted answers
+  pub closed : IsClosed start closing
+
+-- the same before the station is closed, with all answers there
+pub record IsServedBy (begun : Begun) (start : Start) (seats : List Seated) (sources : List Drawn) (answers : List (Option (Result Tally PumpFault))) : Type 0 where
+  pub goes_on : GoesOnFrom begun.given start
+  pub counted : List (Result Tally PumpFault)
+  pub answers_are : answers ≡ map Some counted
+  pub pumped : HavePumped start begun.given.entries begun.sources sources seats counted
+
+-- what is kept of a closed station's journal: its recent entries; the record goes on with what it hasn't of the journal
+pub record KeepsRecent (start : Start) (journal : List Entry) (kept : Given) (was is : Option Recording) : Type 0 where
   pub base : kept.base ≡ recent_base (base_of start.history) (reverse journal)
   pub entries : reverse kept.entries ≡ recent_of (base_of start.history) (reverse journal)
   pub last_tick : kept.last_tick ≡ clock_of (log_of start journal)
   pub records : IfRecording (RecordsRest journal (length kept.entries)) was is
+
+-- a station hands over: its reporter asks for it, and prints no further table; the next station is begun with what is recent in its
+-- journal and with the sources as they are, and the next table is due where it was
+pub record IsHandOver (begun next : Begun) (before after : Printed) (was is : Option Recording) : Type 0 where
+  pub start : Start
+  pub closing : Closing
+  pub serves : Serves begun start closing next.sources next.answers
+  pub at : ℕ
+  pub shown : Option Recording
+  pub reports : ReportsByAClock start begun.duties next.duties.due (Some at) (newcomer begun.given.entries (length begun.sources)) closing.reporter before after was shown false
+  pub tables : next.duties.tables ≡ begun.duties.tables
+  pub hand_over_at : next.duties.hand_over_at ≡ begun.duties.hand_over_at
+  pub not_before : next.duties.not_before ≡ not_before begun.duties.hand_over_at (length next.given.entries) next.given.last_tick
+  pub is_kept : KeepsRecent start closing.journal next.given shown is
+
+-- the last station of a round
+pub record IsLastStation (begun : Begun) (start : Start) (closing : Closing) (before after : Option (List ℕ)) (was is : Option Recording) (err_old err_new : Told) (status : ℕ) : Type 0 where
+  pub sources : List Drawn
+  pub answers : List (Result Tally PumpFault)
+  pub serves : Serves begun start closing sources answers
+  pub ends : Ends start begun.duties answers (newcomer begun.given.entries (length begun.sources)) closing.reporter before after was is err_old err_new status
+
+-- a station and those after it in its round, the number is that of the hand-overs
+abbrev pub Stations : ℕ → Begun → Start → Closing → Printed → Option (List ℕ) → Option Recording → Option Recording → Told → Told → ℕ → Type 0
+Stations zero begun start closing before after was is err_old err_new status = IsLastStation begun start closing before.taken after was is err_old err_new status
+Stations (suc more) begun start closing before after was is err_old err_new status =
+    (next : Begun) × (mid : Printed) × (recorded : Option Recording)
+    × IsHandOver begun next before mid was recorded × Stations more next start closing mid after recorded is err_old err_new status
+
+-- a round, whose last station is this one
+pub record IsRound (asked : Asked) (given : Given) (start : Start) (closing : Closing) (before after : Option (List ℕ)) (was is : Option Recording) (err_old err_new : Told) (status : ℕ) : Type 0 where
+  pub begun : Begun
+  pub first : IsFirst asked given begun
+  pub hand_overs : ℕ
+  pub stations : Stations hand_overs begun start closing (record { taken = before; failures = 0 }) after was is err_old err_new status
+
+-- ---- rounds
 
 -- a round without a fault, and what the next goes on from
 pub record HandsOn (asked : Asked) (given : Given) (before after : Option (List ℕ)) (was is : Option Recording) (err_old err_new : Told) (kept : Given) : Type 0 where
@@ -61,7 +144,7 @@ pub record HandsOn (asked : Asked) (given : Given) (before after : Option (List 
   pub closing : Closing
   pub shown : Option Recording
   pub round : IsRound asked given start closing before after was shown err_old err_new 0
-  pub is_kept : KeepsRecent start closing kept shown is
+  pub is_kept : KeepsRecent start closing.journal kept shown is
 
 -- a round without a fault, after which there was no memory to keep anything
 pub record KeepsNothing (asked : Asked) (given : Given) (before after : Option (List ℕ)) (was is : Option Recording) (err_old err_new : Told) (status : ℕ) : Type 0 where
@@ -72,7 +155,7 @@ pub record KeepsNothing (asked : Asked) (given : Given) (before after : Option (
   pub told : Tells err_mid err_new (fault_line fault.NoMemory)
   pub status_is : status ≡ 1
 
--- the last round; without an output nothing was read in it
+-- the last round; without an output nothing was read in it, or there was no memory for its next station
 abbrev pub IsLast : Asked → Given → Option (List ℕ) → Option (Option (List ℕ)) → Option Recording → Option Recording → Told → Told → ℕ → Type 0
 IsLast asked given before None was is err_old err_new status = EndsEarly asked.paths err_old err_new status
 IsLast asked given before (Some after) was is err_old err_new status =
@@ -98,12 +181,38 @@ Runs asked (suc more) given before after was is err_old err_new status =
 abbrev pub given_of : Kept → Given
 given_of kept = record { base = kept.recent.base; entries = kept.recent.entries.items; last_tick = kept.last_tick }
 
--- a round that is not the last, by its answer
-abbrev pub EndsRound : {O : Type 0} → (O → Option (List ℕ)) → Asked → Given → Option (List ℕ) → Option Recording → Option Recording → Told → Told → Round O → Type 0
-EndsRound contents asked given before was is err_old err_new (Over ran) =
-    (ran.status ≤ 1) × IsCutShort asked given before (option_map contents ran.out) was is err_old err_new ran.status
-EndsRound contents asked given before was is err_old err_new (GoesOn out kept) =
-    HandsOn asked given before (contents out) was is err_old err_new (given_of kept)
+-- what a station is begun with, and what its output has taken
+abbrev pub begun_of : {R O : Type 0} → Shift R O → Begun
+begun_of shift = record {
+  given = given_of shift.kept;
+  duties = shift.duties;
+  sources = map drawn_from shift.inputs.items;
+  answers = shift.answers.items;
+}
+
+-- what the last station of a round leaves before what was counted is printed
+pub record IsServed {R O : Type 0} (contents : O → Option (List ℕ)) (begun : Begun) (start : Start) (closing : Closing) (before : Option (List ℕ)) (was is : Option Recording) (finished : Finished R O) : Type 0 where
+  pub journal : closing.journal ≡ finished.journal.log.entries
+  pub log : finished.journal.log ≡ log_of start finished.journal.log.entries
+  pub serves : Serves begun start closing (map drawn_from finished.inputs.items) finished.answers.items
+  pub leaves : Leaves start begun.duties (newcomer begun.given.entries (length begun.sources)) closing.reporter before (contents finished.written.out) was is finished.written.has_failed
+
+-- a station by its answer: it hands over, or its round is over
+abbrev pub EndsStation : {R O : Type 0} → (O → Option (List ℕ)) → Begun → Printed → Option Recording → Option Recording → Ended R O → Type 0
+EndsStation contents begun before was is (HandsOver next) = IsHandOver begun (begun_of next) before (buffered_of contents next.out) was is
+EndsStation contents begun before was is (Finishes finished) =
+    (start : Start) × (closing : Closing) × IsServed contents begun start closing before.taken was is finished
+
+-- a round by its answer: the last one is over
+abbrev pub IsOver : Bool → Asked → Given → Option (List ℕ) → Option (Option (List ℕ)) → Option Recording → Option Recording → Told → Told → ℕ → Type 0
+IsOver true asked given before after was is err_old err_new status = IsLast asked given before after was is err_old err_new status
+IsOver false asked given before after was is err_old err_new status = IsCutShort asked given before after was is err_old err_new status
+
+abbrev pub EndsRound : {O : Type 0} → (O → Option (List ℕ)) → Asked → Bool → Given → Option (List ℕ) → Option Recording → Option Recording → Told → Told → Round O → Type 0
+EndsRound contents asked is_last given before was is err_old err_new (Over ran) =
+    (ran.status ≤ 1) × IsOver is_last asked given before (option_map contents ran.out) was is err_old err_new ran.status
+EndsRound contents asked is_last given before was is err_old err_new (GoesOn out kept) =
+    (is_last ≡ false) × HandsOn asked given before (contents out) was is err_old err_new (given_of kept)
 
 -- ---- a run with or without a record
 

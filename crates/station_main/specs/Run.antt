@@ -1,65 +1,70 @@
 -- What a round of the job `run` leaves.
-use Rattle.std.specs.Prelude.{◌≡◌, ◌⊎◌, ℕ, ◌<◌, Bool, true, false, List, [], ◌∷◌, ◌++◌, Option, None, Some, IfSome, Result, length, slice_index_or, is_err, fold, map, max, unwrap_or, Contains, ⊤}
+use Rattle.std.specs.Prelude.{◌≡◌, ◌⊎◌, ℕ, ◌+◌, ◌<◌, Bool, true, false, List, [], ◌∷◌, ◌++◌, Option, Some, None, IfSome, Result, length, slice_index_or, is_err, fold, map, max, unwrap_or, Contains, ⊤}
 use Rattle.std.specs.List.{flat_map}
 use Rattle.clap.specs.Words.{Text}
 use Rattle.station_journal.specs.declared.entry.Entry.{Entry}
 use Rattle.station_report.specs.declared.formats.Format.{Format}
 use Rattle.station_report.specs.declared.sinks.WriteFault.{WriteFault}
 use Rattle.station_lines.specs.Drawing.{Drawn}
+use Rattle.station_portions.specs.Giving.{given}
+use Rattle.station_portions.specs.declared.portions.Portions.{Portions}
 use Rattle.station_desk.specs.Start.{Start}
-use Rattle.station_shared.specs.Seats.{Seated, Looks, new_seat, newcomer}
+use Rattle.station_shared.specs.Seats.{Seated, Looks, new_seat}
+use Rattle.station_shared.specs.Closing.{Closes, EachOnce}
 use Rattle.station_shared.specs.Workers.{Worked, Works}
-use Rattle.station_lines.specs.declared.from_buffer.FromBuffer.{FromBuffer}
 use Rattle.station_lines.specs.declared.pumping.PumpFault.{PumpFault}
 use Rattle.station_lines.specs.declared.tally.Tally.{Tally}
 use Rattle.station_main.specs.Limits.{most_reads}
-use Rattle.station_main.specs.Inputs.{IsUnread, path_of}
 use Rattle.station_main.specs.Output.{GivesBack, Printed}
 use Rattle.station_main.specs.Recorded.{IfRecording, PrintsAndRecords, Recording, Records, seen_by}
-use Rattle.station_main.specs.Reporter.{KeepsTime, Showing, looks_of}
+use Rattle.station_main.specs.Reporter.{IsLater, KeepsTime, MayHandOver, Showing, due_after, looks_of}
 use Rattle.station_main.specs.Status.{fault_status, status_of}
 use Rattle.station_main.specs.Tables.{TakesTexts}
 use Rattle.station_main.specs.Telling.{Tells, Told, fault_line, output_lines, pump_lines}
 use Rattle.station_main.specs.declared.faults.Fault.{Fault}
 use Rattle.station_main.specs.declared.faults.Fault.TheVariants as fault
-use Rattle.station_main.specs.declared.opened.Opened.{Opened}
-use Rattle.station_main.specs.declared.schedule.Tables.{Tables}
+use Rattle.station_main.specs.declared.duties.Duties.{Duties}
+use Rattle.station_main.specs.declared.schedule.Due.{Due}
 
 -- ---- the receivers
 
--- the view of a source over a reader with these bytes left, if they are known
-abbrev pub drawn_from : {R : Type 0} → Option (List ℕ) → FromBuffer R → Drawn
-drawn_from left source = record { bytes = record { left = left; given = None }; reads = source.reads; ends = source.ends; failures = source.failures }
+-- the view of the source of a path: the bytes given so far, and what it has counted
+abbrev pub drawn_from : {R : Type 0} → Portions R → Drawn
+drawn_from source = record { bytes = record { left = None; given = Some (given source) }; reads = source.reads; ends = source.ends; failures = source.failures }
 
 -- each receiver has pumped its source through its seat to an answer
-pub record HaveWorked {W R : Type 0} (start : Start) (seat : W → Seated) (source : W → FromBuffer R) (answer : W → Option (Result Tally PumpFault)) (old new : List W) : Type 0 where
+pub record HaveWorked {W R : Type 0} (start : Start) (seat : W → Seated) (source : W → Portions R) (answer : W → Option (Result Tally PumpFault)) (old new : List W) : Type 0 where
   pub many : length new ≡ length old
   pub each : (i : ℕ) (d : W) → i < length old → let was = slice_index_or old i d in let is = slice_index_or new i d in
-      (before : Option (List ℕ)) × (after : Option (List ℕ))
-      × Worked start (seat was) (seat is) (drawn_from before (source was)) (drawn_from after (source is)) most_reads (answer is)
+      Worked start (seat was) (seat is) (drawn_from (source was)) (drawn_from (source is)) most_reads (answer is)
 
--- a receiver has pumped what opening this path gave, from its first read on, through its seat to this answer
-pub record Receives (start : Start) (path : Text) (old new : Seated) (answer : Result Tally PumpFault) : Type 0 where
-  pub input : FromBuffer Opened
-  pub opened : path_of input ≡ path
-  pub unread : IsUnread input
-  pub left : Option (List ℕ)
-  pub after : Drawn
-  pub works : Works start old new (drawn_from left input) after most_reads answer
+-- receivers of these sources, one each in their order, each with a seat of its own that had seen these entries: the sources and
+-- the seats afterwards, and the answers
+pub record HavePumped (start : Start) (entries : List Entry) (old new : List Drawn) (seats : List Seated) (answers : List (Result Tally PumpFault)) : Type 0 where
+  pub many_sources : length new ≡ length old
+  pub many_seats : length seats ≡ length old
+  pub many_answers : length answers ≡ length old
+  pub each : (i : ℕ) (source : Drawn) (seat : Seated) (answer : Result Tally PumpFault) → i < length old
+      → Works start (new_seat entries false i) (slice_index_or seats i seat) (slice_index_or old i source) (slice_index_or new i source) most_reads (slice_index_or answers i answer)
 
--- receivers of these paths, each with a seat of its own that had seen these entries: the seats afterwards and the answers, in
--- the order of the paths
-pub record HavePumped (start : Start) (entries : List Entry) (paths : List Text) (seats : List Seated) (answers : List (Result Tally PumpFault)) : Type 0 where
-  pub many_seats : length seats ≡ length paths
-  pub many_answers : length answers ≡ length paths
-  pub each : (i : ℕ) (path : Text) (seat : Seated) (answer : Result Tally PumpFault) → i < length paths
-      → Receives start (slice_index_or paths i path) (new_seat entries false i) (slice_index_or seats i seat) (slice_index_or answers i answer)
+-- ---- a closed station
 
--- such receivers, each of which has its seat and its answer
-pub record HaveAnswers {W : Type 0} (start : Start) (entries : List Entry) (paths : List Text) (seat : W → Seated) (answer : W → Option (Result Tally PumpFault)) (receivers : List W) : Type 0 where
-  pub answers : List (Result Tally PumpFault)
-  pub answered : map answer receivers ≡ map Some answers
-  pub pumped : HavePumped start entries paths (map seat receivers) answers
+-- n seats: those of the receivers are numbered by their places, and the reporter's comes after them
+pub record AreNumbered (n : ℕ) (reporter : Seated) (receivers : List Seated) : Type 0 where
+  pub many : length receivers + 1 ≡ n
+  pub last : reporter.number ≡ length receivers
+  pub each : (i : ℕ) (d : Seated) → i < length receivers → (slice_index_or receivers i d).number ≡ i
+
+-- its seats at the end, the reporter's and those of the receivers in the order of their inputs, and its journal
+pub record Closing : Type 0 where
+  pub reporter : Seated
+  pub receivers : List Seated
+  pub journal : List Entry
+
+-- the seats are all its seats, each once; the journal begins with what each of them has seen, and has each accepted call once
+pub record IsClosed (start : Start) (closing : Closing) : Type 0 where
+  pub once : EachOnce (length closing.receivers + 1) (closing.reporter ∷ closing.receivers)
+  pub closes : Closes start (length closing.receivers + 1) closing.journal (closing.reporter ∷ closing.receivers)
 
 -- ---- the last table
 
@@ -83,35 +88,35 @@ LastLook start old new true looks = (looks ≡ []) × (new ≡ old)
 
 -- ---- a whole round
 
--- what a round leaves of its output, whose reporter's seat goes from `first` to `closing`: the texts of its looks and of one
--- look after them, and nothing else, or a front of that if a write failed; the record goes on with what these looks have seen
-pub record Leaves (start : Start) (tables : Tables) (last_tick : ℕ) (first closing : Seated) (before after : Option (List ℕ)) (was is : Option Recording) (has_failed : Bool) : Type 0 where
+-- what the last station of a round leaves of its output, whose reporter's seat goes from `first` to `closing`: the texts of its
+-- looks and of one look after them, and nothing else, or a front of that if a write failed; the record goes on with what these
+-- looks have seen
+pub record Leaves (start : Start) (duties : Duties) (first closing : Seated) (before after : Option (List ℕ)) (was is : Option Recording) (has_failed : Bool) : Type 0 where
   pub mid : Seated
   pub moments : List ℕ
   pub showings : List Showing
-  pub keeps : KeepsTime start tables.pace last_tick moments first showings mid
+  pub shown : Seated
+  pub keeps : KeepsTime start duties.tables.pace duties.due moments first showings shown
+  pub looked : Seated
+  pub later : IsLater start shown looked
   pub failed_before : Bool
+  -- the paths may all have ended just when a hand-over was asked for
+  pub asked_at : Option ℕ
+  pub next : Due
+  pub hands_over : MayHandOver start duties asked_at (due_after duties.tables.pace duties.due moments) next looked mid failed_before
   pub last : List (Option Seated)
   pub looks : LastLook start mid closing failed_before last
   pub between : Option (List ℕ)
   pub write_failed : Bool
-  pub takes : TakesTexts tables.format start (looks_of showings ++ last) before between write_failed
+  pub takes : TakesTexts duties.tables.format start (looks_of showings ++ last) before between write_failed
   pub records : IfRecording (Records (seen_by (looks_of showings ++ last))) was is
   pub gives : GivesBack between after has_failed
   pub told : write_failed ≡ true → has_failed ≡ true
 
--- the seats at the end of a round: the reporter's, and those of the receivers in the order of their paths
-pub record Closing : Type 0 where
-  pub reporter : Seated
-  pub receivers : List Seated
-
--- the receivers of these paths have pumped them, the reporter has printed its tables, and the answers are printed in the order
--- of the paths, and at last a failed write; the status is the worst of these
-pub record Ends (start : Start) (tables : Tables) (last_tick : ℕ) (entries : List Entry) (paths : List Text) (closing : Closing) (before after : Option (List ℕ)) (was is : Option Recording) (err_old err_new : Told) (status : ℕ) : Type 0 where
+-- it prints what was counted of each path, and at last a failed write; the status is the worst of these
+pub record Ends (start : Start) (duties : Duties) (answers : List (Result Tally PumpFault)) (first closing : Seated) (before after : Option (List ℕ)) (was is : Option Recording) (err_old err_new : Told) (status : ℕ) : Type 0 where
   pub has_failed : Bool
-  pub output : Leaves start tables last_tick (newcomer entries (length paths)) closing.reporter before after was is has_failed
-  pub answers : List (Result Tally PumpFault)
-  pub pumped : HavePumped start entries paths closing.receivers answers
+  pub output : Leaves start duties first closing before after was is has_failed
   pub told : Tells err_old err_new (flat_map pump_lines answers ++ output_lines has_failed)
   pub status_is : status ≡ max (fold (λ worst answer. max worst (status_of answer)) 0 answers) (fault_status has_failed)
 
@@ -121,13 +126,13 @@ IsUnopened paths fault.NoMemory = ⊤
 IsUnopened paths (fault.CannotOpen path) = Contains paths path.now
 IsUnopened paths _ = ⊥
 
--- out of memory for a station, or its reporter's thread isn't started
+-- out of memory for a station, or a thread isn't started
 abbrev pub IsUnstarted : Fault → Type 0
 IsUnstarted fault.NoMemory = ⊤
 IsUnstarted fault.ThreadNotStarted = ⊤
 IsUnstarted _ = ⊥
 
--- a fault that comes before any of these paths is read
+-- a fault that comes before a station of these paths is begun
 abbrev pub IsEarly : List Text → Fault → Type 0
 IsEarly paths fault = IsUnopened paths fault ⊎ IsUnstarted fault
 

@@ -7,11 +7,6 @@ abbrev pub status_of : {T E : Type 0} → Result T E → ℕ
 status_of (Ok x) = 0
 status_of (Err fault) = 1
 
--- the status of a receiver: that of its answer, and 1 without one
-abbrev pub answer_status : {T E : Type 0} → Option (Result T E) → ℕ
-answer_status None = 1
-answer_status (Some answer) = status_of answer
-
 -- 1 after a fault
 abbrev pub fault_status : Bool → ℕ
 fault_status false = 0

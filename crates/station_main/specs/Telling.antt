@@ -1,5 +1,5 @@
 -- What is printed on standard error.
-use Rattle.std.specs.Prelude.{◌≡◌, ℕ, Bool, true, false, List, [], ◌∷◌, ◌++◌, Option, Some, None, Result, Ok, Err, codes}
+use Rattle.std.specs.Prelude.{◌≡◌, ℕ, Bool, true, false, List, [], ◌∷◌, ◌++◌, Option, Result, Ok, Err, codes}
 use Rattle.std.specs.Fmt.{decimal}
 use Rattle.std.specs.Io.KnownBytes.{Appends}
 use Rattle.station_lines.specs.declared.pumping.PumpFault.{PumpFault}
@@ -43,6 +43,8 @@ fault_words fault.ThreadNotStarted = codes "thread not started"
 fault_words (fault.CannotRecord path) = cannot_record path.now
 fault_words fault.Record = codes "record failed"
 fault_words (fault.CannotWrite path) = codes "cannot write " ++ path.now
+fault_words fault.JournalFull = codes "journal full"
+fault_words fault.TableFull = codes "table full"
 
 -- a line of these words
 abbrev pub line_of : List ℕ → List ℕ
@@ -50,6 +52,11 @@ line_of words = codes "groundstation: " ++ words ++ 10 ∷ []
 
 abbrev pub fault_line : Fault → List ℕ
 fault_line fault = line_of (fault_words fault)
+
+-- why `--reopen` with `--rounds` is refused, in the form of `clap`
+abbrev pub reopens_rounds_text : List ℕ
+reopens_rounds_text =
+    codes "error: the argument '--reopen' cannot be used with '--rounds <R>'" ++ 10 ∷ 10 ∷ codes "For more information, try '--help'." ++ 10 ∷ []
 
 -- an allocation was refused, and only that is printed
 pub record OutOfMemory (err_old err_new : Told) (status : ℕ) : Type 0 where
@@ -70,11 +77,6 @@ pump_lines (Ok tally) = tally_line tally
 pump_lines (Err (pump.Read tally)) = tally_line tally ++ fault_line fault.Read
 pump_lines (Err (pump.TooManyTurns tally)) = tally_line tally ++ fault_line fault.TooManyReads
 pump_lines (Err (pump.NoMemory tally)) = tally_line tally ++ fault_line fault.NoMemory
-
--- a receiver without an answer has no line
-abbrev pub answer_lines : Option (Result Tally PumpFault) → List ℕ
-answer_lines None = []
-answer_lines (Some answer) = pump_lines answer
 
 -- a failed write, if there is one
 abbrev pub output_lines : Bool → List ℕ

@@ -2,25 +2,38 @@
 ghost use Rattle.std.specs.Prelude.{◌≡◌};
 
 use crate::displays::Displays;
+use crate::limit_alarm::LimitAlarm;
 use crate::recorder::Recorder;
 use station_report::Sink;
+use station_shared::LimitsMet;
 use std::io::Write;
 
-/// A record and a folder for displays, each only where it was asked for.
+/// A record and a folder for displays, each only where it was asked for, and what reports full limits.
 #[derive(Drop)]
 pub struct Beside<T: Sink, A: Write> {
     pub record: Option<Recorder<T, A>>,
     pub displays: Option<Displays<A>>,
+    pub limits: Option<LimitAlarm<A>>,
 }
 
 impl<T: Sink, A: Write> Beside<T, A> {
-    /// Takes both out, and leaves none.
+    /// Takes all out, and leaves none.
     pub fn take(&mut self) -> Beside<T, A>
         ensures { result ≡ self.old }
     {
         Beside {
             record: self.record.take(),
             displays: self.displays.take(),
+            limits: self.limits.take(),
+        }
+    }
+
+    /// Reports the limits that the calls of a station have met, each once.
+    pub fn report_limits(&mut self, met: LimitsMet)
+        ensures { self.new.record ≡ self.old.record }
+    {
+        if let Some(limits) = &mut self.limits {
+            limits.report(met);
         }
     }
 }

@@ -1,13 +1,16 @@
 //! The whole program, over any streams.
 ghost use Rattle.clap.specs.Words.{App, kind_of, takes};
-ghost use Rattle.station_main.specs.Command.{IsInRange, IsStation};
+ghost use Rattle.station_main.specs.Command.{IsInRange, IsStation, reopens_rounds};
 ghost use Rattle.station_main.specs.Jobs.{GivesStatus, HasNoMemory, IsAnswered, IsDone, IsObeyed, Says, is_shown};
-ghost use Rattle.station_main.specs.Telling.{told_of};
-ghost use Rattle.std.specs.Prelude.{◌≡◌, ◌≤◌, ◌⊎◌, ℕ, List, map, option_map, true};
+ghost use Rattle.station_main.specs.Telling.{Tells, reopens_rounds_text, told_of};
+ghost use Rattle.std.specs.Prelude.{◌≡◌, ◌≤◌, ◌⊎◌, ℕ, List, Some, false, map, option_map, true};
 
+use crate::alarms::Alarms;
 use crate::display_job::run_for_displays;
 use crate::faults::Fault;
+use crate::limits::FORGET_AT;
 use crate::output::{Ran, without_output};
+use crate::path_host::PathHost;
 use crate::replay_job::replay_input;
 use crate::run_job::Asked;
 use crate::schedule::{Tables, milliseconds_since_1970};
@@ -22,20 +25,34 @@ use std::sync::Wait;
 use std::thread::Threads;
 use std::time::Clock;
 
+// Why `--reopen` with `--rounds` is refused, in the form of `clap`.
+const REOPENS_ROUNDS: &str = concat!(
+    "error: the argument '--reopen' cannot be used with '--rounds <R>'\n",
+    "\n",
+    "For more information, try '--help'.\n",
+);
+
 /// Runs a command line, which begins with the program's name, over these streams. Answers the exit status, as [`obey`]
-/// does. `err` is a handle that can be copied, as that of a process is: two threads may write to it.
+/// does. `err` is a handle that can be copied, as that of a process is: two threads may write to it. `own` is what the
+/// threads that read the paths of a run have of the system.
 pub fn program<
     R: Threads + Wait + Clock + Files<File = File, Dir: Send> + Sync,
+    W: Wait + Clock + PathHost + Copy + Send + 'static,
     I: Read + Drop,
     O: Write + Send + Drop,
     E: Write + Copy + Send + Drop,
->(rt: &R, alloc: Global, words: &[&str], input: I, out: O, err: E) -> u8
+>(rt: &R, own: W, alloc: Global, words: &[&str], input: I, out: O, err: E) -> u8
     ensures { GivesStatus (map (λ w. w.now) words.now) (I.remaining input) (O.Write.contents out)
         (E.Write.contents err) (E.Write.contents err) result }
 {
     let origin = milliseconds_since_1970(rt);
     let mut last = StandardError::new(err);
-    obey(rt, alloc, words, origin, input, out, err, err, &mut last).status
+    let alarms = Alarms {
+        record: err,
+        displays: err,
+        limits: err,
+    };
+    obey(rt, own, alloc, words, origin, input, out, alarms, &mut last).status
 }
 
 /// Runs a command line, which begins with the program's name. Answers the output, unless nothing was read, and the exit
@@ -45,51 +62,45 @@ pub fn program<
 /// - 1 after a fault;
 /// - 2 if the arguments are refused.
 ///
-/// Arguments that are accepted name the job that is done. For others only the text of `clap` is written: help and the
-/// version to the output, and why they are refused to standard error. If there is no memory for that, only that is printed.
+/// Arguments that are accepted name the job that is done. For others only a text is written: help and the version to the
+/// output, and why they are refused to standard error. It is the text of `clap`, but where both `--reopen` and `--rounds` are
+/// given. If there is no memory for that, only that is printed.
 ///
 /// `origin` is the time of the system at the start of the program, in milliseconds since 1970. JSON of `run` counts from it.
-/// `alarm` and `display_alarm` are two more standard errors, for what is reported at once while the threads of a run work.
-/// A failed write of the record goes to the first, and one for displays to the second.
+/// `alarms` are further standard errors, for what is reported at once while a job goes on. `own` is what the threads that read
+/// the paths of a run have of the system.
 pub fn obey<
     R: Threads + Wait + Clock + Files<File = File, Dir: Send> + Sync,
+    W: Wait + Clock + PathHost + Copy + Send + 'static,
     I: Read + Drop,
     O: Write + Send + Drop,
     A: Write + Send + Drop,
     E: Write,
 >(
     rt: &R,
+    own: W,
     alloc: Global,
     words: &[&str],
     origin: u64,
     input: I,
     out: O,
-    alarm: A,
-    display_alarm: A,
+    alarms: Alarms<A>,
     err: &mut StandardError<E>,
 ) -> Ran<O>
     ensures status { result.status ≤ 2 }
-    ensures obeyed { (app : App) × IsStation app × (takes app (map (λ w. w.now) words.now) ≡ true → (result.status ≤ 1)
+    ensures obeyed { (app : App) × IsStation app × (takes app (map (λ w. w.now) words.now) ≡ true
+        → (reopens_rounds app (map (λ w. w.now) words.now) ≡ false → result.status ≤ 1)
         × IsAnswered app (map (λ w. w.now) words.now) origin (I.remaining input) (O.Write.contents out)
-        (option_map (λ left. O.Write.contents left) result.out) (A.Write.contents alarm)
+        (option_map (λ left. O.Write.contents left) result.out) (A.Write.contents alarms.record)
         (told_of E.contents err.old) (told_of E.contents err.new) result.status)
         × IsObeyed app (map (λ w. w.now) words.now) origin (I.remaining input) (O.Write.contents out)
-        (option_map (λ left. O.Write.contents left) result.out) (A.Write.contents alarm)
+        (option_map (λ left. O.Write.contents left) result.out) (A.Write.contents alarms.record)
         (told_of E.contents err.old) (told_of E.contents err.new) result.status }
 {
     match read_words(alloc, words) {
-        Ok(job) => do_job(
-            rt,
-            alloc,
-            job,
-            origin,
-            input,
-            out,
-            alarm,
-            display_alarm,
-            err,
-        ),
+        Ok(job) => do_job(rt, own, alloc, job, origin, input, out, alarms, err),
         Err(WordsFault::NoMemory) => without_output(err, Fault::NoMemory),
+        Err(WordsFault::ReopensRounds) => refuse_both(out, err),
         Err(WordsFault::Clap(error)) => write_answer(alloc, &error, out, err),
     }
 }
@@ -97,32 +108,36 @@ pub fn obey<
 // Does the job that the arguments name.
 fn do_job<
     R: Threads + Wait + Clock + Files<File = File, Dir: Send> + Sync,
+    W: Wait + Clock + PathHost + Copy + Send + 'static,
     I: Read + Drop,
     O: Write + Send + Drop,
     A: Write + Send + Drop,
     E: Write,
 >(
     rt: &R,
+    own: W,
     alloc: Global,
     job: Job,
     origin: u64,
     input: I,
     out: O,
-    alarm: A,
-    display_alarm: A,
+    alarms: Alarms<A>,
     err: &mut StandardError<E>,
 ) -> Ran<O>
     requires { IsInRange job }
     ensures most { result.status ≤ 1 }
     ensures done { IsDone job origin (I.remaining input) (O.Write.contents out)
-        (option_map (λ left. O.Write.contents left) result.out) (A.Write.contents alarm)
+        (option_map (λ left. O.Write.contents left) result.out) (A.Write.contents alarms.record)
         (told_of E.contents err.old) (told_of E.contents err.new) result.status }
 {
     match job {
-        Job::Replay { format } => replay_input(rt, alloc, format.since(0), input, out, err),
+        Job::Replay { format } => {
+            replay_input(rt, alloc, format.since(0), input, out, alarms.limits, err)
+        },
         Job::Run {
             pace,
             rounds,
+            reopen,
             paths,
             record,
             format,
@@ -135,13 +150,28 @@ fn do_job<
             let asked = Asked {
                 tables,
                 rounds,
+                reopens: reopen,
                 origin,
                 record: &record,
                 displays: &displays,
                 paths: &paths,
+                hand_over_at: FORGET_AT,
             };
-            run_for_displays(rt, alloc, asked, out, alarm, display_alarm, err)
+            run_for_displays(rt, own, alloc, asked, out, alarms, err)
         }
+    }
+}
+
+// Refuses `--reopen` with `--rounds`, with status 2.
+fn refuse_both<O, E: Write>(out: O, err: &mut StandardError<E>) -> Ran<O>
+    ensures status { result.status ≡ 2 }
+    ensures out { result.out ≡ Some out }
+    ensures told { Tells (told_of E.contents err.old) (told_of E.contents err.new) reopens_rounds_text }
+{
+    err.text(REOPENS_ROUNDS);
+    Ran {
+        status: 2,
+        out: Some(out),
     }
 }
 

@@ -1,5 +1,5 @@
 //! The commands that `clap` reads: their options, and what help says of them.
-ghost use Rattle.station_main.specs.Command.{IsArg, IsMade, every, format, json_folder, path, record_file, replay, rounds, run, run_formats, run_options, run_times, station, tick};
+ghost use Rattle.station_main.specs.Command.{IsArg, IsMade, every, format, json_folder, path, record_file, reopen, replay, rounds, run, run_formats, run_options, run_times, station, tick};
 ghost use Rattle.std.specs.Prelude.{◌≡◌, IfOk};
 
 use clap::builder::ValueParser;
@@ -60,8 +60,11 @@ const AFTER_RUN_HELP: &str = concat!(
     "--json writes each table to DIR/aircraft.json too, which displays read.\n",
     "--record writes all that was accepted to FILE, with a ? for each table:\n",
     "'groundstation replay < FILE' prints the tables again.\n",
-    "A round has room for 16777216 accepted frames and ticks. When it is full, all\n",
-    "that comes is refused, and 'now' stands still.\n",
+    "With --reopen a path that has ended, or whose read failed, is opened again one\n",
+    "second later, for as long as the program runs. It can't go with --rounds.\n",
+    "Once there are 12582912 accepted frames and ticks, those that are more than\n",
+    "70 s old are forgotten. There is room for 16777216. When it is full, all that\n",
+    "comes is refused, and 'now' stands still.\n",
     "Formats: docs/FORMATS.md. Receivers that drop: docs/USING.md.",
 );
 
@@ -103,10 +106,12 @@ fn run_with_options<'a>(alloc: Global, names: &'a [&'a str]) -> Result<Command<'
     ensures { IfOk result (IsMade (run_options names.entry)) }
 {
     let rounds = rounds_arg(alloc);
+    let reopen = reopen_arg(alloc);
     let file = record_arg(alloc);
     let with_formats = run_with_formats(alloc, names)?;
     let with_rounds = with_formats.arg(rounds)?;
-    with_rounds.arg(file)
+    let with_reopen = with_rounds.arg(reopen)?;
+    with_reopen.arg(file)
 }
 
 fn run_with_formats<'a>(alloc: Global, names: &'a [&'a str]) -> Result<Command<'a>, AllocError>
@@ -177,7 +182,7 @@ fn json_arg<'a>(alloc: Global) -> Arg<'a>
         .help("Folder for each table as aircraft.json, for displays")
 }
 
-// `--rounds R`
+// `--rounds R`. Without a default of `clap`, so that its matches say whether it is given.
 fn rounds_arg<'a>(alloc: Global) -> Arg<'a>
     ensures { IsArg rounds result }
 {
@@ -185,9 +190,18 @@ fn rounds_arg<'a>(alloc: Global) -> Arg<'a>
     Arg::new(alloc, "rounds")
         .long("rounds")
         .value_name("R")
-        .help("How often to read the paths, 1 to 1000")
-        .default_value("1")
+        .help("How often to read the paths, 1 to 1000 [default: 1]")
         .value_parser(times)
+}
+
+// `--reopen`
+fn reopen_arg<'a>(alloc: Global) -> Arg<'a>
+    ensures { IsArg reopen result }
+{
+    Arg::new(alloc, "reopen")
+        .long("reopen")
+        .help("Open each path again 1 s after it ended or failed")
+        .action(ArgAction::SetTrue)
 }
 
 // `--record FILE`

@@ -4,10 +4,13 @@ ghost use Rattle.std.specs.String.{string_bytes};
 ghost use Rattle.station_main.specs.Rounds.{RunsAsked, RunsForDisplays};
 ghost use Rattle.station_main.specs.Telling.{told_of};
 
+use crate::alarms::Alarms;
 use crate::beside::Beside;
 use crate::displays::{Displays, status_of};
 use crate::faults::Fault;
+use crate::limit_alarm::LimitAlarm;
 use crate::output::{Ran, without_output};
+use crate::path_host::PathHost;
 use crate::run_job::{Asked, run_paths};
 use crate::standard_error::StandardError;
 use std::alloc::Global;
@@ -19,36 +22,43 @@ use std::thread::Threads;
 use std::time::Clock;
 
 /// Runs the rounds, as [`run_paths`] does, and puts each table where displays find it if that is asked. The first failed
-/// write for displays is reported to `display_alarm` at once. Then tables go on, and the status is 1.
+/// write for displays is reported at once. Then tables go on, and the status is 1.
 pub fn run_for_displays<
     R: Threads + Wait + Clock + Files<File = File, Dir: Send> + Sync,
+    W: Wait + Clock + PathHost + Copy + Send + 'static,
     O: Write + Send + Drop,
     A: Write + Send + Drop,
     E: Write,
 >(
     rt: &R,
+    own: W,
     alloc: Global,
     asked: Asked<'_>,
     out: O,
-    alarm: A,
-    display_alarm: A,
+    alarms: Alarms<A>,
     err: &mut StandardError<E>,
 ) -> Ran<O>
     requires rounds { 1 ≤ asked.rounds }
     requires paths { length asked.paths.now.items ≤ 8 }
     ensures most { result.status ≤ 1 }
     ensures runs { RunsForDisplays (is_some asked.entry.displays.now) (RunsAsked (option_map string_bytes asked.entry.record.now)
-        (record { tables = asked.entry.tables; paths = map string_bytes asked.entry.paths.now.items })
-        (asked.entry.rounds - 1) (O.contents out) (option_map (λ left. O.contents left) result.out) (A.contents alarm)
+        (record { tables = asked.entry.tables; paths = map string_bytes asked.entry.paths.now.items; hand_over_at = asked.entry.hand_over_at })
+        (asked.entry.rounds - 1) (O.contents out) (option_map (λ left. O.contents left) result.out) (A.contents alarms.record)
         (told_of E.contents err.old) (told_of E.contents err.new))
         (option_map (λ left. O.contents left) result.out) (told_of E.contents err.old) (told_of E.contents err.new) result.status }
 {
+    let Alarms {
+        record: alarm,
+        displays: display_alarm,
+        limits,
+    } = alarms;
     let mut beside = Beside {
         record: None,
         displays: None,
+        limits: Some(LimitAlarm::new(limits)),
     };
     let Some(folder) = asked.displays else {
-        return run_paths(rt, alloc, asked, out, alarm, &mut beside, err);
+        return run_paths(rt, own, alloc, asked, out, alarm, &mut beside, err);
     };
     let every = asked.tables.pace.every;
     let alarms = StandardError::new(display_alarm);
@@ -56,7 +66,7 @@ pub fn run_for_displays<
         Ok(displays) => beside.displays = Some(displays),
         Err(_) => return without_output(err, Fault::NoMemory),
     }
-    let Ran { status, out } = run_paths(rt, alloc, asked, out, alarm, &mut beside, err);
+    let Ran { status, out } = run_paths(rt, own, alloc, asked, out, alarm, &mut beside, err);
     Ran {
         status: status.max(status_of(&beside.displays)),
         out,

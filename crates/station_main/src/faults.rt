@@ -7,7 +7,7 @@ use station_shared::Tally;
 use std::fmt::{self, Display, Formatter};
 use std::io::Write;
 
-/// What ends a job with status 1.
+/// What is reported on standard error. Most end a job with status 1.
 #[derive(Clone, Copy, Debug, PartialEq, Eq)]
 pub enum Fault<'a> {
     /// An input couldn't be read.
@@ -28,6 +28,10 @@ pub enum Fault<'a> {
     Record,
     /// This file for displays couldn't be written.
     CannotWrite(&'a str),
+    /// A frame or a tick met a full journal. It ends no job.
+    JournalFull,
+    /// A frame of another aircraft met a full table. It ends no job.
+    TableFull,
 }
 
 impl Display for Fault<'_> {
@@ -47,6 +51,8 @@ impl Display for Fault<'_> {
             Fault::CannotRecord(path) => write!(f, "cannot record to {path}"),
             Fault::Record => f.write_str("record failed"),
             Fault::CannotWrite(path) => write!(f, "cannot write {path}"),
+            Fault::JournalFull => f.write_str("journal full"),
+            Fault::TableFull => f.write_str("table full"),
         }
     }
 }

@@ -4,8 +4,10 @@ ghost use Rattle.std.specs.Process.{exit_status};
 ghost use Rattle.std.specs.String.{string_bytes};
 ghost use Rattle.station_main.specs.Jobs.{GivesStatus};
 
+use crate::alarms::Alarms;
 use crate::command_line::obey;
 use crate::faults::{Fault, tell};
+use crate::path_host::PathHost;
 use crate::schedule::milliseconds_since_1970;
 use crate::standard_error::StandardError;
 use std::alloc::{AllocError, Global};
@@ -22,48 +24,50 @@ use std::time::Clock;
 /// arguments, 2 if one isn't UTF-8, and else that of [`obey`](crate::obey).
 pub fn exit_code<
     R: Threads + Wait + Clock + Files<File = File, Dir: Send> + Sync,
+    W: Wait + Clock + PathHost + Copy + Send + 'static,
     I: Read + Drop,
     O: Write + Send + Drop,
     A: Write + Send + Drop,
     E: Write + Drop,
 >(
     rt: &R,
+    own: W,
     alloc: Global,
     owned: Result<Vec<String>, ErrorKind>,
     input: I,
     out: O,
-    alarm: A,
-    display_alarm: A,
+    alarms: Alarms<A>,
     err: E,
 ) -> ExitCode
     ensures given { IfOk owned (λ words. GivesStatus (map string_bytes words.items) (I.remaining input)
-        (O.Write.contents out) (A.Write.contents alarm) (E.Write.contents err) (exit_status result)) }
+        (O.Write.contents out) (A.Write.contents alarms.record) (E.Write.contents err) (exit_status result)) }
     ensures memory { IfErr owned (λ kind. kind ≡ ErrorKind.OutOfMemory → exit_status result ≡ 1) }
     ensures text { IfErr owned (λ kind. kind ≢ ErrorKind.OutOfMemory → exit_status result ≡ 2) }
 {
-    let status = answer(rt, alloc, owned, input, out, alarm, display_alarm, err);
+    let status = answer(rt, own, alloc, owned, input, out, alarms, err);
     ExitCode::from(status)
 }
 
 // Runs the program on its arguments, and answers the exit status. Of arguments that can't be had, only that is printed.
 fn answer<
     R: Threads + Wait + Clock + Files<File = File, Dir: Send> + Sync,
+    W: Wait + Clock + PathHost + Copy + Send + 'static,
     I: Read + Drop,
     O: Write + Send + Drop,
     A: Write + Send + Drop,
     E: Write + Drop,
 >(
     rt: &R,
+    own: W,
     alloc: Global,
     owned: Result<Vec<String>, ErrorKind>,
     input: I,
     out: O,
-    alarm: A,
-    display_alarm: A,
+    alarms: Alarms<A>,
     err: E,
 ) -> u8
     ensures given { IfOk owned (λ words. GivesStatus (map string_bytes words.items) (I.remaining input)
-        (O.Write.contents out) (A.Write.contents alarm) (E.Write.contents err) result) }
+        (O.Write.contents out) (A.Write.contents alarms.record) (E.Write.contents err) result) }
     ensures memory { IfErr owned (λ kind. kind ≡ ErrorKind.OutOfMemory → result ≡ 1) }
     ensures text { IfErr owned (λ kind. kind ≢ ErrorKind.OutOfMemory → result ≡ 2) }
 {
@@ -79,13 +83,13 @@ fn answer<
     let origin = milliseconds_since_1970(rt);
     obey(
         rt,
+        own,
         alloc,
         words.as_slice(),
         origin,
         input,
         out,
-        alarm,
-        display_alarm,
+        alarms,
         &mut err,
     )
     .status

@@ -8,6 +8,7 @@ ghost use Rattle.station_main.specs.Status.{fault_status, status_of};
 ghost use Rattle.station_main.specs.Telling.{OutOfMemory, Tells, replay_lines, told_of};
 
 use crate::faults::{Fault, tell_after, write_tally};
+use crate::limit_alarm::LimitAlarm;
 use crate::limits::{AIRCRAFT, FORGET_AT, LIMITS, TURNS};
 use crate::output::{Ran, Written, give_up, unbuffered, without_output};
 use crate::standard_error::StandardError;
@@ -19,13 +20,15 @@ use std::io::{BufReader, BufWriter, Read, Write};
 use std::sync::Wait;
 
 /// Reads the lines of the input, and writes the tables that they ask for in this format. Then prints what was counted, and
-/// a fault if there is one. Answers the output, unless nothing was read.
-pub fn replay_input<R: Wait, I: Read + Drop, O: Write + Drop, E: Write>(
+/// a fault if there is one. The first frame or tick that meets a full journal or a full table is reported to `alarm` at once.
+/// Answers the output, unless nothing was read.
+pub fn replay_input<R: Wait, I: Read + Drop, O: Write + Drop, A: Write + Drop, E: Write>(
     rt: &R,
     alloc: Global,
     format: Format,
     input: I,
     out: O,
+    alarm: A,
     err: &mut StandardError<E>,
 ) -> Ran<O>
     ensures most { result.status ≤ 1 }
@@ -43,7 +46,17 @@ pub fn replay_input<R: Wait, I: Read + Drop, O: Write + Drop, E: Write>(
     };
     let mut from = FromRead::new(input);
     let mut to = ToWrite::new(output);
-    let answer = replay_forgetting(rt, FORGET_AT, &mut desk, &mut from, &mut to, format, TURNS);
+    let mut limits = LimitAlarm::new(alarm);
+    let answer = replay_forgetting(
+        rt,
+        FORGET_AT,
+        &mut desk,
+        &mut from,
+        &mut to,
+        format,
+        TURNS,
+        &mut limits,
+    );
     desk.end(rt);
     let Written { out, has_failed } = take_out(to.into_inner(), &answer);
     Ran {

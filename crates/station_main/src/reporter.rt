@@ -1,24 +1,27 @@
 //! The reporter, which prints the table as its own seat sees it.
-ghost use Rattle.std.specs.Prelude.{◌≡◌, ℕ, List};
+ghost use Rattle.std.specs.Prelude.{◌≡◌, ◌≤◌, ℕ, List, None, false, length, true};
 ghost use Rattle.std.specs.Io.KnownBytes.{Appends};
 ghost use Rattle.station_main.specs.Output.{sink_of};
 ghost use Rattle.station_main.specs.Recorded.{PrintsAndRecords};
-ghost use Rattle.station_main.specs.Reporter.{Reports, ReportsByAClock};
+ghost use Rattle.station_main.specs.Reporter.{IsLater, Reports, ReportsByAClock};
 ghost use Rattle.station_main.specs.Tables.{text_of};
 ghost use Rattle.station_report.specs.Sink.{TakesAll};
 
 use crate::bell::Bell;
 use crate::beside::Beside;
 use crate::displays::{put_table, table_for};
+use crate::duties::Duties;
 use crate::recorder::record_look;
-use crate::schedule::{Act, Moments, Since, Tables, act_at};
+use crate::schedule::{Act, Due, Moments, Since, act_at};
+use station_portions::HandOver;
 use station_report::{Format, Sink, WriteFault, flush_after, table_as};
 use station_shared::{Look, Seat, Station, StationName};
+use std::alloc::Global;
 use std::fs::File;
 use std::io::Write;
 use std::rt::Files;
 use std::snapshot::Snapshot;
-use std::sync::Wait;
+use std::sync::{Arc, Wait};
 use std::thread::Promise;
 use std::time::{Clock, Instant};
 
@@ -30,14 +33,16 @@ pub struct Reported<S, O, K> {
     pub beside: K,
     /// Whether a write of the output failed.
     pub has_failed: bool,
+    /// What is due next.
+    pub due: Due,
+    /// The time of the tick with which a hand-over was asked for, if one was.
+    pub asked_at: Option<u64>,
 }
 
 /// What a reporter starts from. Its promise is that it reports from there.
 #[derive(Drop)]
 pub struct Given<S, O, K> {
-    pub tables: Tables,
-    /// The time of the last tick before.
-    pub last: u64,
+    pub duties: Duties,
     pub seat: Snapshot<S>,
     pub out: Snapshot<O>,
     pub beside: Snapshot<K>,
@@ -49,16 +54,18 @@ impl<const N: usize, L: StationName, S: Sink, T: Sink, A: Write> Promise<
     ghost use Rattle.station_main.specs.Output.{sink_of};
     ghost use Rattle.station_main.specs.Reporter.{ReportsByAClock};
 
-    ghost kept_by = { λ given reported. ReportsByAClock L.start given.tables given.last given.seat.value reported.seat
+    ghost kept_by = { λ given reported. ReportsByAClock L.start given.duties reported.due reported.asked_at
+        given.seat.value reported.seat
         (sink_of S.taken S.failures given.out.value) (sink_of S.taken S.failures reported.out)
         given.beside.value.record reported.beside.record
         reported.has_failed };
 }
 
 /// Ticks, prints the table and records it each time that it is due, in milliseconds since `start`.
-/// Between tables it ticks alone, if ticks are asked for. `last` is the time of the last tick before it. Ends when all
-/// receivers have ended or a write of the output failed. Answers the seat, the sink, which has taken the tables of its looks
-/// and nothing else, and what is written beside: the record has gone on with what these looks saw.
+/// Between tables it ticks alone, if ticks are asked for. Ends when all receivers have ended, a write of the output failed,
+/// or the journal has so many entries that the station hands over: then it ticks alone once more, and asks for the end of
+/// all portions. Answers the seat, the sink, which has taken the tables of its looks and nothing else, and what is written
+/// beside: the record has gone on with what these looks saw. Limits that calls have met are reported at once.
 pub fn report<
     const N: usize,
     L: StationName,
@@ -70,32 +77,56 @@ pub fn report<
     rt: &R,
     station: &Station<N, L>,
     ended: &Bell,
+    hand_overs: &Vec<Arc<HandOver, Global>>,
     start: Option<Instant>,
-    tables: Tables,
-    last: u64,
+    duties: Duties,
     seat: Seat<N, L>,
     out: S,
     beside: Beside<T, A>,
 ) -> Reported<Seat<N, L>, S, Beside<T, A>>
-    ensures { ReportsByAClock L.start tables last seat result.seat (sink_of S.taken S.failures out)
+    ensures { ReportsByAClock L.start duties result.due result.asked_at seat result.seat (sink_of S.taken S.failures out)
         (sink_of S.taken S.failures result.out) beside.record
         result.beside.record result.has_failed }
 {
     let mut moments = Since { rt, start };
-    report_at(
+    let (mut reported, is_full) = report_at(
         rt,
         station,
         ended,
-        tables,
-        last,
+        duties,
         seat,
         out,
         beside,
         &mut moments,
-    )
+    );
+    if !is_full {
+        request_if(hand_overs, duties.ends_with_output && reported.has_failed);
+        return reported;
+    }
+    let at = moments.now();
+    let _ = station.tick(rt, &mut reported.seat, at);
+    reported.due = duties.tables.pace.after_tick(reported.due, at);
+    reported.asked_at = Some(at);
+    request_all(hand_overs);
+    reported
 }
 
-// `report` by any clock: a table at each of its times at which one is due, and a tick alone where only that is due.
+// Asks for the end of all portions, under a condition.
+fn request_if(hand_overs: &Vec<Arc<HandOver, Global>>, condition: bool) {
+    if condition {
+        request_all(hand_overs);
+    }
+}
+
+// Asks for the end of all portions.
+fn request_all(hand_overs: &Vec<Arc<HandOver, Global>>) {
+    for hand_over in hand_overs {
+        hand_over.request();
+    }
+}
+
+// `report` by any clock up to a hand-over: a table at each of its times at which one is due, and a tick alone where only
+// that is due. Answers whether the station is to hand over.
 fn report_at<
     const N: usize,
     L: StationName,
@@ -108,26 +139,35 @@ fn report_at<
     rt: &R,
     station: &Station<N, L>,
     ended: &Bell,
-    tables: Tables,
-    last: u64,
+    duties: Duties,
     mut seat: Seat<N, L>,
     mut out: S,
     mut beside: Beside<T, A>,
     moments: &mut M,
-) -> Reported<Seat<N, L>, S, Beside<T, A>>
-    ensures { (given : List ℕ) × Appends (M.given moments.old) (M.given moments.new) given
-        × Reports L.start tables last given seat result.seat (sink_of S.taken S.failures out)
-        (sink_of S.taken S.failures result.out) beside.record
-        result.beside.record result.has_failed }
+) -> (Reported<Seat<N, L>, S, Beside<T, A>>, bool)
+    ensures reports { (given : List ℕ) × Appends (M.given moments.old) (M.given moments.new) given
+        × Reports L.start duties.tables duties.due result.0.due given seat result.0.seat (sink_of S.taken S.failures out)
+        (sink_of S.taken S.failures result.0.out) beside.record
+        result.0.beside.record result.0.has_failed }
+    ensures full { result.1 ≡ true → duties.hand_over_at ≤ length result.0.seat.seen }
+    ensures well { result.1 ≡ true → result.0.has_failed ≡ false }
+    ensures asked { result.0.asked_at ≡ None }
 {
-    let Tables { pace, format } = tables;
     let mut has_failed = false;
-    let mut due = pace.after_table(last);
+    let mut due = duties.due;
+    let mut now = 0;
     for _ in rt.forever() {
         if has_failed || ended.has_rung() {
             break;
         }
-        match act_at(moments.now(), due, pace) {
+        beside.report_limits(station.limits_met());
+        let (looked, entries) = count(seat);
+        seat = looked;
+        if duties.asks(entries, now, due) {
+            return (left(seat, out, beside, has_failed, due), true);
+        }
+        now = moments.now();
+        match act_at(now, due, duties.tables.pace) {
             Act::Sleep(pause) => ended.rest(rt, pause),
             Act::Tick { at, next_due } => {
                 let _ = station.tick(rt, &mut seat, at);
@@ -139,7 +179,7 @@ fn report_at<
                     rt,
                     station,
                     seat,
-                    format,
+                    duties.tables.format,
                     &mut out,
                     &mut beside,
                 );
@@ -149,11 +189,39 @@ fn report_at<
             }
         }
     }
+    (left(seat, out, beside, has_failed, due), false)
+}
+
+// What a reporter leaves that hasn't asked for a hand-over.
+fn left<S, O, K>(seat: S, out: O, beside: K, has_failed: bool, due: Due) -> Reported<S, O, K>
+    ensures seat { result.seat ≡ seat }
+    ensures out { result.out ≡ out }
+    ensures beside { result.beside ≡ beside }
+    ensures failed { result.has_failed ≡ has_failed }
+    ensures due { result.due ≡ due }
+    ensures asked { result.asked_at ≡ None }
+{
     Reported {
         seat,
         out,
         beside,
         has_failed,
+        due,
+        asked_at: None,
+    }
+}
+
+// How many entries the journal has by a look, which prints nothing. 0 if the look is refused.
+fn count<const N: usize, L: StationName>(seat: Seat<N, L>) -> (Seat<N, L>, u64)
+    ensures later { IsLater L.start seat result.0 }
+    ensures many { result.1 ≤ length result.0.seen }
+{
+    match seat.look() {
+        Ok(look) => {
+            let count = look.entries();
+            (look.done(), count)
+        }
+        Err(seat) => (seat, 0),
     }
 }
 

@@ -1,220 +1,173 @@
-//! One round of the job `run`: the work of one station.
-ghost use Rattle.std.specs.Prelude.{◌≡◌, ◌+◌, ◌≤◌, ◌∷◌, All, IfErr, IfOk, is_some, length, map, option_map, reverse, true};
+//! One round of the job `run`: stations one after another over the same paths.
+ghost use Rattle.std.specs.Prelude.{◌≡◌, ◌≤◌, ℕ, List, Option, Some, IfErr, IfOk, length, reverse};
 ghost use Rattle.station_journal.specs.Resume.{IsSound};
-ghost use Rattle.station_desk.specs.History.{base_of};
-ghost use Rattle.station_shared.specs.Closing.{EachOnce};
-ghost use Rattle.station_shared.specs.Seats.{newcomer};
-ghost use Rattle.station_main.specs.Inputs.{IsUnread, path_of};
 ghost use Rattle.station_main.specs.Limits.{program_limits};
 ghost use Rattle.station_main.specs.Output.{buffered_of};
-ghost use Rattle.station_main.specs.Rounds.{EndsRound, IsLast, given_of};
-ghost use Rattle.station_main.specs.Run.{HaveAnswers, IsUnstarted, Leaves};
-ghost use Rattle.station_main.specs.Telling.{told_of};
-
-mod ending;
-mod opening;
+ghost use Rattle.station_desk.specs.Start.{Start};
+ghost use Rattle.station_main.specs.Recorded.{Recording};
+ghost use Rattle.station_main.specs.Rounds.{Asked, Begun, EndsRound, EndsStation, Given, IsFirst, IsLastStation, IsRound, IsServed, begun_of};
+ghost use Rattle.station_main.specs.Run.{Closing, IsUnstarted};
+ghost use Rattle.station_main.specs.Telling.{Told, told_of};
 
 use crate::beside::Beside;
-use crate::faults::Fault;
-use crate::kept::Kept;
-use crate::limits::AIRCRAFT;
+use crate::faults::{Fault, tell};
+use crate::kept::{Kept, keep};
 use crate::output::{Ran, Written, without_output};
-use crate::round::ending::{finish, hand_on};
-use crate::round::opening::begin;
-use crate::schedule::Tables;
+use crate::paths::{Paths, join_ended};
+use crate::shift::{Ended, Finished, Shift, run_shift};
 use crate::standard_error::StandardError;
-use crate::threads::{Input, Output, Receiver, print_last, run_threads};
+use crate::tallies::tell_end;
+use station_portions::HandOver;
 use station_report::Sink;
-use station_shared::{Places, Seat, Station, StationName};
+use station_shared::Places;
 use std::alloc::Global;
 use std::fs::File;
 use std::io::Write;
+use std::marker::Brand;
 use std::rt::Files;
-use std::sync::Wait;
 use std::sync::ledger::Blank;
+use std::sync::{Arc, Wait};
 use std::thread::Threads;
 use std::time::{Clock, Instant};
 
-/// What a round needs besides its station.
-#[derive(Drop)]
-pub struct Plan<O: Write + Drop> {
-    /// The start of the program, if the clock could be read.
-    pub start: Option<Instant>,
-    /// When tables are due, and how they are written.
-    pub tables: Tables,
-    /// What the round goes on from.
-    pub kept: Kept,
-    /// At most 8.
-    pub inputs: Vec<Input>,
-    pub out: Output<O>,
-}
-
-/// How a round ends that is not the last.
+/// How a round ends.
 #[derive(Drop)]
 pub enum Round<O> {
-    /// A fault was printed, and ends the run.
+    /// A fault was printed, or it was the last round.
     Over(Ran<O>),
     /// Another round follows.
     GoesOn { out: O, kept: Kept },
 }
 
-// A station after its round, and what its threads left.
-struct Worked<L: StationName, O> {
-    station: Station<AIRCRAFT, L>,
-    receivers: Vec<Receiver<L>>,
-    reporter: Seat<AIRCRAFT, L>,
-    written: Written<O>,
-}
-
-/// Runs a round that is not the last. It hands on the recent entries, unless a fault was printed.
+/// Runs a round: one station, and further ones as long as they hand over. A round that is not the last hands on the recent
+/// entries, unless a fault was printed.
 pub fn run_round<
-    L: StationName + Send + Sync,
+    'a,
     R: Threads + Wait + Clock + Files<File = File, Dir: Send> + Sync,
     O: Write + Send + Drop,
     T: Sink + Send + Drop,
     A: Write + Send + Drop,
     E: Write,
 >(
-    rt: &R,
+    rt: &'a R,
     alloc: Global,
-    plan: Plan<O>,
-    blank: Blank,
-    places: Places<AIRCRAFT>,
+    start: Option<Instant>,
+    paths: Paths,
+    shift: Shift<'a, R, O>,
+    is_last: bool,
     beside: &mut Beside<T, A>,
     err: &mut StandardError<E>,
 ) -> Round<O>
-    requires few { length plan.inputs.items ≤ 8 }
-    requires unread { All IsUnread plan.inputs.items }
-    requires ledger { (blank.name ≡ L.name) × (blank.parts ≡ L.parts) }
-    requires seats { (L.parts ≡ length plan.inputs.items + 1)
-        × (L.seats ≡ length plan.inputs.items + 1)
-        × (places.places ≡ 1) }
-    requires start { (L.start.history ≡ places.history)
-        × (L.start.resumed ≡ length plan.kept.recent.entries.items) }
-    requires base { base_of places.history ≡ plan.kept.recent.base }
-    requires limits { L.start.limits ≡ program_limits }
-    requires sound { IsSound program_limits plan.kept.recent.base (reverse plan.kept.recent.entries.items) }
-    ensures { EndsRound O.contents (record { tables = plan.tables; paths = map path_of plan.inputs.items })
-        (given_of plan.kept) (buffered_of O.contents plan.out).taken
-        beside.old.record beside.new.record
+    requires few { length shift.inputs.items ≤ 8 }
+    requires many { length shift.answers.items ≡ length shift.inputs.items }
+    requires sound { IsSound program_limits shift.kept.recent.base (reverse shift.kept.recent.entries.items) }
+    ensures { (asked : Asked) (given : Given) (before : Option (List ℕ)) →
+        IsFirst asked given (begun_of shift.entry) →
+        buffered_of O.contents shift.entry.out ≡ record { taken = before; failures = 0 } →
+        EndsRound O.contents asked is_last given before beside.old.record beside.new.record
         (told_of E.contents err.old) (told_of E.contents err.new) result }
 {
-    match work::<L, _, _, _, _>(rt, alloc, plan, blank, places, beside) {
-        Ok(worked) => hand_on(rt, alloc, worked, beside, err),
-        Err(fault) => Round::Over(without_output(err, fault)),
+    let mut shift = shift;
+    for _ in rt.forever() {
+        let ended = match one_shift(rt, alloc, start, &paths.hand_overs, shift, beside) {
+            Ok(ended) => ended,
+            Err(fault) => return Round::Over(without_output(err, fault)),
+        };
+        match ended {
+            Ended::HandsOver(next) => shift = next,
+            Ended::Finishes(finished) => {
+                return end_round(rt, alloc, paths, finished, is_last, beside, err);
+            }
+        }
     }
+    unreachable!()
 }
 
-/// Runs the last round.
-pub fn run_last<
-    L: StationName + Send + Sync,
-    R: Threads + Wait + Clock + Files<File = File, Dir: Send> + Sync,
-    O: Write + Send + Drop,
-    T: Sink + Send + Drop,
-    A: Write + Send + Drop,
-    E: Write,
->(
-    rt: &R,
-    alloc: Global,
-    plan: Plan<O>,
-    blank: Blank,
-    places: Places<AIRCRAFT>,
-    beside: &mut Beside<T, A>,
-    err: &mut StandardError<E>,
-) -> Ran<O>
-    requires few { length plan.inputs.items ≤ 8 }
-    requires unread { All IsUnread plan.inputs.items }
-    requires ledger { (blank.name ≡ L.name) × (blank.parts ≡ L.parts) }
-    requires seats { (L.parts ≡ length plan.inputs.items + 1)
-        × (L.seats ≡ length plan.inputs.items + 1)
-        × (places.places ≡ 1) }
-    requires start { (L.start.history ≡ places.history)
-        × (L.start.resumed ≡ length plan.kept.recent.entries.items) }
-    requires base { base_of places.history ≡ plan.kept.recent.base }
-    requires limits { L.start.limits ≡ program_limits }
-    requires sound { IsSound program_limits plan.kept.recent.base (reverse plan.kept.recent.entries.items) }
-    ensures most { result.status ≤ 1 }
-    ensures last { IsLast (record { tables = plan.tables; paths = map path_of plan.inputs.items })
-        (given_of plan.kept) (buffered_of O.contents plan.out).taken
-        (option_map (λ left. O.contents left) result.out)
-        beside.old.record beside.new.record
-        (told_of E.contents err.old) (told_of E.contents err.new) result.status }
-{
-    match work::<L, _, _, _, _>(rt, alloc, plan, blank, places, beside) {
-        Ok(worked) => finish(rt, worked, err),
-        Err(fault) => without_output(err, fault),
-    }
-}
-
-// Starts a station, runs its threads to their ends, and prints the last table.
-fn work<
-    L: StationName + Send + Sync,
+// Runs one station, which is given a name.
+fn one_shift<
+    'a,
     R: Threads + Wait + Clock + Files<File = File, Dir: Send> + Sync,
     O: Write + Send + Drop,
     T: Sink + Send + Drop,
     A: Write + Send + Drop,
 >(
-    rt: &R,
+    rt: &'a R,
     alloc: Global,
-    plan: Plan<O>,
-    blank: Blank,
-    places: Places<AIRCRAFT>,
+    start: Option<Instant>,
+    hand_overs: &Vec<Arc<HandOver, Global>>,
+    shift: Shift<'a, R, O>,
     beside: &mut Beside<T, A>,
-) -> Result<Worked<L, O>, Fault<'static>>
-    requires few { length plan.inputs.items ≤ 8 }
-    requires unread { All IsUnread plan.inputs.items }
-    requires ledger { (blank.name ≡ L.name) × (blank.parts ≡ L.parts) }
-    requires seats { (L.parts ≡ length plan.inputs.items + 1)
-        × (L.seats ≡ length plan.inputs.items + 1)
-        × (places.places ≡ 1) }
-    requires start { (L.start.history ≡ places.history)
-        × (L.start.resumed ≡ length plan.kept.recent.entries.items) }
-    requires base { base_of places.history ≡ plan.kept.recent.base }
-    requires limits { L.start.limits ≡ program_limits }
-    requires sound { IsSound program_limits plan.kept.recent.base (reverse plan.kept.recent.entries.items) }
+) -> Result<Ended<'a, R, O>, Fault<'static>>
+    requires few { length shift.inputs.items ≤ 8 }
+    requires many { length shift.answers.items ≡ length shift.inputs.items }
+    requires sound { IsSound program_limits shift.kept.recent.base (reverse shift.kept.recent.entries.items) }
     ensures unstarted { IfErr result IsUnstarted }
-    ensures answered { IfOk result (λ worked. All (λ r. is_some r.answer ≡ true) worked.receivers.items) }
-    ensures pumped { IfOk result (λ worked. HaveAnswers L.start plan.kept.recent.entries.items
-        (map path_of plan.inputs.items) (λ r. r.seat) (λ r. r.answer) worked.receivers.items) }
-    ensures once { IfOk result (λ worked.
-        EachOnce L.seats (worked.reporter ∷ map (λ r. r.seat) worked.receivers.items)) }
-    ensures output { IfOk result (λ worked. Leaves L.start plan.tables plan.kept.last_tick
-        (newcomer plan.kept.recent.entries.items (length plan.inputs.items)) worked.reporter
-        (buffered_of O.contents plan.out).taken (O.contents worked.written.out)
-        beside.old.record beside.new.record
-        worked.written.has_failed) }
+    ensures ended { IfOk result (EndsStation O.contents (begun_of shift.entry) (buffered_of O.contents shift.entry.out)
+        beside.old.record beside.new.record) }
 {
-    let Plan {
-        start,
-        tables,
-        kept,
-        inputs,
-        out,
-    } = plan;
-    let last = kept.last_tick;
-    let Ok((station, receivers, reporter)) = begin::<L, _>(rt, alloc, kept, inputs, blank, places)
-    else {
+    let Ok(places) = Places::new(rt, alloc, shift.kept.recent.base, 1) else {
         return Err(Fault::NoMemory);
     };
-    let Some((receivers, reported)) = run_threads(
-        rt,
-        &station,
-        start,
-        tables,
-        last,
-        receivers,
-        reporter,
-        out,
-        beside.take(),
-    ) else {
-        station.end(rt);
-        return Err(Fault::ThreadNotStarted);
-    };
-    let (reporter, written) = print_last(rt, &station, tables.format, reported, beside);
-    Ok(Worked {
-        station,
-        receivers,
-        reporter,
-        written,
-    })
+    resume_all(hand_overs);
+    let blank = Blank::new(shift.inputs.len() as u64 + 1);
+    run_shift::<Brand, _, _, _, _>(rt, alloc, start, hand_overs, shift, blank, places, beside)
+}
+
+// Begins the next portion of each path.
+fn resume_all(hand_overs: &Vec<Arc<HandOver, Global>>) {
+    for hand_over in hand_overs {
+        hand_over.resume();
+    }
+}
+
+// Prints what was counted, and keeps the recent entries, unless a fault was printed or it was the last round.
+fn end_round<R: Threads + Wait, O: Write + Drop, T: Sink, A: Write, E: Write>(
+    rt: &R,
+    alloc: Global,
+    paths: Paths,
+    finished: Finished<'_, R, O>,
+    is_last: bool,
+    beside: &mut Beside<T, A>,
+    err: &mut StandardError<E>,
+) -> Round<O>
+    ensures { (asked : Asked) (given : Given) (begun : Begun) (start : Start) (closing : Closing)
+        (mid before : Option (List ℕ)) (shown was : Option Recording) →
+        IsServed O.contents begun start closing mid shown beside.old.record finished.entry →
+        ((after : Option (List ℕ)) (err_new : Told) (status : ℕ) →
+        IsLastStation begun start closing mid after shown beside.old.record
+        (told_of E.contents err.old) err_new status →
+        IsRound asked given start closing before after was beside.old.record
+        (told_of E.contents err.old) err_new status) →
+        EndsRound O.contents asked is_last given before was beside.new.record
+        (told_of E.contents err.old) (told_of E.contents err.new) result }
+{
+    let Finished {
+        journal,
+        inputs,
+        answers,
+        written: Written { out, has_failed },
+    } = finished;
+    join_ended(rt, &inputs, paths.threads);
+    let status = tell_end(err, &answers, has_failed);
+    if is_last {
+        return Round::Over(ended(status, out));
+    }
+    if status > 0 {
+        return Round::Over(ended(status, out));
+    }
+    match keep(alloc, &journal, beside) {
+        Ok(kept) => Round::GoesOn { out, kept },
+        Err(fault) => Round::Over(ended(tell(err, fault), out)),
+    }
+}
+
+// What a run leaves that has read its paths.
+fn ended<O>(status: u8, out: O) -> Ran<O>
+    ensures status { result.status ≡ status }
+    ensures out { result.out ≡ Some out }
+{
+    Ran {
+        status,
+        out: Some(out),
+    }
 }

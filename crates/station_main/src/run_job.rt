@@ -1,37 +1,36 @@
 //! The job `run`: its rounds, one after another.
-ghost use Rattle.std.specs.Prelude.{◌≡◌, ◌+◌, ◌-◌, ◌≤◌, All, Contains, IfErr, IfOk, List, length, map, option_map, reverse};
+ghost use Rattle.std.specs.Prelude.{◌≡◌, ◌⊎◌, ◌-◌, ◌≤◌, None, All, IfErr, IfOk, length, map, option_map, reverse};
 ghost use Rattle.std.specs.String.{string_bytes};
-ghost use Rattle.clap.specs.Words.{Text};
 ghost use Rattle.station_journal.specs.Resume.{IsSound};
-ghost use Rattle.station_desk.specs.History.{base_of};
-ghost use Rattle.station_main.specs.Inputs.{IsUnread, path_of};
+ghost use Rattle.station_main.specs.Inputs.{AreFed};
 ghost use Rattle.station_main.specs.Limits.{program_limits};
 ghost use Rattle.station_main.specs.Output.{buffered_of};
-ghost use Rattle.station_main.specs.Rounds.{EndsRound, IsLast, Runs, RunsAsked, given_of, nothing};
-ghost use Rattle.station_main.specs.Run.{IsUnopened};
+ghost use Rattle.station_main.specs.Reporter.{after_table};
+ghost use Rattle.station_main.specs.Rounds.{EndsRound, HasNoLines, Runs, RunsAsked, given_of, nothing};
+ghost use Rattle.station_main.specs.Run.{IsEarly, drawn_from};
 ghost use Rattle.station_main.specs.Telling.{told_of};
 
 use crate::beside::Beside;
+use crate::duties::Duties;
 use crate::faults::Fault;
 use crate::kept::Kept;
-use crate::limits::{AIRCRAFT, TABLE_ROOM};
-use crate::opened::Opened;
+use crate::limits::TABLE_ROOM;
 use crate::output::{Ran, without_output};
+use crate::path_host::PathHost;
+use crate::paths::{Paths, Started, open_all, start_all};
 use crate::record_file::record_to;
 use crate::recorder::status_of;
-use crate::round::{Plan, Round, run_last, run_round};
+use crate::round::{Round, run_round};
 use crate::schedule::Tables;
+use crate::shift::Shift;
 use crate::standard_error::StandardError;
-use crate::threads::{Input, Output};
+use crate::threads::Output;
 use station_report::{Sink, ToWrite};
-use station_shared::{FromBuffer, PIECE, Places};
 use std::alloc::Global;
 use std::fs::File;
-use std::io::{BufReader, BufWriter, ErrorKind, Write};
-use std::marker::Brand;
+use std::io::{BufWriter, Write};
 use std::rt::Files;
 use std::sync::Wait;
-use std::sync::ledger::Blank;
 use std::thread::Threads;
 use std::time::{Clock, Instant};
 
@@ -42,6 +41,8 @@ pub struct Asked<'a> {
     pub tables: Tables,
     /// 1 to 1,000.
     pub rounds: u16,
+    /// Whether a path that has ended, or whose read failed, is opened again. Then there is one round.
+    pub reopens: bool,
     /// When the clock of the tables begins, in milliseconds since 1970.
     pub origin: u64,
     /// The file that the run is recorded to, if one is given.
@@ -50,6 +51,8 @@ pub struct Asked<'a> {
     pub displays: &'a Option<String>,
     /// 1 to 8 files or pipes.
     pub paths: &'a Vec<String>,
+    /// How many entries of its journal make a station hand over to the next.
+    pub hand_over_at: u64,
 }
 
 /// Runs the rounds, and records what is printed if that is asked. Each round
@@ -63,11 +66,13 @@ pub struct Asked<'a> {
 /// nothing was read in the last round. `beside` has no record yet.
 pub fn run_paths<
     R: Threads + Wait + Clock + Files<File = File, Dir: Send> + Sync,
+    W: Wait + Clock + PathHost + Copy + Send + 'static,
     O: Write + Send + Drop,
     A: Write + Send + Drop,
     E: Write,
 >(
     rt: &R,
+    own: W,
     alloc: Global,
     asked: Asked<'_>,
     out: O,
@@ -80,18 +85,18 @@ pub fn run_paths<
     requires unrecorded { beside.old.record ≡ None }
     ensures most { result.status ≤ 1 }
     ensures runs { RunsAsked (option_map string_bytes asked.entry.record.now)
-        (record { tables = asked.entry.tables; paths = map string_bytes asked.entry.paths.now.items })
+        (record { tables = asked.entry.tables; paths = map string_bytes asked.entry.paths.now.items; hand_over_at = asked.entry.hand_over_at })
         (asked.entry.rounds - 1) (O.contents out) (option_map (λ left. O.contents left) result.out) (A.contents alarm)
         (told_of E.contents err.old) (told_of E.contents err.new) result.status }
 {
     let Some(path) = asked.record else {
-        return run_rounds(rt, alloc, asked, out, beside, err);
+        return run_rounds(rt, own, alloc, asked, out, beside, err);
     };
     match record_to(rt, alloc, path.as_str(), StandardError::new(alarm)) {
         Ok(recorder) => beside.record = Some(recorder),
         Err(fault) => return without_output(err, fault),
     }
-    let Ran { status, out } = run_rounds(rt, alloc, asked, out, beside, err);
+    let Ran { status, out } = run_rounds(rt, own, alloc, asked, out, beside, err);
     Ran {
         status: status.max(status_of(&beside.record)),
         out,
@@ -101,12 +106,14 @@ pub fn run_paths<
 // Runs the rounds, with or without a record.
 fn run_rounds<
     R: Threads + Wait + Clock + Files<File = File, Dir: Send> + Sync,
+    W: Wait + Clock + PathHost + Copy + Send + 'static,
     O: Write + Send + Drop,
     T: Sink + Send + Drop,
     A: Write + Send + Drop,
     E: Write,
 >(
     rt: &R,
+    own: W,
     alloc: Global,
     asked: Asked<'_>,
     out: O,
@@ -116,7 +123,7 @@ fn run_rounds<
     requires rounds { 1 ≤ asked.rounds }
     requires paths { length asked.paths.now.items ≤ 8 }
     ensures most { result.status ≤ 1 }
-    ensures runs { Runs (record { tables = asked.entry.tables; paths = map string_bytes asked.entry.paths.now.items })
+    ensures runs { Runs (record { tables = asked.entry.tables; paths = map string_bytes asked.entry.paths.now.items; hand_over_at = asked.entry.hand_over_at })
         (asked.entry.rounds - 1) nothing (O.contents out) (option_map (λ left. O.contents left) result.out)
         beside.old.record beside.new.record
         (told_of E.contents err.old) (told_of E.contents err.new) result.status }
@@ -126,7 +133,7 @@ fn run_rounds<
     let mut out = out;
     let mut more = asked.rounds - 1;
     while more > 0 {
-        match one_round(rt, alloc, asked, start, kept, out, beside, err) {
+        match one_round(rt, own, alloc, asked, start, kept, out, false, beside, err) {
             Round::Over(ran) => return ran,
             Round::GoesOn {
                 out: left,
@@ -138,154 +145,96 @@ fn run_rounds<
         }
         more -= 1;
     }
-    last_round(rt, alloc, asked, start, kept, out, beside, err)
+    match one_round(rt, own, alloc, asked, start, kept, out, true, beside, err) {
+        Round::Over(ran) => ran,
+        Round::GoesOn { .. } => unreachable!(),
+    }
 }
 
-// Runs a round that is not the last.
+// Runs one round.
 fn one_round<
     R: Threads + Wait + Clock + Files<File = File, Dir: Send> + Sync,
+    W: Wait + Clock + PathHost + Copy + Send + 'static,
     O: Write + Send + Drop,
     T: Sink + Send + Drop,
     A: Write + Send + Drop,
     E: Write,
 >(
     rt: &R,
+    own: W,
     alloc: Global,
     asked: Asked<'_>,
     start: Option<Instant>,
     kept: Kept,
     out: O,
+    is_last: bool,
     beside: &mut Beside<T, A>,
     err: &mut StandardError<E>,
 ) -> Round<O>
     requires few { length asked.paths.now.items ≤ 8 }
     requires sound { IsSound program_limits kept.recent.base (reverse kept.recent.entries.items) }
-    ensures { EndsRound O.contents (record { tables = asked.entry.tables; paths = map string_bytes asked.entry.paths.now.items })
-        (given_of kept) (O.contents out)
+    ensures { EndsRound O.contents (record { tables = asked.entry.tables; paths = map string_bytes asked.entry.paths.now.items; hand_over_at = asked.entry.hand_over_at })
+        is_last (given_of kept) (O.contents out)
         beside.old.record beside.new.record
         (told_of E.contents err.old) (told_of E.contents err.new) result }
 {
-    match prepare(rt, alloc, asked, start, kept, out) {
-        Ok((plan, places)) => {
-            let blank = Blank::new(plan.inputs.len() as u64 + 1);
-            run_round::<Brand, _, _, _, _, _>(rt, alloc, plan, blank, places, beside, err)
-        }
+    match prepare(rt, own, alloc, asked, kept, out) {
+        Ok((paths, shift)) => run_round(rt, alloc, start, paths, shift, is_last, beside, err),
         Err(fault) => Round::Over(without_output(err, fault)),
     }
 }
 
-// Runs the last round.
-fn last_round<
-    R: Threads + Wait + Clock + Files<File = File, Dir: Send> + Sync,
-    O: Write + Send + Drop,
-    T: Sink + Send + Drop,
-    A: Write + Send + Drop,
-    E: Write,
+// Makes what a round needs: its paths with their threads, and what its first station is begun with.
+fn prepare<
+    'a,
+    'p,
+    R: Threads + Wait + Files<File = File>,
+    W: Wait + Clock + PathHost + Copy + Send + 'static,
+    O: Write + Drop,
 >(
-    rt: &R,
+    rt: &'a R,
+    own: W,
     alloc: Global,
-    asked: Asked<'_>,
-    start: Option<Instant>,
+    asked: Asked<'p>,
     kept: Kept,
     out: O,
-    beside: &mut Beside<T, A>,
-    err: &mut StandardError<E>,
-) -> Ran<O>
-    requires few { length asked.paths.now.items ≤ 8 }
-    requires sound { IsSound program_limits kept.recent.base (reverse kept.recent.entries.items) }
-    ensures most { result.status ≤ 1 }
-    ensures last { IsLast (record { tables = asked.entry.tables; paths = map string_bytes asked.entry.paths.now.items })
-        (given_of kept) (O.contents out) (option_map (λ left. O.contents left) result.out)
-        beside.old.record beside.new.record
-        (told_of E.contents err.old) (told_of E.contents err.new) result.status }
-{
-    match prepare(rt, alloc, asked, start, kept, out) {
-        Ok((plan, places)) => {
-            let blank = Blank::new(plan.inputs.len() as u64 + 1);
-            run_last::<Brand, _, _, _, _, _>(rt, alloc, plan, blank, places, beside, err)
-        }
-        Err(fault) => without_output(err, fault),
-    }
-}
-
-// Makes what a round needs before its station: its inputs, a buffer for its output, and a place for the reporter, which
-// alone looks.
-fn prepare<'a, R: Wait + Files<File = File>, O: Write + Drop>(
-    rt: &R,
-    alloc: Global,
-    asked: Asked<'a>,
-    start: Option<Instant>,
-    kept: Kept,
-    out: O,
-) -> Result<(Plan<O>, Places<AIRCRAFT>), Fault<'a>>
+) -> Result<(Paths, Shift<'a, R, O>), Fault<'p>>
     requires { length asked.paths.now.items ≤ 8 }
-    ensures unopened { IfErr result (IsUnopened (map string_bytes asked.entry.paths.now.items)) }
-    ensures tables { IfOk result (λ made. made.0.tables ≡ asked.entry.tables) }
-    ensures kept { IfOk result (λ made. made.0.kept ≡ kept) }
-    ensures inputs { IfOk result (λ made. map path_of made.0.inputs.items ≡ map string_bytes asked.entry.paths.now.items) }
-    ensures many { IfOk result (λ made. length made.0.inputs.items ≡ length asked.entry.paths.now.items) }
-    ensures unread { IfOk result (λ made. All IsUnread made.0.inputs.items) }
-    ensures out { IfOk result (λ made. buffered_of O.contents made.0.out
+    ensures early { IfErr result (IsEarly (map string_bytes asked.entry.paths.now.items)) }
+    ensures tables { IfOk result (λ made. made.1.duties.tables ≡ asked.entry.tables) }
+    ensures due { IfOk result (λ made. made.1.duties.due ≡ after_table asked.entry.tables.pace kept.last_tick) }
+    ensures limit { IfOk result (λ made. made.1.duties.hand_over_at ≡ asked.entry.hand_over_at) }
+    ensures pause { IfOk result (λ made. made.1.duties.not_before ≡ 0) }
+    ensures kept { IfOk result (λ made. made.1.kept ≡ kept) }
+    ensures inputs { IfOk result (λ made. length made.1.inputs.items ≡ length asked.entry.paths.now.items) }
+    ensures fed { IfOk result (λ made.
+        AreFed (map string_bytes asked.entry.paths.now.items) (map drawn_from made.1.inputs.items)) }
+    ensures answers { IfOk result (λ made. length made.1.answers.items ≡ length asked.entry.paths.now.items) }
+    ensures none { IfOk result (λ made. All HasNoLines made.1.answers.items) }
+    ensures out { IfOk result (λ made. buffered_of O.contents made.1.out
         ≡ record { taken = O.contents out; failures = 0 }) }
-    ensures places { IfOk result (λ made. made.1.places ≡ 1) }
-    ensures base { IfOk result (λ made. base_of made.1.history ≡ kept.recent.base) }
 {
-    let inputs = open_all(rt, alloc, asked.paths)?;
+    let files = open_all(rt, alloc, asked.paths, asked.reopens)?;
     let Ok(buffered) = BufWriter::with_capacity(alloc, TABLE_ROOM, out) else {
         return Err(Fault::NoMemory);
     };
-    let Ok(places) = Places::new(rt, alloc, kept.recent.base, 1) else {
-        return Err(Fault::NoMemory);
-    };
-    let plan = Plan {
-        start,
-        tables: asked.tables,
-        kept,
+    let Started {
+        paths,
         inputs,
+        answers,
+    } = start_all(rt, own, alloc, files)?;
+    let duties = Duties::first(
+        asked.tables,
+        kept.last_tick,
+        asked.hand_over_at,
+        asked.reopens,
+    );
+    let shift = Shift {
+        kept,
+        duties,
+        inputs,
+        answers,
         out: ToWrite::new(buffered),
     };
-    Ok((plan, places))
-}
-
-// Opens the paths in order, up to the first that can't be opened.
-fn open_all<'a, R: Files<File = File>>(
-    rt: &R,
-    alloc: Global,
-    paths: &'a Vec<String>,
-) -> Result<Vec<Input>, Fault<'a>>
-    ensures opened { IfOk result (λ inputs. map path_of inputs.items ≡ map string_bytes paths.now.items) }
-    ensures many { IfOk result (λ inputs. length inputs.items ≡ length paths.now.items) }
-    ensures unread { IfOk result (λ inputs. All IsUnread inputs.items) }
-    ensures unopened { IfErr result (IsUnopened (map string_bytes paths.now.items)) }
-{
-    let mut inputs = Vec::new(alloc);
-    for path in paths {
-        let input = open(rt, alloc, path)?;
-        if inputs.push(input).is_err() {
-            return Err(Fault::NoMemory);
-        }
-    }
-    Ok(inputs)
-}
-
-// Opens a path, behind a buffer.
-fn open<'a, R: Files<File = File>>(
-    rt: &R,
-    alloc: Global,
-    path: &'a String,
-) -> Result<Input, Fault<'a>>
-    ensures path { IfOk result (λ input. path_of input ≡ string_bytes path.entry.now) }
-    ensures unread { IfOk result IsUnread }
-    ensures unopened { IfErr result (λ fault.
-        (paths : List Text) → Contains paths (string_bytes path.entry.now) → IsUnopened paths fault) }
-{
-    let opened = match Opened::open(rt, path) {
-        Ok(opened) => opened,
-        Err(error) if error.kind() == ErrorKind::OutOfMemory => return Err(Fault::NoMemory),
-        Err(_) => return Err(Fault::CannotOpen(path.as_str())),
-    };
-    let Ok(buffered) = BufReader::with_capacity(alloc, PIECE, opened) else {
-        return Err(Fault::NoMemory);
-    };
-    Ok(FromBuffer::new(buffered))
+    Ok((paths, shift))
 }

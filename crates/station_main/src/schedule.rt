@@ -2,7 +2,7 @@
 ghost use Rattle.std.specs.Prelude.{◌≡◌, ◌-◌, ◌^◌, ◌/◌, ℕ, List, [], ◌∷◌, Option, None, min};
 ghost use Rattle.std.specs.Duration.{as_nanos};
 ghost use Rattle.std.specs.Io.KnownBytes.{Appends};
-ghost use Rattle.station_main.specs.Reporter.{IsActAt, after_table, first_of, has_come, next_moment, next_tick};
+ghost use Rattle.station_main.specs.Reporter.{IsActAt, after_table, after_tick, first_of, has_come, next_moment, next_tick};
 
 use station_report::Format;
 use std::time::{Clock, Duration, Instant};
@@ -41,6 +41,16 @@ impl Pace {
     {
         Due {
             table: later(at, self.every),
+            tick: self.next_tick(at),
+        }
+    }
+
+    /// What is due after a tick alone at this time: the table is due where it was.
+    pub fn after_tick(self, due: Due, at: u64) -> Due
+        ensures { result ≡ after_tick self due at }
+    {
+        Due {
+            table: due.table,
             tick: self.next_tick(at),
         }
     }
@@ -121,10 +131,7 @@ pub fn act_at(now: u64, due: Due, pace: Pace) -> Act
     if due.is_tick_due(now) {
         return Act::Tick {
             at: now,
-            next_due: Due {
-                table: due.table,
-                tick: pace.next_tick(now),
-            },
+            next_due: pace.after_tick(due, now),
         };
     }
     let pause = (due.first() - now).min(LONGEST_SLEEP);

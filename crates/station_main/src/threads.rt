@@ -1,4 +1,4 @@
-//! The threads of a round of the job `run`, and its last table.
+//! The threads of a station of the job `run`, and the last table.
 ghost use Rattle.std.specs.Prelude.{◌≡◌, All, IfSome, is_some, true};
 ghost use Rattle.station_main.specs.Output.{buffered_of, sink_of};
 ghost use Rattle.station_main.specs.Reporter.{ReportsByAClock};
@@ -6,36 +6,39 @@ ghost use Rattle.station_main.specs.Run.{HaveWorked, PrintsLast};
 
 use crate::bell::Bell;
 use crate::beside::Beside;
+use crate::duties::Duties;
 use crate::limits::{AIRCRAFT, TURNS};
-use crate::opened::Opened;
 use crate::output::{Written, give_up, unbuffered};
 use crate::reporter::{Given, Reported, print_and_record, report};
-use crate::schedule::Tables;
+use station_portions::{HandOver, Portions};
 use station_report::{Format, Sink, ToWrite};
-use station_shared::{FromBuffer, Seat, Station, StationName, Worker, run_receivers};
+use station_shared::{Seat, Station, StationName, Worker, run_receivers};
+use std::alloc::Global;
 use std::fs::File;
 use std::io::{BufWriter, Write};
 use std::rt::Files;
 use std::snapshot::Snapshot;
-use std::sync::Wait;
+use std::sync::{Arc, Wait};
 use std::thread;
 use std::thread::Threads;
 use std::time::{Clock, Instant};
 
 /// A path that a receiver reads.
-pub type Input = FromBuffer<Opened>;
+pub type Input<'a, R> = Portions<'a, R>;
 
 /// The output of a run, in its buffer.
 pub type Output<O> = ToWrite<BufWriter<O>>;
 
 /// A receiver: its seat, its input and, once it has ended, its answer.
-pub type Receiver<L> = Worker<AIRCRAFT, Input, L>;
+pub type Receiver<'a, R, L> = Worker<AIRCRAFT, Input<'a, R>, L>;
 
-type Ended<L, O, K> = Reported<Seat<AIRCRAFT, L>, Output<O>, K>;
+/// What the reporter of a station leaves.
+pub type Left<L, O, K> = Reported<Seat<AIRCRAFT, L>, Output<O>, K>;
 
 /// Runs the receivers and the reporter to their ends, each in a thread of its own. Answers `None` if the reporter's
 /// thread can't be started, and then nothing is read.
 pub fn run_threads<
+    'a,
     L: StationName + Send + Sync,
     R: Threads + Wait + Clock + Files<File = File, Dir: Send> + Sync,
     S: Sink + Send + Drop,
@@ -44,23 +47,24 @@ pub fn run_threads<
 >(
     rt: &R,
     station: &Station<AIRCRAFT, L>,
+    hand_overs: &Vec<Arc<HandOver, Global>>,
     start: Option<Instant>,
-    tables: Tables,
-    last: u64,
-    mut receivers: Vec<Receiver<L>>,
+    duties: Duties,
+    receivers: Vec<Receiver<'a, R, L>>,
     seat: Seat<AIRCRAFT, L>,
     out: S,
     beside: Beside<T, A>,
 ) -> Option<
     (
-        Vec<Receiver<L>>,
+        Vec<Receiver<'a, R, L>>,
         Reported<Seat<AIRCRAFT, L>, S, Beside<T, A>>,
     ),
 >
     ensures answered { IfSome result (λ ended. All (λ r. is_some r.answer ≡ true) ended.0.items) }
     ensures receivers { IfSome result (λ ended. HaveWorked L.start (λ r. r.seat) (λ r. r.source) (λ r. r.answer)
-        receivers.items ended.0.items) }
-    ensures reporter { IfSome result (λ ended. ReportsByAClock L.start tables last seat ended.1.seat
+        receivers.entry.items ended.0.items) }
+    ensures reporter { IfSome result (λ ended. ReportsByAClock L.start duties ended.1.due ended.1.asked_at
+        seat ended.1.seat
         (sink_of S.taken S.failures out) (sink_of S.taken S.failures ended.1.out)
         beside.record ended.1.beside.record
         ended.1.has_failed) }
@@ -72,31 +76,33 @@ pub fn run_threads<
         rt,
         move |scope| -> Option<
             (
-                Vec<Receiver<L>>,
+                Vec<Receiver<'_, R, L>>,
                 Reported<Seat<AIRCRAFT, L>, S, Beside<T, A>>,
             ),
         >
             ensures answered { IfSome result (λ ended. All (λ r. is_some r.answer ≡ true) ended.0.items) }
             ensures receivers { IfSome result (λ ended. HaveWorked L.start (λ r. r.seat) (λ r. r.source) (λ r. r.answer)
-                receivers.items ended.0.items) }
-            ensures reporter { IfSome result (λ ended. ReportsByAClock L.start tables last seat ended.1.seat
+                receivers.entry.items ended.0.items) }
+            ensures reporter { IfSome result (λ ended. ReportsByAClock L.start duties ended.1.due ended.1.asked_at
+                seat ended.1.seat
                 (sink_of S.taken S.failures out) (sink_of S.taken S.failures ended.1.out)
                 beside.record ended.1.beside.record
                 ended.1.has_failed) }
         {
             let given = Given {
-                tables,
-                last,
+                duties,
                 seat: Snapshot::of(&seat),
                 out: Snapshot::of(&out),
                 beside: Snapshot::of(&beside),
             };
             match scope.spawn_with(
                 given,
-                move || report(rt, station, ended, start, tables, last, seat, out, beside),
+                move || report(
+                    rt, station, ended, hand_overs, start, duties, seat, out, beside,
+                ),
             ) {
                 Ok(reporter) => {
-                    run_receivers(rt, station, receivers.as_mut_slice(), TURNS);
+                    let receivers = run_all(rt, station, receivers);
                     ended.ring();
                     Some((receivers, reporter.join(rt)))
                 }
@@ -104,6 +110,21 @@ pub fn run_threads<
             }
         },
     )
+}
+
+// Runs the receivers to their ends, each in a thread of its own.
+fn run_all<'a, L: StationName + Send + Sync, R: Threads + Wait + Sync>(
+    rt: &R,
+    station: &Station<AIRCRAFT, L>,
+    receivers: Vec<Receiver<'a, R, L>>,
+) -> Vec<Receiver<'a, R, L>>
+    ensures answered { All (λ r. is_some r.answer ≡ true) result.items }
+    ensures worked { HaveWorked L.start (λ r. r.seat) (λ r. r.source) (λ r. r.answer)
+        receivers.entry.items result.items }
+{
+    let mut running = receivers;
+    run_receivers(rt, station, running.as_mut_slice(), TURNS);
+    running
 }
 
 /// Prints the last table, records it and puts it where displays find it, unless a write of the output failed before. Takes
@@ -118,7 +139,7 @@ pub fn print_last<
     rt: &R,
     station: &Station<AIRCRAFT, L>,
     format: Format,
-    reported: Ended<L, O, Beside<T, A>>,
+    reported: Left<L, O, Beside<T, A>>,
     beside: &mut Beside<T, A>,
 ) -> (Seat<AIRCRAFT, L>, Written<O>)
     ensures { PrintsLast format L.start reported.seat result.0 (buffered_of O.contents reported.out) reported.has_failed
@@ -130,6 +151,8 @@ pub fn print_last<
         mut out,
         beside: left,
         has_failed,
+        due: _,
+        asked_at: _,
     } = reported;
     *beside = left;
     if has_failed {

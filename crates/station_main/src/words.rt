@@ -1,8 +1,7 @@
 //! The command line.
 ghost use Rattle.clap.specs.Words.{App, fault_of, found_of, rows_of, takes};
-ghost use Rattle.station_main.specs.Command.{AreFormatNames, GivesJob, IsGiven, IsInRange, IsStation, IsWordsFault, NamesJob, station};
-ghost use Rattle.station_main.specs.declared.words.WordsFault.TheVariants.{NoMemory};
-ghost use Rattle.std.specs.Prelude.{◌≡◌, [], IfErr, IfOk, map, option_map, true};
+ghost use Rattle.station_main.specs.Command.{AreFormatNames, GivesJob, IsGiven, IsInRange, IsStation, IsOwnFault, IsWordsFault, NamesJob, gives_both, station};
+ghost use Rattle.std.specs.Prelude.{◌≡◌, [], IfErr, IfOk, false, map, option_map, true};
 ghost use Rattle.std.specs.String.{string_bytes};
 
 use crate::commands::station_command;
@@ -25,6 +24,8 @@ pub enum Job {
         pace: Pace,
         /// How often the paths are read, 1 to 1,000.
         rounds: u16,
+        /// Whether a path that has ended, or whose read failed, is opened again. Never where rounds are asked for.
+        reopen: bool,
         /// 1 to 8.
         paths: Vec<String>,
         /// The file that the run is recorded to, if one is given.
@@ -42,6 +43,8 @@ pub enum WordsFault {
     NoMemory,
     /// The answer of `clap`: the arguments are refused, or they ask for help.
     Clap(clap::Error),
+    /// `clap` accepts the arguments, but both `--reopen` and `--rounds` are given.
+    ReopensRounds,
 }
 
 impl From<AllocError> for WordsFault {
@@ -73,13 +76,15 @@ impl From<clap::Error> for WordsFault {
 }
 
 /// Reads a command line, which begins with the program's name, by `clap`: the subcommand, the format, and for `run` the
-/// values of its options and PATH. Arguments that `clap` accepts are refused only if out of memory.
+/// values of its options and PATH. Arguments that `clap` accepts are refused only if out of memory, or if both `--reopen` and
+/// `--rounds` are given.
 pub fn read_words<'a>(alloc: Global, words: &'a [&'a str]) -> Result<Job, WordsFault>
     ensures job { (app : App) × IsStation app
         × IfOk result (λ job. (fault_of app (map (λ w. w.now) words.entry.now) ≡ [])
         × NamesJob app (map (λ w. w.now) words.entry.now) job)
         × IfErr result (λ fault. IsWordsFault app (map (λ w. w.now) words.entry.now) fault
-        × (takes app (map (λ w. w.now) words.entry.now) ≡ true → fault ≡ NoMemory)) }
+        × (takes app (map (λ w. w.now) words.entry.now) ≡ true
+        → IsOwnFault app (map (λ w. w.now) words.entry.now) fault)) }
     ensures range { IfOk result IsInRange }
 {
     read_named(alloc, format_names(), words)
@@ -103,13 +108,17 @@ fn read_named<'a>(
     ensures range { IfOk result IsInRange }
     ensures refused { IfErr result (λ fault.
         IsWordsFault (station names.entry) (map (λ w. w.now) words.entry.now) fault
-        × (takes (station names.entry) (map (λ w. w.now) words.entry.now) ≡ true → fault ≡ NoMemory)) }
+        × (takes (station names.entry) (map (λ w. w.now) words.entry.now) ≡ true
+        → IsOwnFault (station names.entry) (map (λ w. w.now) words.entry.now) fault)) }
 {
     let matches = station_command(alloc, names)?.try_get_matches_from(words)?;
     let Some((name, given)) = matches.subcommand() else {
         unreachable!()
     };
     if name == "run" {
+        if has_both(given) {
+            return Err(WordsFault::ReopensRounds);
+        }
         return Ok(read_run(alloc, given)?);
     }
     Ok(Job::Replay {
@@ -117,8 +126,19 @@ fn read_named<'a>(
     })
 }
 
-fn read_run(alloc: Global, given: &ArgMatches<'_>) -> Result<Job, AllocError>
+// Whether both `--reopen` and `--rounds` are given.
+fn has_both(given: &ArgMatches<'_>) -> bool
     requires { IsGiven (rows_of (found_of given.now)) }
+    ensures { result ≡ gives_both (rows_of (found_of given.now)) }
+{
+    let reopen = given.get_flag("reopen");
+    let rounds = given.get_one::<u16>("rounds");
+    reopen && rounds.is_some()
+}
+
+fn read_run(alloc: Global, given: &ArgMatches<'_>) -> Result<Job, AllocError>
+    requires given { IsGiven (rows_of (found_of given.now)) }
+    requires not_both { gives_both (rows_of (found_of given.now)) ≡ false }
     ensures job { IfOk result (λ job. GivesJob (rows_of (found_of given.now)) job) }
     ensures range { IfOk result IsInRange }
 {
@@ -126,9 +146,8 @@ fn read_run(alloc: Global, given: &ArgMatches<'_>) -> Result<Job, AllocError>
         unreachable!()
     };
     let tick = given.get_one::<u32>("tick");
-    let Some(rounds) = given.get_one::<u16>("rounds") else {
-        unreachable!()
-    };
+    let rounds = given.get_one::<u16>("rounds");
+    let reopen = given.get_flag("reopen");
     let Some(texts) = given.get_strs("path") else {
         unreachable!()
     };
@@ -138,7 +157,8 @@ fn read_run(alloc: Global, given: &ArgMatches<'_>) -> Result<Job, AllocError>
     let folder = owned_if_given(alloc, given.get_str("json"))?;
     Ok(Job::Run {
         pace: Pace { every, tick },
-        rounds,
+        rounds: rounds.unwrap_or(1),
+        reopen,
         paths,
         record: file,
         format,

@@ -6,6 +6,7 @@ use crate::backlog::Backlog;
 use crate::finished_path::{FinishedPath, WholePath};
 use crate::hand_over::HandOver;
 use crate::message::{Buffer, Message, PathEnd};
+use crate::reopen::Reopen;
 use rtrb::{Consumer, Producer, PushError};
 use std::alloc::Global;
 use std::io::{self, Read};
@@ -160,6 +161,25 @@ impl PathReader {
         }
     }
 
+    // Sends one opening of a path after another, for as long as the program runs. Each is closed before the next is made: a
+    // pipe that is open twice would take lines that nobody reads.
+    fn run_again<R: Wait, I: Read + Drop, O: Reopen<I>>(
+        self,
+        rt: &R,
+        from: I,
+        again: O,
+    ) -> FinishedPath<I>
+        ensures { SendsWhole (I.remaining from) (I.remaining result.from) self.messages result.end result.sent }
+    {
+        let (mut reader, mut from, mut again) = (self, from, again);
+        for _ in rt.forever() {
+            let end = reader.send_path(rt, &mut from);
+            drop(from);
+            from = again.reopen(end);
+        }
+        unreachable!()
+    }
+
     /// Starts the thread that reads `from` to its end, or to a read that fails. It needn't be joined: it ends with its
     /// path, or with the program. An error where no thread can be started.
     pub fn start<R: Threads, W: Wait + Copy + Send + 'static, I: Read + Send + Drop + 'static>(
@@ -182,6 +202,39 @@ impl PathReader {
                 ensures { SendsWhole (I.remaining from) (I.remaining result.from)
                     reader.messages result.end result.sent }
             { reader.run(&own, from) },
+        )?;
+        Ok(handle)
+    }
+
+    /// Starts the thread that reads `from`, and whatever it is opened again as, each to its end or to a read that fails. A
+    /// last line without line feed gets one at the end, and is dropped after a failed read. The thread ends with the program.
+    /// An error where no thread can be started.
+    pub fn start_again<
+        R: Threads,
+        W: Wait + Copy + Send + 'static,
+        I: Read + Send + Drop + 'static,
+        O: Reopen<I> + Send + Drop + 'static,
+    >(
+        self,
+        rt: &R,
+        own: W,
+        from: I,
+        again: O,
+    ) -> io::Result<PromisedHandle<FinishedPath<I>, WholePath<I>>>
+        ensures { IfOk result (λ h. (h.promise.from.value ≡ from) × (h.promise.reader.value ≡ self)) }
+    {
+        let promise = WholePath {
+            from: Snapshot::of(&from),
+            reader: Snapshot::of(&self),
+        };
+        let reader = self;
+        let handle = thread::spawn_with(
+            rt,
+            promise,
+            move || -> FinishedPath<I>
+                ensures { SendsWhole (I.remaining from) (I.remaining result.from)
+                    reader.messages result.end result.sent }
+            { reader.run_again(&own, from, again) },
         )?;
         Ok(handle)
     }

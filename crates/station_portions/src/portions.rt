@@ -165,6 +165,10 @@ impl<'a, R> Portions<'a, R> {
     pub fn gave_all<I>(&mut self, path: &mut FinishedPath<I>) -> bool
         requires { IfSome path.old.sent (λ f. IsFinishedOf f self.old.messages) }
         ensures given { given self.new ≡ given self.old }
+        ensures end { self.new.end ≡ self.old.end }
+        ensures reads { self.new.reads ≡ self.old.reads }
+        ensures ends { self.new.ends ≡ self.old.ends }
+        ensures failures { self.new.failures ≡ self.old.failures }
         ensures all { result ≡ true → IfSome path.old.sent (λ f. given self.new ≡ bytes_in (all_sent f)) }
     {
         let Some(sent) = &mut path.sent else {

@@ -41,6 +41,7 @@ impl<const N: usize, L: StationName> Station<N, L> {
         let Station {
             locked,
             seats: _count,
+            flags: _,
         } = self;
         let Locked {
             desk,
@@ -74,6 +75,7 @@ impl<const N: usize, L: StationName> Station<N, L> {
         let Station {
             locked,
             seats: _count,
+            flags: _,
         } = self;
         Ok(Closed {
             journal: locked.into_inner().close(rt, seats),

@@ -3,6 +3,7 @@
 
 pub mod close;
 mod held_pump;
+pub mod limits_met;
 mod lines_ahead;
 mod locked;
 pub mod look;
@@ -15,6 +16,7 @@ pub mod station_name;
 pub mod worker;
 
 pub use close::{Closed, Missing};
+pub use limits_met::LimitsMet;
 pub use look::Look;
 pub use receipt::Receipt;
 pub use seat::Seat;

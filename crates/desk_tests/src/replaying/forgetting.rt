@@ -3,7 +3,7 @@
 use super::aged::{MOMENTS, REPLAYS_WITH_TICKS};
 use super::known::REPLAYS;
 use crate::fakes::{Pieces, Taker, counted, new_desk};
-use station_desk::{Desk, Format, replay, replay_forgetting};
+use station_desk::{Desk, Format, Unobserved, replay, replay_forgetting};
 
 // A desk that forgets at each tick, or once it has a few entries, gives the known tables.
 #[test]
@@ -22,6 +22,7 @@ fn desk_that_forgets_gives_known_tables(rt: HostRuntime) {
                     &mut sink,
                     Format::Text,
                     999,
+                    &mut Unobserved,
                 );
                 assert!(rt; answer.is_ok(), "{name}");
                 assert_eq!(rt; sink.bytes.as_slice(), text.as_bytes(), "{name}");
@@ -31,8 +32,8 @@ fn desk_that_forgets_gives_known_tables(rt: HostRuntime) {
     }
 }
 
-// Four frames, each 80,000 ms after the one before, and a question.
-const STREAM: &str = concat!(
+/// Four frames, each 80,000 ms after the one before, and a question.
+pub(super) const STREAM: &str = concat!(
     "+80000\n*8D4840D6202CC371C32CE0576098;\n",
     "+160000\n*8D485020994409940838175B284F;\n",
     "+240000\n*8D4840D6202CC371C32CE0576098;\n",
@@ -52,7 +53,16 @@ fn desk_that_forgets_takes_any_number_of_entries(rt: HostRuntime) {
     let mut desk: Desk<512> = new_desk(&rt, rt.alloc(), 3);
     let mut from = Pieces::new(STREAM.as_bytes());
     let mut sink = Taker::new();
-    let answer = replay_forgetting(&rt, 2, &mut desk, &mut from, &mut sink, Format::Text, 999);
+    let answer = replay_forgetting(
+        &rt,
+        2,
+        &mut desk,
+        &mut from,
+        &mut sink,
+        Format::Text,
+        999,
+        &mut Unobserved,
+    );
     assert_eq!(rt; answer, Ok(counted([4, 0], [4, 0], [1, 0, 0, 0])));
     assert_eq!(rt; sink.bytes.as_slice(), AT_THE_END.as_bytes());
     assert_eq!(rt; (desk.journal().len(), desk.journal().base()), (2, 240_000));

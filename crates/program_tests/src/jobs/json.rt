@@ -1,7 +1,7 @@
 //! Tables as JSON.
 use super::run::{IDENTIFICATION, VELOCITY, path_text, remove, two_files};
 use super::staged::Staged;
-use super::{NO_LINES, run_line, run_words, text, words_of};
+use super::{NO_LINES, run_line, run_words, text, unread_alarms, words_of};
 use station_main::exit_code;
 use std::alloc::{AllocError, Global};
 use std::process::ExitCode;
@@ -48,7 +48,7 @@ fn replay_writes_json_where_it_is_asked(rt: HostRuntime) -> Result<(), AllocErro
             "lines 1 frames 0 ticks 0 shows 1 blank 0 modeac 0 faults 0 accepted 0 refused 0\n",
         ),
     ] {
-        let ran = run_words(&rt, words.as_slice(), lines);
+        let ran = run_words(&rt, rt, words.as_slice(), lines);
         assert_eq!(rt; text(&ran.out), tables);
         assert_eq!(rt; text(&ran.err), tally);
         assert_eq!(rt; ran.status, 0);
@@ -72,7 +72,7 @@ fn run_writes_json_where_it_is_asked(rt: HostRuntime) -> Result<(), Fail> {
     let staged = Staged::new(&rt, [1_000_000].as_slice(), &has_ended);
     let line = "groundstation run --every 3600000 --format json";
     let mut out = Vec::new(rt.alloc());
-    let told = run_line(&staged, rt.alloc(), line, paths.as_slice(), &mut out)?;
+    let told = run_line(&staged, rt, rt.alloc(), line, paths.as_slice(), &mut out)?;
     assert_eq!(rt; text(&out), JSON_OF_BOTH);
     assert_eq!(rt; told.status, 0);
     remove(&rt, &files)?;
@@ -98,16 +98,15 @@ fn json_of_a_run_counts_from_the_time_of_the_system(rt: HostRuntime) -> Result<(
     let line = "groundstation run --every 3600000 --format json";
     let words = owned_words(alloc, line, paths.as_slice())?;
     let mut out = Vec::new(alloc);
-    let (alarm, display_alarm, err) = (Vec::new(alloc), Vec::new(alloc), Vec::new(alloc));
     let code = exit_code(
         &staged,
+        rt,
         alloc,
         Ok(words),
         NO_LINES,
         &mut out,
-        alarm,
-        display_alarm,
-        err,
+        unread_alarms(alloc),
+        Vec::new(alloc),
     );
     assert_eq!(rt; text(&out), JSON_OF_BOTH);
     assert!(rt; code == ExitCode::SUCCESS);

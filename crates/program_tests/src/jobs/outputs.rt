@@ -42,7 +42,7 @@ fn replay_writes_nothing_after_a_failed_write(rt: HostRuntime) {
         has_failed: &has_failed,
     };
     let words = ["groundstation", "replay"];
-    let status = status_of(&rt, rt.alloc(), words.as_slice(), lines, out, &mut err);
+    let status = status_of(&rt, rt, rt.alloc(), words.as_slice(), lines, out, &mut err);
     assert_eq!(rt; text(&taken), TABLE_OF_NOBODY);
     assert_eq!(rt;
         text(&err),
@@ -67,7 +67,7 @@ fn run_writes_nothing_after_a_failed_write_and_reads_on(rt: HostRuntime) -> Resu
         has_failed: &has_failed,
     };
     let feed = Feed::at(&has_failed, b"*8D4840D6202CC371C32CE0576098;\n");
-    let told = run_lasting(&rt, &staged, "groundstation run --every 100", out, feed)?.told;
+    let told = run_lasting(&rt, &staged, rt, "groundstation run --every 100", out, feed)?.told;
     assert_eq!(rt;
         text(&taken),
         concat!(
@@ -140,7 +140,7 @@ fn output_that_waits_holds_no_receiver_up(rt: HostRuntime) -> Result<(), Fail> {
         text: lines.as_slice(),
         end: &is_fed,
     };
-    let told = run_lasting(&rt, &rt, "groundstation run --every 1", out, feed)?.told;
+    let told = run_lasting(&rt, &rt, rt, "groundstation run --every 1", out, feed)?.told;
     assert_eq!(rt;
         text(&told.err),
         "lines 160004 frames 4 ticks 0 shows 0 blank 160000 modeac 0 faults 0 accepted 4 refused 0\n"
@@ -185,7 +185,7 @@ fn a_full_table_is_written_at_once(rt: HostRuntime) -> Result<(), Fail> {
     };
     let replies = all_call_replies(rt.alloc(), 1, 512)?;
     let feed = Feed::at(&is_written, replies.as_bytes());
-    let told = run_lasting(&rt, &staged, "groundstation run --every 1", out, feed)?.told;
+    let told = run_lasting(&rt, &staged, rt, "groundstation run --every 1", out, feed)?.told;
     assert!(rt; text(&last).starts_with("now 18446744073709551000 aircraft 512\n"));
     assert_eq!(rt;
         lengths.as_slice(),

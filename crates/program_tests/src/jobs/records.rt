@@ -4,6 +4,7 @@ use super::run::{
 };
 use super::staged::{Feed, Staged, run_lasting};
 use super::{Closed, Told, replay, run_line, text};
+use station_main::PathHost;
 use std::alloc::{AllocError, Global};
 use std::fs::{self, File};
 use std::io::{self, Write};
@@ -20,12 +21,20 @@ const RECORD_FAILED: &str = "groundstation: record failed\n";
 // Runs over the two files, with a record in this file.
 fn run_recorded<
     R: Threads + Wait + Clock + Files<File = File, Dir: Send> + Sync + AllocGlobal,
+    W: Wait + Clock + PathHost + Copy + Send + 'static,
     O: Write + Send + Drop,
->(rt: &R, files: &TwoFiles, options: &str, record: &str, out: O) -> Result<Told, AllocError> {
+>(
+    rt: &R,
+    own: W,
+    files: &TwoFiles,
+    options: &str,
+    record: &str,
+    out: O,
+) -> Result<Told, AllocError> {
     let alloc = rt.alloc();
     let line = format!(in alloc; "groundstation run {options} --record={record}")?;
     let paths = [path_text(&files.first)?, path_text(&files.second)?];
-    run_line(rt, alloc, line.as_str(), paths.as_slice(), out)
+    run_line(rt, own, alloc, line.as_str(), paths.as_slice(), out)
 }
 
 // A path in the folder of the two files.
@@ -35,11 +44,12 @@ fn record_path(alloc: Global, files: &TwoFiles, name: &str) -> Result<String, Al
 }
 
 // The bytes of a file, and what `replay` prints of them.
-fn shown_again<
+pub fn shown_again<
     R: Threads + Wait + Clock + Files<File = File, Dir: Send> + Sync + AllocGlobal + Abort,
->(rt: &R, record: &str) -> io::Result<(Vec<u8>, Vec<u8>)> {
+    W: Wait + Clock + PathHost + Copy + Send + 'static,
+>(rt: &R, own: W, record: &str) -> io::Result<(Vec<u8>, Vec<u8>)> {
     let lines = fs::read(rt, record)?;
-    let shown = replay(rt, lines.as_slice());
+    let shown = replay(rt, own, lines.as_slice());
     Ok((lines, shown.out))
 }
 
@@ -49,8 +59,15 @@ fn a_record_of_two_files_is_shown_again(rt: HostRuntime) -> Result<(), Fail> {
     let files = two_files(&rt, IDENTIFICATION, VELOCITY)?;
     let record = record_path(rt.alloc(), &files, "record")?;
     let mut out = Vec::new(rt.alloc());
-    let told = run_recorded(&rt, &files, "--every=3600000", record.as_str(), &mut out)?;
-    let (lines, shown) = shown_again(&rt, record.as_str())?;
+    let told = run_recorded(
+        &rt,
+        rt,
+        &files,
+        "--every=3600000",
+        record.as_str(),
+        &mut out,
+    )?;
+    let (lines, shown) = shown_again(&rt, rt, record.as_str())?;
     let (first, second) = (IDENTIFICATION, VELOCITY);
     let either = format!(in rt.alloc(); "{first}{second}?\n")?;
     let or = format!(in rt.alloc(); "{second}{first}?\n")?;
@@ -78,8 +95,8 @@ fn a_record_of_ten_tables_is_shown_again(rt: HostRuntime) -> Result<(), Fail> {
     let staged = Staged::new(&rt, moments.as_slice(), &has_ended);
     let feed = Feed::at(&has_ended, IDENTIFICATION.as_bytes());
     let mut out = Vec::new(rt.alloc());
-    let lasted = run_lasting(&rt, &staged, line.as_str(), &mut out, feed)?;
-    let (lines, shown) = shown_again(&rt, path)?;
+    let lasted = run_lasting(&rt, &staged, rt, line.as_str(), &mut out, feed)?;
+    let (lines, shown) = shown_again(&rt, rt, path)?;
     assert!(rt; text(&lines).starts_with("+7001\n?\n+14002\n?\n+21003\n?\n"));
     assert!(rt; text(&lines).ends_with("+70010\n?\n*8D4840D6202CC371C32CE0576098;\n?\n"));
     assert_eq!(rt; text(&shown), text(&out));
@@ -100,8 +117,8 @@ fn a_record_goes_on_over_rounds(rt: HostRuntime) -> Result<(), Fail> {
     let record = record_path(rt.alloc(), &files, "record")?;
     let mut out = Vec::new(rt.alloc());
     let options = "--every=3600000 --rounds=3";
-    let told = run_recorded(&rt, &files, options, record.as_str(), &mut out)?;
-    let (lines, shown) = shown_again(&rt, record.as_str())?;
+    let told = run_recorded(&rt, rt, &files, options, record.as_str(), &mut out)?;
+    let (lines, shown) = shown_again(&rt, rt, record.as_str())?;
     assert_eq!(rt; lines.len(), IDENTIFICATION.len() + VELOCITY.len() + 6);
     assert!(rt; text(&lines).ends_with(";\n?\n?\n?\n"));
     assert_eq!(rt; text(&shown), text(&out));
@@ -121,6 +138,7 @@ fn a_record_that_fails_leaves_the_tables(rt: HostRuntime) -> Result<(), Fail> {
     let mut out = Vec::new(rt.alloc());
     let told = run_recorded(
         &rt,
+        rt,
         &files,
         "--every=3600000 --rounds=2",
         "/dev/full",
@@ -140,8 +158,8 @@ fn a_record_that_fails_leaves_the_tables(rt: HostRuntime) -> Result<(), Fail> {
 fn a_record_has_the_table_that_failed(rt: HostRuntime) -> Result<(), Fail> {
     let files = two_files(&rt, IDENTIFICATION, VELOCITY)?;
     let record = record_path(rt.alloc(), &files, "record")?;
-    let told = run_recorded(&rt, &files, "--every=3600000", record.as_str(), Closed)?;
-    let (_, shown) = shown_again(&rt, record.as_str())?;
+    let told = run_recorded(&rt, rt, &files, "--every=3600000", record.as_str(), Closed)?;
+    let (_, shown) = shown_again(&rt, rt, record.as_str())?;
     assert_eq!(rt; text(&shown), TABLE_OF_BOTH);
     let fault = text(&told.err).strip_prefix(ONE_FRAME_EACH);
     assert_eq!(rt; fault, Some("groundstation: write failed\n"));
@@ -158,7 +176,7 @@ fn a_file_that_takes_no_record_is_refused(rt: HostRuntime) -> Result<(), Fail> {
         let record = record_path(rt.alloc(), &files, name)?;
         let path = record.as_str();
         let mut out = Vec::new(rt.alloc());
-        let told = run_recorded(&rt, &files, "--every=3600000", path, &mut out)?;
+        let told = run_recorded(&rt, rt, &files, "--every=3600000", path, &mut out)?;
         let refused = format!(in rt.alloc(); "groundstation: cannot record to {path}\n")?;
         assert_eq!(rt; text(&told.err), refused.as_str());
         assert!(rt; out.is_empty() && told.alarm.is_empty() && told.status == 1);

@@ -6,6 +6,7 @@ use super::run::{
 };
 use super::staged::{Staged, lasting_path};
 use super::{Closed, Told, run_line, text};
+use station_main::PathHost;
 use std::alloc::{AllocError, Global};
 use std::fs::{self, File, OpenOptions};
 use std::io::{self, Write};
@@ -23,11 +24,12 @@ const ONE_FRAME_REFUSED_EACH: &str = concat!(
 // Rounds over these paths, with a table at the end of each.
 fn run_rounds<
     R: Threads + Wait + Clock + Files<File = File, Dir: Send> + Sync + AllocGlobal,
+    W: Wait + Clock + PathHost + Copy + Send + 'static,
     O: Write + Send + Drop,
->(rt: &R, rounds: u16, paths: &[&str], out: O) -> Result<Told, AllocError> {
+>(rt: &R, own: W, rounds: u16, paths: &[&str], out: O) -> Result<Told, AllocError> {
     let alloc = rt.alloc();
     let line = format!(in alloc; "groundstation run --every=3600000 --rounds={rounds}")?;
-    run_line(rt, alloc, line.as_str(), paths, out)
+    run_line(rt, own, alloc, line.as_str(), paths, out)
 }
 
 // No tick comes between the rounds, so the frames of the second are those of the first once more.
@@ -36,7 +38,7 @@ fn a_second_round_goes_on_from_the_first(rt: HostRuntime) -> io::Result<()> {
     let files = two_files(&rt, IDENTIFICATION, VELOCITY)?;
     let paths = [path_text(&files.first)?, path_text(&files.second)?];
     let mut out = Vec::new(rt.alloc());
-    let told = run_rounds(&rt, 2, paths.as_slice(), &mut out)?;
+    let told = run_rounds(&rt, rt, 2, paths.as_slice(), &mut out)?;
     let second_table = text(&out).strip_prefix(TABLE_OF_BOTH);
     assert_eq!(rt; second_table, Some(TABLE_OF_BOTH));
     let second_tallies = text(&told.err).strip_prefix(ONE_FRAME_EACH);
@@ -51,7 +53,7 @@ fn a_failed_read_ends_the_run_after_its_round(rt: HostRuntime) -> io::Result<()>
     let files = two_files(&rt, IDENTIFICATION, VELOCITY)?;
     let paths = [path_text(&files.folder)?, path_text(&files.second)?];
     let mut out = Vec::new(rt.alloc());
-    let told = run_rounds(&rt, 2, paths.as_slice(), &mut out)?;
+    let told = run_rounds(&rt, rt, 2, paths.as_slice(), &mut out)?;
     assert_eq!(rt; text(&out), TABLE_OF_SECOND);
     assert_eq!(rt; text(&told.err), FAILED_READ_AND_FRAME);
     assert_eq!(rt; told.status, 1);
@@ -63,7 +65,7 @@ fn a_failed_write_ends_the_run_after_its_round(rt: HostRuntime) -> io::Result<()
     let files = two_files(&rt, IDENTIFICATION, VELOCITY)?;
     let paths = [path_text(&files.first)?, path_text(&files.second)?];
     for rounds in [1, 2] {
-        let told = run_rounds(&rt, rounds, paths.as_slice(), Closed)?;
+        let told = run_rounds(&rt, rt, rounds, paths.as_slice(), Closed)?;
         let fault = text(&told.err).strip_prefix(ONE_FRAME_EACH);
         assert_eq!(rt; fault, Some("groundstation: write failed\n"));
         assert_eq!(rt; told.status, 1);
@@ -102,7 +104,7 @@ fn a_path_that_is_gone_is_told_after_the_round_before(rt: HostRuntime) -> io::Re
         path: second,
         taken: &mut taken,
     };
-    let told = run_rounds(&rt, 2, [first, second].as_slice(), out)?;
+    let told = run_rounds(&rt, rt, 2, [first, second].as_slice(), out)?;
     let lines = format!(in rt.alloc(); "{ONE_FRAME_EACH}groundstation: cannot open {second}\n")?;
     assert_eq!(rt; text(&taken), TABLE_OF_BOTH);
     assert_eq!(rt; text(&told.err), lines.as_str());
@@ -147,7 +149,7 @@ fn each_tally_of_eight_paths_is_its_own(rt: HostRuntime) -> io::Result<()> {
         paths.push(path.as_str())?;
     }
     let mut out = Vec::new(rt.alloc());
-    let told = run_rounds(&rt, 2, paths.as_slice(), &mut out)?;
+    let told = run_rounds(&rt, rt, 2, paths.as_slice(), &mut out)?;
     let (accepted, refused) = eight_tallies(rt.alloc())?;
     assert!(rt; text(&out).starts_with("now 0 aircraft 36\n"));
     let second_round = text(&told.err).strip_prefix(accepted.as_str());
@@ -237,7 +239,7 @@ fn a_round_keeps_the_clock_and_the_ages(rt: HostRuntime) -> io::Result<()> {
         tables: 0,
     };
     let line = "groundstation run --every=5000 --rounds=3";
-    let told = run_line(&staged, rt.alloc(), line, [path].as_slice(), out)?;
+    let told = run_line(&staged, rt, rt.alloc(), line, [path].as_slice(), out)?;
     assert_eq!(rt; text(&taken), TABLES_OF_THREE_ROUNDS);
     assert_eq!(rt; text(&told.err), TALLIES_OF_THREE_ROUNDS);
     assert_eq!(rt; told.status, 0);

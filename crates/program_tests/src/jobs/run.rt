@@ -1,5 +1,6 @@
 //! The job `run`, over files.
 use super::{NO_LINES, NO_MEMORY, Ran, run_line, run_words, text};
+use station_main::PathHost;
 use std::alloc::AllocError;
 use std::fs::File;
 use std::io::ErrorKind;
@@ -133,29 +134,27 @@ pub fn path_text(path: &PathBuf) -> Result<&str, AllocError> {
     }
 }
 
-fn run_two<R: Threads + Wait + Clock + Files<File = File, Dir: Send> + Sync + AllocGlobal + Abort>(
-    rt: &R,
-    first: &str,
-    second: &str,
-) -> Ran {
+fn run_two<
+    R: Threads + Wait + Clock + Files<File = File, Dir: Send> + Sync + AllocGlobal + Abort,
+    W: Wait + Clock + PathHost + Copy + Send + 'static,
+>(rt: &R, own: W, first: &str, second: &str) -> Ran {
     run_words(
         rt,
+        own,
         ["groundstation", "run", "--every", "3600000", first, second].as_slice(),
         NO_LINES,
     )
 }
 
-// What was shown if the program was refused memory or a thread: nothing if no path was read, and else the other path's
-// aircraft.
-fn shown_where_refused(told: &str) -> Option<&'static str> {
-    if told == NO_MEMORY || told == NO_THREAD {
-        Some("")
-    } else if told == FIRST_WITHOUT_MEMORY {
-        Some(TABLE_OF_SECOND)
-    } else if told == SECOND_WITHOUT_MEMORY {
-        Some(TABLE_OF_FIRST)
-    } else {
-        None
+// Whether a program that was refused memory or a thread may answer so: before a path is read nothing is shown, while the
+// station is closed all is shown, and else the other path's aircraft.
+fn is_refusal(shown: &str, told: &str) -> bool {
+    match told {
+        NO_MEMORY => shown.is_empty() || shown == TABLE_OF_BOTH,
+        NO_THREAD => shown.is_empty(),
+        FIRST_WITHOUT_MEMORY => shown == TABLE_OF_SECOND,
+        SECOND_WITHOUT_MEMORY => shown == TABLE_OF_FIRST,
+        _ => false,
     }
 }
 
@@ -163,11 +162,10 @@ fn shown_where_refused(told: &str) -> Option<&'static str> {
 fn two_files_are_shown_in_one_table(rt: HostRuntime) -> io::Result<()> {
     let files = two_files(&rt, IDENTIFICATION, VELOCITY)?;
     let (first, second) = (path_text(&files.first)?, path_text(&files.second)?);
-    let mut ran = run_two(&rt, first, second);
-    if let Some(shown) = shown_where_refused(text(&ran.err)) {
-        assert_eq!(rt; text(&ran.out), shown);
+    let mut ran = run_two(&rt, rt, first, second);
+    if is_refusal(text(&ran.out), text(&ran.err)) {
         assert_eq!(rt; ran.status, 1);
-        ran = run_two(&rt, first, second);
+        ran = run_two(&rt, rt, first, second);
     }
     assert_eq!(rt; text(&ran.out), TABLE_OF_BOTH);
     assert_eq!(rt; text(&ran.err), ONE_FRAME_EACH);
@@ -222,7 +220,7 @@ fn tallies_stand_in_the_order_of_the_paths(rt: HostRuntime) -> io::Result<()> {
     ] {
         let files = two_files(&rt, first.unwrap_or(""), second)?;
         let path = path_text(first_path(&files, first.is_some()))?;
-        let ran = run_two(&rt, path, path_text(&files.second)?);
+        let ran = run_two(&rt, rt, path, path_text(&files.second)?);
         assert_eq!(rt; text(&ran.out), table);
         let lines = text(&ran.err);
         assert!(rt; lines == told || lines == or_told, "{lines}");
@@ -233,14 +231,13 @@ fn tallies_stand_in_the_order_of_the_paths(rt: HostRuntime) -> io::Result<()> {
 }
 
 // Whether a run over these paths ends with status 1 and says this alone.
-fn says_alone<R: Threads + Wait + Clock + Files<File = File, Dir: Send> + Sync + AllocGlobal>(
-    rt: &R,
-    paths: &[&str],
-    told: &str,
-) -> Result<bool, AllocError> {
+fn says_alone<
+    R: Threads + Wait + Clock + Files<File = File, Dir: Send> + Sync + AllocGlobal,
+    W: Wait + Clock + PathHost + Copy + Send + 'static,
+>(rt: &R, own: W, paths: &[&str], told: &str) -> Result<bool, AllocError> {
     let mut out = Vec::new(rt.alloc());
     let line = "groundstation run --every 3600000";
-    let ran = run_line(rt, rt.alloc(), line, paths, &mut out)?;
+    let ran = run_line(rt, own, rt.alloc(), line, paths, &mut out)?;
     Ok(ran.status == 1 && out.is_empty() && text(&ran.err) == told)
 }
 
@@ -250,9 +247,9 @@ fn where_a_path_cannot_be_opened_nothing_is_read(rt: HostRuntime) -> io::Result<
     let first = path_text(&files.first)?;
     let no_file = "groundstation: cannot open nofile\n";
     let no_first_file = "groundstation: cannot open no first file\n";
-    assert!(rt; says_alone(&rt, ["nofile"].as_slice(), no_file)?);
-    assert!(rt; says_alone(&rt, [first, "nofile"].as_slice(), no_file)?);
+    assert!(rt; says_alone(&rt, rt, ["nofile"].as_slice(), no_file)?);
+    assert!(rt; says_alone(&rt, rt, [first, "nofile"].as_slice(), no_file)?);
     let both = ["no first file", "no second file"];
-    assert!(rt; says_alone(&rt, both.as_slice(), no_first_file)?);
+    assert!(rt; says_alone(&rt, rt, both.as_slice(), no_first_file)?);
     remove(&rt, &files)
 }

@@ -102,7 +102,7 @@ fn the_reporter_sleeps_between_its_readings_of_the_clock(rt: HostRuntime) -> Res
     let feed = Feed::at(&has_looked, NO_LINES);
     let began = Instant::now(&rt)?;
     let line = "groundstation run --every=3600000";
-    let lasted = run_lasting(&rt, &staged, line, &mut out, feed)?;
+    let lasted = run_lasting(&rt, &staged, rt, line, &mut out, feed)?;
     let allowed = 10 + began.elapsed(&rt)?.as_millis() / 10;
     assert_eq!(rt; lasted.told.status, 0);
     assert!(rt; u64::try_from(staged.readings())? <= u64::try_from(allowed)?);
@@ -110,7 +110,8 @@ fn the_reporter_sleeps_between_its_readings_of_the_clock(rt: HostRuntime) -> Res
 }
 
 // The reporter's second reading of the clock lets the path end, some 10 ms later at most, and its sleep of 50 ms begins
-// there. Processors may be busy, so one run of fifty that ends soon after its path is enough.
+// there: a run that waited for it would end 40 ms after its path. Processors may be busy, so one run of fifty that ends
+// sooner is enough.
 #[test]
 fn a_run_ends_while_its_reporter_sleeps(rt: HostRuntime) -> Result<(), Fail> {
     for _ in 0..50 {
@@ -119,9 +120,9 @@ fn a_run_ends_while_its_reporter_sleeps(rt: HostRuntime) -> Result<(), Fail> {
         let mut out = Vec::new(rt.alloc());
         let feed = Feed::at(&has_looked, NO_LINES);
         let line = "groundstation run --every=3600000";
-        let lasted = run_lasting(&rt, &staged, line, &mut out, feed)?;
+        let lasted = run_lasting(&rt, &staged, rt, line, &mut out, feed)?;
         assert_eq!(rt; lasted.told.status, 0);
-        if lasted.ended?.elapsed(&rt)? < Duration::from_millis(20) {
+        if lasted.ended?.elapsed(&rt)? < Duration::from_millis(38) {
             return Ok(());
         }
     }

@@ -1,5 +1,6 @@
 //! What tests of `run` share: a clock that shows a test's times, a path that lasts, a run over it, and a bounded wait.
 use super::{Told, run_line};
+use station_main::PathHost;
 use std::alloc::{Allocator, Global};
 use std::fs::{File, Metadata, OpenOptions};
 use std::io::{self, PipeReader, PipeWriter, Write};
@@ -188,15 +189,16 @@ pub struct Lasted {
 pub fn run_lasting<
     R: Threads + Clock + Files + Sync + AllocGlobal + Abort,
     C: Threads + Wait + Clock + Files<File = File, Dir: Send> + Sync,
+    W: Wait + Clock + PathHost + Copy + Send + 'static,
     O: Write + Send + Drop,
->(rt: &R, clock: &C, line: &str, out: O, feed: Feed<'_>) -> io::Result<Lasted> {
+>(rt: &R, clock: &C, own: W, line: &str, out: O, feed: Feed<'_>) -> io::Result<Lasted> {
     let lasting = lasting_path(rt, rt.alloc())?;
     let lines = lasting.lines;
     let path = lasting.path.as_str();
     let ((is_fed, ended), told) = join(
         rt,
         || (end_path(rt, lines, feed), Instant::now(rt)),
-        || run_line(clock, rt.alloc(), line, [path].as_slice(), out),
+        || run_line(clock, own, rt.alloc(), line, [path].as_slice(), out),
     );
     assert!(rt; is_fed, "the path got no text");
     Ok(Lasted { told: told?, ended })

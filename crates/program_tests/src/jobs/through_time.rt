@@ -35,7 +35,7 @@ fn a_table_is_printed_when_it_is_due_and_at_the_end(rt: HostRuntime) -> Result<(
     let mut out = Vec::new(rt.alloc());
     let feed = Feed::at(&has_ended, NO_LINES);
     let line = "groundstation run --every 100";
-    let lasted = run_lasting(&rt, &staged, line, &mut out, feed)?;
+    let lasted = run_lasting(&rt, &staged, rt, line, &mut out, feed)?;
     assert_eq!(rt; text(&out), TABLES_OF_NOBODY);
     assert_eq!(rt; lasted.told.status, 0);
     Ok(())
@@ -71,7 +71,7 @@ fn three_hundred_tables_are_printed_in_three_hours(rt: HostRuntime) -> Result<()
     let mut out = Vec::new(rt.alloc());
     let feed = Feed::at(&has_ended, NO_LINES);
     let line = "groundstation run --every 36000";
-    let lasted = run_lasting(&rt, &staged, line, &mut out, feed)?;
+    let lasted = run_lasting(&rt, &staged, rt, line, &mut out, feed)?;
     assert_eq!(rt; text(&out), tables_of_three_hours(rt.alloc())?.as_str());
     assert_eq!(rt; lasted.told.status, 0);
     Ok(())
@@ -120,7 +120,7 @@ fn paths_are_read_and_shown_side_by_side(rt: HostRuntime) -> Result<(), Fail> {
             drop(second_lines);
             were_shown
         },
-        || run_line(&rt, rt.alloc(), line, paths.as_slice(), out),
+        || run_line(&rt, rt, rt.alloc(), line, paths.as_slice(), out),
     );
     assert!(rt; were_shown);
     assert_eq!(rt; told?.status, 0);

@@ -30,7 +30,7 @@ fn ticks_alone_move_the_clock(rt: HostRuntime) -> Result<(), Fail> {
     let mut out = Vec::new(rt.alloc());
     let feed = Feed::at(&has_ended, IDENTIFICATION.as_bytes());
     let line = "groundstation run --every 3600000 --tick 1000";
-    let lasted = run_lasting(&rt, &staged, line, &mut out, feed)?;
+    let lasted = run_lasting(&rt, &staged, rt, line, &mut out, feed)?;
     assert_eq!(rt; text(&out), TABLE);
     assert_eq!(rt; lasted.told.status, 0);
     Ok(())

@@ -1,6 +1,6 @@
-use Rattle.std.proofs.Common.{◌≡◌, arith, inl, inr, refl}
+use Rattle.std.proofs.Common.{◌≡◌, ℕ, List, Bor, map, arith, inl, inr, refl}
 use Rattle.station_main.specs.declared.words.WordsFault.TheVariants as words_fault
-use Rattle.station_main.proofs.RefusedLemmas.{refused_obeyed}
+use Rattle.station_main.proofs.RefusedLemmas.{not_both_ways, not_taken, refused_both, refused_obeyed}
 use Rattle.station_main.proofs.command_line.obey.Goals as goal
 
 pub returns-in-Ok-clause-obeyed : goal.returns-in-Ok-clause-obeyed
@@ -9,7 +9,7 @@ returns-in-Ok-clause-obeyed g c =
     let done = c.do_job.ensures in (
       said.0,
       said.1,
-      (λ taken. (done.most, inl (record { accepted = said.2.0; job = c.in-Ok.job; named = said.2.1; done = done.done }))),
+      (λ taken. ((λ one. done.most), inl (record { accepted = said.2.0; job = c.in-Ok.job; named = said.2.1; done = done.done }))),
       inl (inl (record { accepted = said.2.0; job = c.in-Ok.job; named = said.2.1; done = done.done })),
     )
 
@@ -19,12 +19,30 @@ returns-in-Err-NoMemory-clause-obeyed g c =
     let ended = c.without_output.ensures in (
       said.0,
       said.1,
-      (λ taken. (omega (arith, ended.status), inr (record { out = rw ended.out refl; only = record { told = ended.told; status_is = ended.status } }))),
-      inl (inr (record { out = rw ended.out refl; only = record { told = ended.told; status_is = ended.status } })),
+      (λ taken. ((λ one. omega (arith, ended.status)), inr (inl (record { out = rw ended.out refl; only = record { told = ended.told; status_is = ended.status } })))),
+      inl (inr (inl (record { out = rw ended.out refl; only = record { told = ended.told; status_is = ended.status } }))),
+    )
+
+pub returns-in-Err-ReopensRounds-clause-obeyed : goal.returns-in-Err-ReopensRounds-clause-obeyed
+returns-in-Err-ReopensRounds-clause-obeyed g c =
+    let words = map {A = Bor (List ℕ)} {B = List ℕ} (λ w. w.now) c.args.words.now in
+    let said = c.in-Err-ReopensRounds.ensures.job in
+    let is : c.in-Err-ReopensRounds.field-0 ≡ words_fault.ReopensRounds = cc in
+    let ended = c.refuse_both.ensures in
+    let refused = refused_both said.0 words _ _ _ _ _ c.in-Err-ReopensRounds.field-0 is said.3.0 (ended.status, rw ended.out refl, ended.told) in (
+      said.0,
+      said.1,
+      (λ taken. ((λ one. absurd (not_both_ways _ refused.both one)), inr (inr refused))),
+      inl (inr (inr refused)),
     )
 
 pub returns-clause-obeyed : goal.returns-clause-obeyed
 returns-clause-obeyed g c =
+    let words = map {A = Bor (List ℕ)} {B = List ℕ} (λ w. w.now) c.args.words.now in
     let said = c.in-Err-Clap.ensures.job in
-    let is : c.in-Err-Clap.field-0 ≡ words_fault.Clap c.in-Err-Clap.error = cc in
-    (said.0, said.1, (λ taken. let same = said.3.1 taken in cc), refused_obeyed _ _ _ _ _ _ _ _ _ _ _ _ is said.3.0 c.write_answer.ensures.says)
+    let is : c.in-Err-Clap.field-0 ≡ words_fault.Clap c.in-Err-Clap.error = cc in (
+      said.0,
+      said.1,
+      (λ taken. absurd (not_taken said.0 words c.in-Err-Clap.field-0 c.in-Err-Clap.error is (said.3.1 taken))),
+      refused_obeyed _ _ _ _ _ _ _ _ _ _ _ _ is said.3.0 (rw is at c.write_answer.ensures.says),
+    )

@@ -6,5 +6,5 @@ use Rattle.station_main.proofs.reporter.report_at.Given as goal
 abbrev pub invariant-loop : goal.invariant-loop
 invariant-loop g l =
     let S = g.S.Sink in
-    ReportsTo g.L.StationName.start l.fn.tables l.last l.due (g.M.Moments.given l.fn.moments) (g.M.Moments.given l.moments) l.fn.seat l.seat (sink_of S.taken S.failures l.fn.out) (sink_of S.taken S.failures l.out)
+    ReportsTo g.L.StationName.start l.duties.tables l.duties.due l.due (g.M.Moments.given l.fn.moments) (g.M.Moments.given l.moments) l.fn.seat l.seat (sink_of S.taken S.failures l.fn.out) (sink_of S.taken S.failures l.out)
     l.fn.beside.record l.beside.record l.has_failed

@@ -10,7 +10,7 @@ use Rattle.station_main.proofs.run_job.run_rounds.Given as goal
 -- all rounds leave what the rounds to come leave
 abbrev pub invariant-loop-more : goal.invariant-loop-more
 invariant-loop-more g l =
-    let asked : Asked = record { tables = l.asked.tables; paths = map string_bytes l.asked.paths.now.items } in
+    let asked : Asked = record { tables = l.asked.tables; paths = map string_bytes l.asked.paths.now.items; hand_over_at = l.asked.hand_over_at } in
     let contents = g.O.Write.contents in
     let told = told_of g.E.Write.contents in
     record {

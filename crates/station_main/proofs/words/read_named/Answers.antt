@@ -1,9 +1,9 @@
 use Rattle.std.proofs.Common.{rules, ◌≡◌, ◌∙◌, ap, sym, subst, map, option_map, Some, [], codes, Bor, List, ℕ}
 use Rattle.std.proofs.lemmas.Result.{err_from_is_err_and}
 use Rattle.clap.specs.Faults.{fault_of, is_simple_and_free}
-use Rattle.clap.specs.Words.{Row, Text, found_of, is_simple, rows_of, subcommand_of, takes}
+use Rattle.clap.specs.Words.{Row, Text, found_of, is_simple, rows_of, subcommand_of}
 use Rattle.clap.proofs.WalkLemmas.{first_value-rows}
-use Rattle.station_main.specs.Command.{format_named, station}
+use Rattle.station_main.specs.Command.{format_named, run_gives_both, station}
 use Rattle.station_main.proofs.RefusedLemmas.{words_fault_of}
 use Rattle.station_main.proofs.JobLemmas.{names_job}
 use Rattle.station_main.proofs.RunLemmas.{none_some, run_given, some_same}
@@ -18,8 +18,8 @@ returns-in_err-matches-clause-refused c =
     let kinds = c.in_err-matches.ensures.kinds (ap is_simple_and_free station_is ∙ is_free-station c.args.names) in
     rw gone.1 (words_fault_of _ (station c.args.names) words _ _ station_is gone.2 c.in_err-matches.ensures.passes kinds)
 
-pub read_run-requires : goal.read_run-requires
-read_run-requires c =
+pub has_both-requires : goal.has_both-requires
+has_both-requires c =
     let station_is = c.in_ok-station_command.ensures.0 in
     let words = map {A = Bor (List ℕ)} {B = List ℕ} (λ w. w.now) c.args.words.now in
     let passes : fault_of (station c.args.names) words ≡ [] = subst (λ a. fault_of a words ≡ []) station_is (c.in_ok-matches.ensures.kinds (ap is_simple_and_free station_is ∙ (is_free-station c.args.names))) in
@@ -28,6 +28,30 @@ read_run-requires c =
     let name_is : c.in-Some.name.now ≡ codes "run" = search rules in
     let known = known_rows c.in_ok-matches.matches (codes "run") rows (ap Some (sym name_is) ∙ c.in-Some.ensures.name) c.in-Some.ensures.rows in
     run_given c.args.names words rows (sym (parsed.1 ∙ ap (λ a. subcommand_of a words) station_is) ∙ known) passes
+
+pub read_run-requires-clause-given : goal.read_run-requires-clause-given
+read_run-requires-clause-given c =
+    let station_is = c.in_ok-station_command.ensures.0 in
+    let words = map {A = Bor (List ℕ)} {B = List ℕ} (λ w. w.now) c.args.words.now in
+    let passes : fault_of (station c.args.names) words ≡ [] = subst (λ a. fault_of a words ≡ []) station_is (c.in_ok-matches.ensures.kinds (ap is_simple_and_free station_is ∙ (is_free-station c.args.names))) in
+    let parsed = c.in_ok-matches.ensures.matches (ap is_simple station_is ∙ (is_simple-station c.args.names)) in
+    let rows = rows_of (found_of c.in-Some.given.now) in
+    let name_is : c.in-Some.name.now ≡ codes "run" = search rules in
+    let known = known_rows c.in_ok-matches.matches (codes "run") rows (ap Some (sym name_is) ∙ c.in-Some.ensures.name) c.in-Some.ensures.rows in
+    run_given c.args.names words rows (sym (parsed.1 ∙ ap (λ a. subcommand_of a words) station_is) ∙ known) passes
+
+pub returns-then-has_both-clause-refused : goal.returns-then-has_both-clause-refused
+returns-then-has_both-clause-refused c =
+    let station_is = c.in_ok-station_command.ensures.0 in
+    let words = map {A = Bor (List ℕ)} {B = List ℕ} (λ w. w.now) c.args.words.now in
+    let passes : fault_of (station c.args.names) words ≡ [] = subst (λ a. fault_of a words ≡ []) station_is (c.in_ok-matches.ensures.kinds (ap is_simple_and_free station_is ∙ (is_free-station c.args.names))) in
+    let parsed = c.in_ok-matches.ensures.matches (ap is_simple station_is ∙ (is_simple-station c.args.names)) in
+    let rows = rows_of (found_of c.in-Some.given.now) in
+    let name_is : c.in-Some.name.now ≡ codes "run" = search rules in
+    let known = known_rows c.in_ok-matches.matches (codes "run") rows (ap Some (sym name_is) ∙ c.in-Some.ensures.name) c.in-Some.ensures.rows in
+    let named : subcommand_of (station c.args.names) words ≡ Some (codes "run", rows) = sym (parsed.1 ∙ ap (λ a. subcommand_of a words) station_is) ∙ known in
+    let both = ap run_gives_both named ∙ sym c.has_both.ensures ∙ c.if-has_both.true in
+    ((passes, both), λ taken. both)
 
 pub returns-then-eq-clause-job : goal.returns-then-eq-clause-job
 returns-then-eq-clause-job c =

@@ -1,0 +1,258 @@
+//! The job `run` over stations that hand over.
+use super::records::shown_again;
+use super::replies::all_call_replies;
+use super::run::{IDENTIFICATION, new_folder, path_text};
+use super::staged::{Staged, lasting_path};
+use super::text;
+use station_journal::{Entry, Recent};
+use station_main::{
+    Alarms, Asked, Due, Duties, Kept, Pace, StandardError, Tables, run_for_displays,
+};
+use station_report::Format;
+use std::fs;
+use std::io::{self, ErrorKind, PipeWriter, Write};
+use std::rt::Files;
+use std::sync::atomic::AtomicBool;
+use std::test::*;
+use std::thread::{self, join};
+use std::time::{Clock, Duration};
+
+// How many entries make a station hand over.
+const LIMIT: u64 = 20;
+
+// How many frames the first path gets before each hand-over, and how often.
+const FRAMES: u16 = 30;
+
+const TIMES: u16 = 4;
+
+// The bytes of a frame that come after a hand-over.
+const LATE: usize = 7;
+
+// How many hand-overs a record has: each ticks without a table. There are none before the run makes the file.
+fn hand_overs<R: Files + AllocGlobal>(rt: &R, record: &str) -> io::Result<usize> {
+    let lines = match fs::read(rt, record) {
+        Err(error) if error.kind() == ErrorKind::NotFound => return Ok(0),
+        lines => lines?,
+    };
+    let (mut ticks, mut tables) = (0usize, 0usize);
+    for byte in lines.as_slice() {
+        match *byte {
+            b'+' => ticks = ticks.saturating_add(1),
+            b'?' => tables = tables.saturating_add(1),
+            _ => (),
+        }
+    }
+    Ok(ticks.saturating_sub(tables))
+}
+
+// Waits for a number of hand-overs, for some 20 seconds at most, and answers whether they came.
+fn await_hand_overs<R: Clock + Files + AllocGlobal>(
+    rt: &R,
+    record: &str,
+    count: usize,
+) -> io::Result<bool> {
+    for _ in 0..2_000 {
+        if hand_overs(rt, record)? >= count {
+            return Ok(true);
+        }
+        thread::sleep(rt, Duration::from_millis(10));
+    }
+    Ok(false)
+}
+
+// Feeds a path part by part, each up to a hand-over. The last line of a part ends after it.
+fn feed<R: Clock + Files + AllocGlobal>(
+    rt: &R,
+    mut lines: PipeWriter,
+    text: &str,
+    record: &str,
+) -> io::Result<bool> {
+    let bytes = text.as_bytes();
+    let part = bytes.len() / usize::from(TIMES);
+    let mut at = 0;
+    for time in 1..=usize::from(TIMES) {
+        let end = part
+            .saturating_mul(time)
+            .saturating_sub(LATE)
+            .min(bytes.len());
+        if end > at {
+            lines.write_all(&bytes[at..end])?;
+            at = end;
+        }
+        if !await_hand_overs(rt, record, time)? {
+            return Ok(false);
+        }
+    }
+    lines.write_all(&bytes[at.min(bytes.len())..])?;
+    Ok(true)
+}
+
+// The clock passes 71 seconds at each reading, so what was heard before a hand-over is not recent after it.
+fn moments<R: AllocGlobal>(rt: &R) -> Result<Vec<u64>, std::alloc::AllocError> {
+    let mut moments = Vec::new(rt.alloc());
+    for i in 0..10_000u64 {
+        moments.push(1_000_000 + 71_000 * i)?;
+    }
+    Ok(moments)
+}
+
+// The second path is silent after its first line.
+#[test]
+fn hand_overs_lose_no_line_and_print_no_table(rt: HostRuntime) -> Result<(), Fail> {
+    let alloc = rt.alloc();
+    let folder = new_folder(&rt)?;
+    let record = format!(in alloc; "{}/record", path_text(&folder)?)?;
+    let moments = moments(&rt)?;
+    let has_ended = AtomicBool::new(false);
+    let staged = Staged::new(&rt, moments.as_slice(), &has_ended);
+    let (first, mut second) = (lasting_path(&rt, alloc)?, lasting_path(&rt, alloc)?);
+    second.lines.write_all(IDENTIFICATION.as_bytes())?;
+    let (first_lines, second_lines) = (first.lines, second.lines);
+    let paths = vec![in alloc; first.path, second.path]?;
+    let lines = all_call_replies(alloc, 1, FRAMES * TIMES)?;
+    let path = format!(in alloc; "{record}")?;
+    let asked_record = Some(record);
+    let asked = Asked {
+        tables: Tables {
+            pace: Pace {
+                every: 3_600_000,
+                tick: None,
+            },
+            format: Format::Text,
+        },
+        rounds: 1,
+        reopens: false,
+        origin: 0,
+        record: &asked_record,
+        displays: &None,
+        paths: &paths,
+        hand_over_at: LIMIT,
+    };
+    let (mut out, mut told) = (Vec::new(alloc), Vec::new(alloc));
+    let (mut alarm, mut display_alarm, mut limit_alarm) = (
+        Vec::new(alloc),
+        Vec::new(alloc),
+        Vec::new(alloc),
+    );
+    let alarms = Alarms {
+        record: &mut alarm,
+        displays: &mut display_alarm,
+        limits: &mut limit_alarm,
+    };
+    let mut err = StandardError::new(&mut told);
+    let (were_fed, status) = join(
+        &rt,
+        || {
+            let were_fed = feed(&rt, first_lines, lines.as_str(), path.as_str());
+            drop(second_lines);
+            were_fed
+        },
+        || { run_for_displays(&staged, rt, alloc, asked, &mut out, alarms, &mut err).status },
+    );
+    assert!(rt; were_fed?);
+    assert!(rt; status == 0 && alarm.is_empty() && limit_alarm.is_empty());
+    assert_eq!(rt;
+        text(&told),
+        concat!(
+            "lines 120 frames 120 ticks 0 shows 0 blank 0 modeac 0 faults 0 accepted 120 refused 0\n",
+            "lines 1 frames 1 ticks 0 shows 0 blank 0 modeac 0 faults 0 accepted 1 refused 0\n",
+        )
+    );
+    let (recorded, shown) = shown_again(&rt, rt, path.as_str())?;
+    assert_eq!(rt; text(&shown), text(&out));
+    assert_eq!(rt; text(&recorded).split('*').count(), 122);
+    fs::remove_dir_all(&rt, &folder)?;
+    Ok(())
+}
+
+// A reporter with a table each `every` milliseconds.
+fn duties(every: u32) -> Duties {
+    let tables = Tables {
+        pace: Pace { every, tick: None },
+        format: Format::Text,
+    };
+    Duties::first(tables, 0, LIMIT, false)
+}
+
+#[test]
+fn a_hand_over_is_asked_for_right_after_a_table(rt: HostRuntime) {
+    // The interval between tables, the number of entries, the time now, when a table is due, and whether it is asked for.
+    let rows = [
+        (200, 20, 1_000, 1_200, true),
+        (200, 21, 1_000, 1_200, true),
+        (200, 19, 1_000, 1_200, false),
+        (200, 20, 1_001, 1_200, false),
+        (200, 20, 1_300, 1_200, false),
+        (1, 20, 1_000, 1_001, true),
+        (1_000, 20, 1_000, 2_000, true),
+        (1_000, 20, 1_001, 2_000, false),
+        (5_000, 20, 1_000, 2_000, true),
+        (5_000, 20, 1_001, 2_000, false),
+        (3_600_000, 20, 0, 3_600_000, true),
+        (3_600_000, 20, u64::MAX, u64::MAX, false),
+    ];
+    for (every, entries, now, table, is_asked) in rows {
+        let due = Due { table, tick: None };
+        assert_eq!(rt; duties(every).asks(entries, now, due), is_asked);
+    }
+}
+
+// What a hand-over leaves: so many entries, and the time of the last tick.
+fn kept<R: AllocGlobal>(rt: &R, count: u8, last_tick: u64) -> Result<Kept, std::alloc::AllocError> {
+    let mut entries = Vec::new(rt.alloc());
+    for i in 0..count {
+        entries.push(Entry::Tick {
+            seat: 0,
+            at: 1 + u64::from(i),
+        })?;
+    }
+    Ok(Kept {
+        recent: Recent { base: 0, entries },
+        last_tick,
+    })
+}
+
+#[test]
+fn a_hand_over_that_freed_little_is_followed_by_a_pause(rt: HostRuntime) -> Result<(), Fail> {
+    // How many entries were left, the time of the last tick, and when the next hand-over may be asked for.
+    let rows = [
+        (0, 5_000, 0),
+        (10, 5_000, 0),
+        (11, 5_000, 15_000),
+        (20, 0, 10_000),
+        (20, u64::MAX - 9_999, u64::MAX),
+    ];
+    let due = Due {
+        table: 20_000,
+        tick: None,
+    };
+    for (count, last_tick, not_before) in rows {
+        let next = duties(200).after_hand_over(&kept(&rt, count, last_tick)?, due);
+        assert_eq!(rt; next.not_before, not_before);
+        assert_eq!(rt; next.due, due);
+        if let Some(early) = not_before.checked_sub(1) {
+            assert!(rt;
+                !next.asks(
+                    LIMIT,
+                    early,
+                    Due {
+                        table: u64::MAX,
+                        tick: None
+                    }
+                )
+            );
+        }
+        assert!(rt;
+            not_before == u64::MAX
+                || next.asks(
+                    LIMIT,
+                    not_before,
+                    Due {
+                        table: u64::MAX,
+                        tick: None
+                    }
+                )
+        );
+    }
+    Ok(())
+}

@@ -1,0 +1,99 @@
+//! Command lines that ask for help or the version.
+use super::{NO_LINES, run_words, text, words_of};
+use std::alloc::AllocError;
+
+// The lines for which help is asked fit a terminal of 80 columns.
+fn is_narrow(text: &str) -> bool {
+    for line in text.split('\n') {
+        if line.len() > 80 {
+            return false;
+        }
+    }
+    true
+}
+
+const HELP: &str = concat!(
+    "Decodes Mode S frames and keeps a table of aircraft\n\n",
+    "Usage: groundstation <COMMAND>\n\n",
+    "Commands:\n",
+    "  replay  Reads standard input, and writes the table at each line that is ?\n",
+    "  run     Reads 1 to 8 paths side by side, and writes one table every MS\n",
+    "  help    Print this message or the help of the given subcommand(s)\n\n",
+    "Options:\n",
+    "  -h, --help     Print help\n",
+    "  -V, --version  Print version\n\n",
+    "Examples:\n",
+    "  groundstation replay < examples/klm1023.avr\n",
+    "  groundstation run --every 1000 <(nc 127.0.0.1 30002 < /dev/null)\n\n",
+    "'groundstation help run' says more of that word. The formats of lines and tables\n",
+    "are in docs/FORMATS.md; columns, counts and faults in docs/USING.md.\n",
+);
+
+const RUN_HELP: &str = concat!(
+    "Reads 1 to 8 paths side by side, and writes one table every MS\n\n",
+    "Usage: groundstation run [OPTIONS] --every <MS> <PATH>...\n\n",
+    "Arguments:\n",
+    "  <PATH>...  1 to 8 files or named pipes, each read by a receiver of its own\n\n",
+    "Options:\n",
+    "      --every <MS>       Milliseconds from one table to the next, 1 to 3600000\n",
+    "      --tick <MS>        Milliseconds between ticks without a table, 1 to 60000\n",
+    "      --format <FORMAT>  How tables are written [possible values: text, json]\n",
+    "      --json <DIR>       Folder for each table as aircraft.json, for displays\n",
+    "      --rounds <R>       How often to read the paths, 1 to 1000 [default: 1]\n",
+    "      --reopen           Open each path again 1 s after it ended or failed\n",
+    "      --record <FILE>    File to record the run to, for replay\n",
+    "  -h, --help             Print help\n\n",
+    "Lines of a path, one of each kind:\n",
+);
+
+const REPLAY_HELP: &str = "Reads standard input, and writes the table at each line that is ?\n\n";
+
+const REPLAY_HELP_END: &str = concat!(
+    "\nAt a + line, once there are 12582912 accepted frames and + lines, those that\n",
+    "are more than 70 s old are forgotten. There is room for 16777216. When it is\n",
+    "full, all that comes is refused, and 'now' stands still.\n",
+    "Formats: docs/FORMATS.md.\n",
+);
+
+const RUN_HELP_END: &str = concat!(
+    "\nOnce there are 12582912 accepted frames and ticks, those that are more than\n",
+    "70 s old are forgotten. There is room for 16777216. When it is full, all that\n",
+    "comes is refused, and 'now' stands still.\n",
+    "Formats: docs/FORMATS.md. Receivers that drop: docs/USING.md.\n",
+);
+
+// How the text of each begins and ends. An empty end says that nothing follows.
+#[test]
+fn help_is_written_to_standard_output(rt: HostRuntime) -> Result<(), AllocError> {
+    for (line, front, end) in [
+        ("groundstation --help", HELP, ""),
+        ("groundstation run --help", RUN_HELP, RUN_HELP_END),
+        ("groundstation replay -h", REPLAY_HELP, REPLAY_HELP_END),
+    ] {
+        let words = words_of(rt.alloc(), line, [].as_slice())?;
+        let help = run_words(&rt, rt, words.as_slice(), NO_LINES);
+        assert!(rt;
+            help.status == 0 && help.err.is_empty() && is_narrow(text(&help.out)),
+            "{line}"
+        );
+        let rest = text(&help.out)
+            .strip_prefix(front)
+            .unwrap_or("no such front");
+        assert!(rt;
+            rest.ends_with(end) && rest.is_empty() == end.is_empty(),
+            "{line}"
+        );
+    }
+    Ok(())
+}
+
+#[test]
+fn the_version_is_written_to_standard_output(rt: HostRuntime) -> Result<(), AllocError> {
+    for line in ["groundstation --version", "groundstation -V"] {
+        let words = words_of(rt.alloc(), line, [].as_slice())?;
+        let told = run_words(&rt, rt, words.as_slice(), NO_LINES);
+        assert_eq!(rt; text(&told.out), "groundstation 1.0.0\n", "{line}");
+        assert!(rt; told.err.is_empty() && told.status == 0, "{line}");
+    }
+    Ok(())
+}

@@ -1,0 +1,70 @@
+//! The limits that refused calls meet, and what observes them.
+ghost use Rattle.std.specs.Prelude.{◌≡◌};
+ghost use Rattle.station_desk.specs.FullLimits.{full_limit_of, limits_of};
+
+use station_journal::Refusal;
+
+/// A limit for which calls are refused.
+#[derive(Clone, Copy, Debug, PartialEq, Eq)]
+pub enum FullLimit {
+    /// The journal contains as many entries as its limit.
+    Journal,
+    /// As many aircraft are live as the table's limit, and a frame is of another one.
+    Table,
+}
+
+impl FullLimit {
+    /// The limit for which a call is refused so. `None` where it is refused for something else.
+    pub fn of(refusal: Refusal) -> Option<FullLimit>
+        ensures { result ≡ full_limit_of refusal }
+    {
+        match refusal {
+            Refusal::JournalFull => Some(FullLimit::Journal),
+            Refusal::BookFull => Some(FullLimit::Table),
+            _ => None,
+        }
+    }
+}
+
+/// Observes each call that meets a limit, as the call is refused.
+pub trait LimitObserver {
+    ghost use Rattle.std.specs.Prelude.{List, [], ◌∷◌, ◌++◌};
+    ghost use Rattle.station_desk.specs.declared.full_limit.FullLimit.{FullLimit};
+
+    /// The state before some limits were met, these limits in their order, and the state after them.
+    ghost met: { Self → List FullLimit → Self → Type 0 };
+
+    /// A call met this limit.
+    fn limit_met(&mut self, limit: FullLimit)
+        ensures { met self.old (limit ∷ []) self.new };
+
+    /// Where no limit is met, nothing changes.
+    ghost none: { (x : Self) → met x [] x };
+
+    /// Meeting some limits and then others is meeting them all, in order.
+    ghost then: { (x y z : Self) (cs ds : List FullLimit)
+        → met x cs y → met y ds z → met x (cs ++ ds) z };
+}
+
+/// Ignores the limits that calls meet.
+#[derive(Clone, Copy, Debug, PartialEq, Eq)]
+pub struct Unobserved;
+
+impl LimitObserver for Unobserved {
+    ghost met = { λ x limits y. Unit {0} };
+
+    fn limit_met(&mut self, _limit: FullLimit) {}
+
+    ghost none = { λ x. tt };
+
+    ghost then = { λ x y z cs ds p q. tt };
+}
+
+// Passes the limit on for which a call was refused so, if it was for one.
+pub(crate) fn report_limit<O: LimitObserver>(observer: &mut O, refusal: Refusal)
+    ensures { O.met observer.old (limits_of refusal) observer.new }
+{
+    if let Some(limit) = FullLimit::of(refusal) {
+        observer.limit_met(limit);
+    }
+}

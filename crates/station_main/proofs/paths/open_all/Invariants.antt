@@ -1,0 +1,12 @@
+use Rattle.std.proofs.Common.{◌≡◌, length, take}
+use Rattle.std.specs.Prelude.{map}
+use Rattle.std.specs.String.{string_bytes}
+use Rattle.station_main.specs.Inputs.{path_of}
+use Rattle.station_main.proofs.paths.open_all.Given as goal
+
+-- the files so far, in the order of their paths
+abbrev pub invariant-loop-path : goal.invariant-loop-path
+invariant-loop-path g l = record {
+  opened : map path_of l.files.items ≡ map string_bytes (take l.path-index l.paths.items);
+  many : length l.files.items ≡ l.path-index;
+}

@@ -1,0 +1,31 @@
+use Rattle.std.proofs.Common.{rules, ◌≡◌, ◌∷◌, [], ◌++◌, Ok, append-nil, ap, arith, length, map, subst, sym}
+use Rattle.std.specs.Prelude.{All}
+use Rattle.std.specs.Vec.Iter.{into_iter_items}
+use Rattle.std.proofs.lemmas.List.{length_push}
+use Rattle.std.proofs.lemmas.List.Elements.{All-push}
+use Rattle.station_main.specs.Inputs.{AreFed, path_of}
+use Rattle.station_main.specs.Rounds.{HasNoLines}
+use Rattle.station_main.specs.Run.{drawn_from}
+use Rattle.station_main.proofs.PartLemmas.{no_items, one_more_fed}
+use Rattle.station_main.proofs.paths.start_all.Goals as goal
+
+pub loop-file-preserved : goal.loop-file-preserved
+loop-file-preserved g c =
+    let was = c.loop-file.invariant in
+    let split : into_iter_items c.loop-file.file-iterator ≡ c.in-Some.file ∷ into_iter_items c.next.new.self = search rules in
+    let input_pushed : c.push-else-is_err-2.new.self.items ≡ c.loop-file.inputs.items ++ c.in_ok-thread.input ∷ [] = search rules in
+    let answer_pushed : c.push-else-is_err-3.new.self.items ≡ c.loop-file.answers.items ++ Ok c.new.result ∷ [] = search rules in
+    let nothing : HasNoLines (Ok c.new.result) = search rules in
+    record {
+      inputs = omega (arith, was.inputs, ap length split, ap length input_pushed, length_push c.loop-file.inputs.items c.in_ok-thread.input);
+      fed = one_more_fed _ _ _ c.in-Some.file _ _ c.in_ok-thread.input split input_pushed c.in_ok-thread.ensures.fed was.fed;
+      answers = omega (arith, was.answers, ap length answer_pushed, ap length input_pushed, length_push c.loop-file.inputs.items c.in_ok-thread.input, length_push c.loop-file.answers.items (Ok c.new.result));
+      none = subst (All HasNoLines) (sym answer_pushed) (All-push HasNoLines c.loop-file.answers.items (Ok c.new.result) was.none nothing);
+    }
+
+pub returns-clause-fed : goal.returns-clause-fed
+returns-clause-fed g c =
+    let none : into_iter_items c.loop-file.file-iterator ≡ [] = no_items _ (omega (arith, c.in-None.ensures.steps.0)) in
+    let nothing : AreFed [] [] = tt in
+    subst (AreFed (map path_of c.args.files.items)) (append-nil (map drawn_from c.loop-file.inputs.items))
+    (c.loop-file.invariant.fed [] (subst (λ fs. AreFed (map path_of fs) []) (sym none) nothing))

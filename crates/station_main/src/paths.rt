@@ -1,0 +1,188 @@
+//! The paths of a round, each read by a thread of its own.
+ghost use Rattle.std.specs.Prelude.{◌≡◌, ◌≤◌, List, All, Contains, IfErr, IfOk, length, map};
+ghost use Rattle.std.specs.String.{string_bytes};
+ghost use Rattle.clap.specs.Words.{Text};
+ghost use Rattle.station_main.specs.Inputs.{AreFed, IsFedBy, path_of};
+ghost use Rattle.station_main.specs.Rounds.{HasNoLines};
+ghost use Rattle.station_main.specs.Run.{IsUnopened, IsUnstarted, drawn_from};
+
+use crate::faults::Fault;
+use crate::opened::Opened;
+use crate::path_host::PathHost;
+use crate::reopening::Reopening;
+use crate::shift::Answer;
+use crate::threads::Input;
+use station_portions::{FinishedPath, HandOver, PathReader, WholePath, connect};
+use station_shared::Tally;
+use std::alloc::Global;
+use std::fs::{self, File};
+use std::io::{self, ErrorKind};
+use std::os::unix::fs::FileTypeExt;
+use std::rt::Files;
+use std::sync::{Arc, Wait};
+use std::thread::{PromisedHandle, Threads};
+use std::time::Clock;
+
+/// The thread that reads a path.
+pub type PathThread = PromisedHandle<FinishedPath<Opened>, WholePath<Opened>>;
+
+/// What a round needs besides its stations.
+#[derive(Drop)]
+pub struct Paths {
+    /// The threads that read the paths, one for each in their order.
+    pub threads: Vec<PathThread>,
+    /// The requests for hand-overs, one for each path.
+    pub hand_overs: Vec<Arc<HandOver, Global>>,
+}
+
+/// Opens the paths in order, up to the first that can't be opened. If they are opened again later, a pipe is first opened by
+/// the thread that reads it, as that waits for a writer.
+pub fn open_all<'p, R: Files<File = File>>(
+    rt: &R,
+    alloc: Global,
+    paths: &'p Vec<String>,
+    reopens: bool,
+) -> Result<Vec<Opened>, Fault<'p>>
+    ensures opened { IfOk result (λ files. map path_of files.items ≡ map string_bytes paths.now.items) }
+    ensures many { IfOk result (λ files. length files.items ≡ length paths.now.items) }
+    ensures unopened { IfErr result (IsUnopened (map string_bytes paths.now.items)) }
+{
+    let mut files = Vec::new(alloc);
+    for path in paths {
+        let file = open(rt, alloc, path, reopens)?;
+        if files.push(file).is_err() {
+            return Err(Fault::NoMemory);
+        }
+    }
+    Ok(files)
+}
+
+// Opens a path. If it is opened again later, a pipe isn't opened yet.
+fn open<'p, R: Files<File = File>>(
+    rt: &R,
+    alloc: Global,
+    path: &'p String,
+    reopens: bool,
+) -> Result<Opened, Fault<'p>>
+    ensures path { IfOk result (λ opened. path_of opened ≡ string_bytes path.entry.now) }
+    ensures unopened { IfErr result (λ fault.
+        (paths : List Text) → Contains paths (string_bytes path.entry.now) → IsUnopened paths fault) }
+{
+    match open_or_wait(rt, path, reopens) {
+        Ok(opened) if !reopens => Ok(opened),
+        Ok(opened) => match opened.opened_again(alloc, path) {
+            Ok(opened) => Ok(opened),
+            Err(_) => Err(Fault::NoMemory),
+        },
+        Err(error) if error.kind() == ErrorKind::OutOfMemory => Err(Fault::NoMemory),
+        Err(_) => Err(Fault::CannotOpen(path.as_str())),
+    }
+}
+
+// Opens a path, or leaves that to the thread that reads it, where it is a pipe and the thread may wait.
+fn open_or_wait<R: Files<File = File>>(rt: &R, path: &String, may_wait: bool) -> io::Result<Opened>
+    ensures { IfOk result (λ opened. opened.path.value ≡ path.now) }
+{
+    if may_wait && fs::metadata(rt, path.as_str())?.file_type().is_fifo() {
+        return Ok(Opened::later(path));
+    }
+    Opened::open(rt, path)
+}
+
+/// Paths whose threads read them.
+#[derive(Drop)]
+pub struct Started<'a, R> {
+    pub paths: Paths,
+    /// What the threads send to, by path.
+    pub inputs: Vec<Input<'a, R>>,
+    /// Nothing is counted so far, by path.
+    pub answers: Vec<Answer>,
+}
+
+/// Starts a thread for each file, in their order, which reads it to its end. `own` is what the threads wait by.
+pub fn start_all<'a, R: Threads, W: Wait + Clock + PathHost + Copy + Send + 'static>(
+    rt: &'a R,
+    own: W,
+    alloc: Global,
+    files: Vec<Opened>,
+) -> Result<Started<'a, R>, Fault<'static>>
+    ensures inputs { IfOk result (λ started. length started.inputs.items ≡ length files.items) }
+    ensures fed { IfOk result (λ started.
+        AreFed (map path_of files.items) (map drawn_from started.inputs.items)) }
+    ensures answers { IfOk result (λ started. length started.answers.items ≡ length files.items) }
+    ensures none { IfOk result (λ started. All HasNoLines started.answers.items) }
+    ensures unstarted { IfErr result IsUnstarted }
+{
+    let (mut threads, mut hand_overs) = (Vec::new(alloc), Vec::new(alloc));
+    let (mut inputs, mut answers) = (Vec::new(alloc), Vec::new(alloc));
+    for file in files {
+        let (thread, input, hand_over) = start(rt, own, alloc, file)?;
+        if threads.push(thread).is_err()
+            || hand_overs.push(hand_over).is_err()
+            || inputs.push(input).is_err()
+            || answers.push(Ok(Tally::new())).is_err()
+        {
+            return Err(Fault::NoMemory);
+        }
+    }
+    let paths = Paths {
+        threads,
+        hand_overs,
+    };
+    Ok(Started {
+        paths,
+        inputs,
+        answers,
+    })
+}
+
+// Starts the thread of one path.
+fn start<'a, R: Threads, W: Wait + Clock + PathHost + Copy + Send + 'static>(
+    rt: &'a R,
+    own: W,
+    alloc: Global,
+    file: Opened,
+) -> Result<(PathThread, Input<'a, R>, Arc<HandOver, Global>), Fault<'static>>
+    ensures fed { IfOk result (λ started. IsFedBy (path_of file) (drawn_from started.1)) }
+    ensures unstarted { IfErr result IsUnstarted }
+{
+    let Ok((reader, input, hand_over)) = connect(rt, alloc) else {
+        return Err(Fault::NoMemory);
+    };
+    match start_reader(rt, own, reader, file) {
+        Ok(thread) => Ok((thread, input, hand_over)),
+        Err(error) if error.kind() == ErrorKind::OutOfMemory => Err(Fault::NoMemory),
+        Err(_) => Err(Fault::ThreadNotStarted),
+    }
+}
+
+// Starts the thread that reads a file, and opens its path again each time that it ends, if that is asked for.
+fn start_reader<R: Threads, W: Wait + Clock + PathHost + Copy + Send + 'static>(
+    rt: &R,
+    own: W,
+    reader: PathReader,
+    file: Opened,
+) -> io::Result<PathThread>
+    ensures path { IfOk result (λ thread. path_of thread.promise.from.value ≡ path_of file) }
+    ensures reader { IfOk result (λ thread. thread.promise.reader.value ≡ reader) }
+{
+    let mut file = file;
+    let Some(path) = file.again.take() else {
+        return reader.start(rt, own, file);
+    };
+    let again = Reopening {
+        own,
+        path,
+        was_open: file.is_open(),
+    };
+    reader.start_again(rt, own, file, again)
+}
+
+/// Joins the threads of the paths that have ended. The thread of another path goes on until its path or the program ends.
+pub fn join_ended<R: Threads + Wait>(rt: &R, inputs: &Vec<Input<'_, R>>, threads: Vec<PathThread>) {
+    for (input, thread) in inputs.iter().zip(threads) {
+        if input.end().is_some() {
+            let _ = thread.join(rt);
+        }
+    }
+}

@@ -1,0 +1,90 @@
+//! How a station begins: a receiver for each path, and the reporter's seat.
+ghost use Rattle.std.specs.Prelude.{◌≡◌, ◌+◌, ◌≤◌, IfOk, length, map, reverse};
+ghost use Rattle.station_journal.specs.Resume.{IsSound};
+ghost use Rattle.station_desk.specs.History.{base_of};
+ghost use Rattle.station_shared.specs.Seats.{newcomer, newcomers};
+ghost use Rattle.station_main.specs.Limits.{program_limits};
+
+use crate::kept::Kept;
+use crate::limits::{AIRCRAFT, LIMITS};
+use crate::threads::{Input, Receiver};
+use station_journal::{NoMemory, ResumeFault};
+use station_shared::{Places, Seat, Station, StationName, Worker};
+use std::alloc::{AllocError, Global};
+use std::sync::Wait;
+use std::sync::ledger::Blank;
+
+// Makes the station that goes on from the kept entries, a receiver for each input, and the reporter's seat.
+pub(super) fn begin<'a, L: StationName, R: Wait>(
+    rt: &R,
+    alloc: Global,
+    kept: Kept,
+    inputs: Vec<Input<'a, R>>,
+    blank: Blank,
+    places: Places<AIRCRAFT>,
+) -> Result<
+    (
+        Station<AIRCRAFT, L>,
+        Vec<Receiver<'a, R, L>>,
+        Seat<AIRCRAFT, L>,
+    ),
+    NoMemory,
+>
+    requires few { length inputs.items ≤ 8 }
+    requires ledger { (blank.name ≡ L.name) × (blank.parts ≡ L.parts) }
+    requires seats { (L.parts ≡ length inputs.items + 1)
+        × (L.seats ≡ length inputs.items + 1)
+        × (places.places ≡ 1) }
+    requires start { (L.start.history ≡ places.history)
+        × (L.start.resumed ≡ length kept.recent.entries.items) }
+    requires base { base_of places.history ≡ kept.recent.base }
+    requires limits { L.start.limits ≡ program_limits }
+    requires sound { IsSound program_limits kept.recent.base (reverse kept.recent.entries.items) }
+    ensures many { IfOk result (λ made. length made.1.items ≡ length inputs.entry.items) }
+    ensures sources { IfOk result (λ made. map (λ r. r.source) made.1.items ≡ inputs.entry.items) }
+    ensures seats { IfOk result (λ made. map (λ r. r.seat) made.1.items
+        ≡ newcomers kept.recent.entries.items (length inputs.entry.items)) }
+    ensures reporter { IfOk result (λ made.
+        made.2 ≡ newcomer kept.recent.entries.items (length inputs.entry.items)) }
+{
+    let count = inputs.len() as u8 + 1;
+    let made = Station::<AIRCRAFT, L>::resume(rt, alloc, LIMITS, count, kept.recent, blank, places);
+    let (station, mut seats) = match made {
+        Ok(made) => made,
+        Err(refused) => match refused.fault {
+            ResumeFault::NoMemory => return Err(AllocError),
+            _ => unreachable!(),
+        },
+    };
+    let Some(reporter) = seats.pop() else {
+        unreachable!()
+    };
+    match receivers(alloc, seats, inputs) {
+        Ok(receivers) => Ok((station, receivers, reporter)),
+        Err(_) => {
+            station.end(rt);
+            Err(AllocError)
+        }
+    }
+}
+
+// Makes a receiver for each input, with a seat of its own.
+fn receivers<'a, L: StationName, R: Wait>(
+    alloc: Global,
+    seats: Vec<Seat<AIRCRAFT, L>>,
+    inputs: Vec<Input<'a, R>>,
+) -> Result<Vec<Receiver<'a, R, L>>, NoMemory>
+    requires { length seats.items ≡ length inputs.items }
+    ensures seats { IfOk result (λ made. map (λ r. r.seat) made.items ≡ seats.items) }
+    ensures sources { IfOk result (λ made. map (λ r. r.source) made.items ≡ inputs.entry.items) }
+{
+    let mut receivers = Vec::new(alloc);
+    for (seat, source) in seats.into_iter().zip(inputs) {
+        receivers.push(Worker {
+            seat,
+            source,
+            answer: None,
+        })?;
+    }
+    Ok(receivers)
+}
