@@ -5,6 +5,7 @@ ghost use Rattle.station_journal.specs.Repeats.{is_one_of, same_frame, with_hear
 ghost use Rattle.station_book.specs.Digests.{digest_of};
 ghost use Rattle.station_book.specs.State.{with_frame_ahead};
 
+use crate::copying::copy_list;
 use arrayvec::ArrayVec;
 use modes_frame::Frame;
 use std::marker::Model;
@@ -98,6 +99,15 @@ impl FirstFrames {
             self.digests.push(digest);
             self.frames.push(KeptFrame { frame: *frame });
         }
+    }
+
+    /// Becomes a copy of others.
+    pub fn copy_from(&mut self, others: &FirstFrames)
+        ensures { self.new ≡ others.now }
+    {
+        copy_list(&mut self.digests, &others.digests);
+        copy_list(&mut self.frames, &others.frames);
+        self.hints = others.hints;
     }
 
     /// Copies the next frame of others that are ahead, if they have one.

@@ -2,6 +2,7 @@
 //! what a search of all of them finds.
 #![tactic(auto)]
 
+mod copying;
 pub mod decoded_entry;
 mod first_frames;
 pub mod laws;

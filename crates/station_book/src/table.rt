@@ -6,6 +6,7 @@ ghost use Rattle.modes_fields.specs.Carried.{fields_of};
 ghost use Rattle.station_book.specs.Tracks.{updated, find_track, put_track, with_track, swept, track_or_blank};
 ghost use Rattle.station_book.specs.Tracks.{address_of, IsRank, StandsAt, HeardFrom};
 
+use crate::copying::copy_list;
 use crate::tracks::{Track, blank, update};
 use arrayvec::ArrayVec;
 use modes_frame::Frame;
@@ -148,6 +149,16 @@ impl<const N: usize> Table<N> {
         if let Ok(rank) = others.locate(address) {
             self.put(others.track(rank));
         }
+    }
+
+    /// Becomes a copy of another table.
+    pub fn copy_from(&mut self, other: &Table<N>)
+        ensures { self.new ≡ other.now }
+    {
+        copy_list(&mut self.addresses, &other.addresses);
+        copy_list(&mut self.tracks, &other.tracks);
+        self.oldest = other.oldest;
+        self.hints = other.hints;
     }
 
     // Puts the track in its place, if there is one for it.

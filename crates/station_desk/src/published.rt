@@ -27,11 +27,12 @@ pub struct Mark {
     pub origin: Origin,
 }
 
-/// An operation that is never logged, since the desk brings the copies up to date itself.
+/// An operation that the publishing end logs. It has no value, as the desk brings the copies up to date itself, so none is
+/// ever pending.
 #[derive(Drop)]
-pub struct Unlogged;
+pub enum NoOperation {}
 
-impl<const N: usize> Absorb<Unlogged> for PublishedTable<N> {
+impl<const N: usize> Absorb<NoOperation> for PublishedTable<N> {
     type State = ();
 
     ghost state = { λ s. tt };
@@ -42,7 +43,7 @@ impl<const N: usize> Absorb<Unlogged> for PublishedTable<N> {
 
     fn absorb_first(
         &mut self,
-        _operation: &Unlogged,
+        _operation: &NoOperation,
         _other: &PublishedTable<N>,
     ) -> Result<(), AllocError> {
         Ok(())

@@ -10,7 +10,7 @@ ghost use Rattle.station_desk.specs.Published.{Follows, sheet, sheet_of, next_sh
 
 use crate::history::{Front, History};
 use crate::publish_rule::{Notes, PublishRule, ReaderPlace, Sees};
-use crate::published::{Mark, Origin, PublishedTable, Unlogged};
+use crate::published::{Mark, NoOperation, Origin, PublishedTable};
 use core::mem::replace_with;
 use left_right::writer::Writer;
 use station_book::{Book, Change, DecodedEntry};
@@ -19,7 +19,12 @@ use std::alloc::AllocError;
 use std::sync::Wait;
 
 /// The publishing end.
-pub type Publisher<const N: usize> = Writer<PublishedTable<N>, Unlogged, Option<Mark>, PublishRule>;
+pub type Publisher<const N: usize> = Writer<
+    PublishedTable<N>,
+    NoOperation,
+    Option<Mark>,
+    PublishRule,
+>;
 
 /// What makes the next copy, beside an entry: the change that the spare copy lacks, and the beginning of the history
 /// that it then shows.
@@ -185,6 +190,19 @@ fn show_spare<const N: usize, R: Wait>(rt: &R, publisher: Publisher<N>) -> Publi
     publisher
 }
 
+// Makes the spare copy's book that of the shown one, once nobody reads it.
+fn copy_shown<const N: usize, R: Wait>(rt: &R, publisher: Publisher<N>) -> Publisher<N>
+    ensures shown { result.desk.shown ≡ publisher.entry.desk.shown }
+    ensures view { view result.desk.place ≡ view publisher.entry.desk.place }
+    ensures spare { result.desk.spare.value.book ≡ publisher.entry.desk.shown.value.book }
+{
+    let mut publisher = publisher;
+    let (open, mut spare) = publisher.desk.open(rt);
+    spare.book.copy_from(&open.shown.get().book);
+    publisher.desk = open.shelve(spare);
+    publisher
+}
+
 /// Begins a station: makes both copies those of a book that was given the entries, and shows them. Refused at the place
 /// of the first entry that doesn't fit, and then the publishing end is gone.
 pub(crate) fn begin<const N: usize, R: Wait>(
@@ -207,9 +225,9 @@ pub(crate) fn begin<const N: usize, R: Wait>(
         ≡ Some (record { front = front; origin = origin })) }
     ensures err { IfErr result (λ place. IsFirstUnsound N base entries.now place) }
 {
-    let publisher = fill_spare(rt, publisher, base, front.again(), origin, entries)?;
+    let publisher = fill_spare(rt, publisher, base, front, origin, entries)?;
     let publisher = show_spare(rt, publisher);
-    fill_spare(rt, publisher, base, front, origin, entries)
+    Ok(copy_shown(rt, publisher))
 }
 
 /// A copy with a book without entries, of no station yet.

@@ -133,6 +133,16 @@ impl<const N: usize> Book<N> {
         }
     }
 
+    /// Becomes a copy of another book.
+    pub fn copy_from(&mut self, other: &Book<N>)
+        ensures { self.new ≡ other.now }
+    {
+        self.clock = other.clock;
+        self.count = other.count;
+        self.table.copy_from(&other.table);
+        self.first_frames.copy_from(&other.first_frames);
+    }
+
     // Applies the tick, if it is later than the clock.
     fn offer_tick(&mut self, at: u64)
         requires few { self.old.entries < most_entries }

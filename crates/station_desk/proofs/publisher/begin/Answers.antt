@@ -11,7 +11,7 @@ show_spare-publisher-requires g c =
     let after : BookState = book_after c.args.base c.args.entries.now in
     let book : filled.publisher.desk.spare.value.book ≡ after = ap (λ (s : Sheet). s.book) filled.ensures.sheet in (
       search,
-      rw (filled.ensures.sheet, c.again.ensures)
+      rw filled.ensures.sheet
           (begins g.row.N c.args.base (sheet_of filled.publisher.desk.shown.value) after c.args.front c.args.origin c.args.entries.now
           (ap (λ p. p.value.origin) filled.ensures.shown ∙ c.requires.new) c.requires.front.0 c.requires.front.1 c.requires.origin (rw book at filled.ensures.matched)),
     )
