@@ -28,7 +28,7 @@ pub use full_limit::{FullLimit, LimitObserver, Unobserved};
 pub use history::{Front, History};
 pub use places::Places;
 pub use publish_rule::{LookingPlace, PublishRule, ReaderPlace, Sees};
-pub use published::{Mark, NoOperation, Origin, PublishedTable};
+pub use published::{Mark, Origin, PublishedTable, Unlogged};
 pub use published_desk::PublishedDesk;
 pub use publisher::{Publisher, give_up};
 pub use replaying::{ReplayFault, replay, replay_as};

@@ -27,12 +27,11 @@ pub struct Mark {
     pub origin: Origin,
 }
 
-/// An operation that the publishing end logs. It has no value, as the desk brings the copies up to date itself, so none is
-/// ever pending.
+/// An operation that is never logged, since the desk brings the copies up to date itself.
 #[derive(Drop)]
-pub enum NoOperation {}
+pub struct Unlogged;
 
-impl<const N: usize> Absorb<NoOperation> for PublishedTable<N> {
+impl<const N: usize> Absorb<Unlogged> for PublishedTable<N> {
     type State = ();
 
     ghost state = { λ s. tt };
@@ -43,7 +42,7 @@ impl<const N: usize> Absorb<NoOperation> for PublishedTable<N> {
 
     fn absorb_first(
         &mut self,
-        _operation: &NoOperation,
+        _operation: &Unlogged,
         _other: &PublishedTable<N>,
     ) -> Result<(), AllocError> {
         Ok(())

@@ -10,7 +10,7 @@ ghost use Rattle.station_desk.specs.Published.{Follows, sheet, sheet_of, next_sh
 
 use crate::history::{Front, History};
 use crate::publish_rule::{Notes, PublishRule, ReaderPlace, Sees};
-use crate::published::{Mark, NoOperation, Origin, PublishedTable};
+use crate::published::{Mark, Origin, PublishedTable, Unlogged};
 use core::mem::replace_with;
 use left_right::writer::Writer;
 use station_book::{Book, Change, DecodedEntry};
@@ -19,12 +19,7 @@ use std::alloc::AllocError;
 use std::sync::Wait;
 
 /// The publishing end.
-pub type Publisher<const N: usize> = Writer<
-    PublishedTable<N>,
-    NoOperation,
-    Option<Mark>,
-    PublishRule,
->;
+pub type Publisher<const N: usize> = Writer<PublishedTable<N>, Unlogged, Option<Mark>, PublishRule>;
 
 /// What makes the next copy, beside an entry: the change that the spare copy lacks, and the beginning of the history
 /// that it then shows.
