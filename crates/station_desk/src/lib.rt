@@ -26,7 +26,7 @@ pub use desk_pump::pump_desk;
 pub use forgetting::replay_forgetting;
 pub use full_limit::{FullLimit, LimitObserver, Unobserved};
 pub use history::{Front, History};
-pub use places::Places;
+pub use places::{Opening, Places};
 pub use publish_rule::{LookingPlace, PublishRule, ReaderPlace, Sees};
 pub use published::{Mark, Origin, PublishedTable, Unlogged};
 pub use published_desk::PublishedDesk;

@@ -1,5 +1,5 @@
 //! A publishing end and its reader places, for a station that isn't made yet.
-ghost use Rattle.std.specs.Prelude.{◌≡◌, ◌<◌, ◌≤◌, [], length, Some, IfOk, IfErr, vec_len, vec_capacity};
+ghost use Rattle.std.specs.Prelude.{◌≡◌, ◌<◌, ◌≤◌, [], drop, length, Some, IfOk, IfErr, vec_len, vec_capacity};
 ghost use Rattle.std.specs.List.{AllByRecursion};
 ghost use Rattle.left_right.specs.Sides.{view};
 ghost use Rattle.station_journal.specs.Log.{most_entries};
@@ -35,12 +35,40 @@ where
     ghost small: { N ≤ most_aircraft },
 }
 
+/// The history and the publishing end of a station that isn't made yet. Both copies are of one book, and nothing is pending.
+///
+/// It can't be dropped: [`PublishedDesk::over`](crate::PublishedDesk::over) makes a desk of it, and [`Opening::end`] takes
+/// it apart.
+pub struct Opening<const N: usize>
+where
+    PublishedTable<N>: Absorb<Unlogged, State = ()>,
+    PublishRule: Protocol<PublishedTable<N>, Option<Mark>>,
+{
+    pub history: History,
+    pub publisher: Publisher<N>,
+    ghost small: { N ≤ most_aircraft },
+    ghost front: { publisher.desk.shown.value.front ≡ history },
+    ghost spare: { publisher.desk.spare.value.book ≡ publisher.desk.shown.value.book },
+    ghost idle: { drop publisher.behind publisher.log.items ≡ [] },
+}
+
+impl<const N: usize> Opening<N> {
+    /// Takes it apart.
+    pub fn end<R: Wait>(self, rt: &R) {
+        let Opening {
+            history: _,
+            publisher,
+        } = self;
+        give_up(rt, publisher);
+    }
+}
+
 impl<const N: usize> Model for Places<N>
 where
     PublishedTable<N>: Absorb<Unlogged, State = ()>,
     PublishRule: Protocol<PublishedTable<N>, Option<Mark>>,
 {
-    ghost use Rattle.std.specs.Prelude.{◌≡◌, [], None, vec_len};
+    ghost use Rattle.std.specs.Prelude.{◌≡◌, [], None, drop, vec_len};
     ghost use Rattle.station_book.specs.State.{starting};
     ghost use Rattle.station_desk.specs.History.{base_of};
     ghost use Rattle.station_desk.specs.Published.{Prepared};
@@ -57,7 +85,8 @@ where
         × (p.publisher.desk.shown.value.front ≡ p.history)
         × (p.publisher.desk.shown.value.book ≡ starting p.base)
         × (p.publisher.desk.shown.value.origin ≡ None)
-        × (base_of p.history.name ≡ p.base) };
+        × (base_of p.history.name ≡ p.base)
+        × (drop p.publisher.behind p.publisher.log.items ≡ []) };
 }
 
 // Makes `count` reader places, each with the view of the publishing end. Refused when out of memory, and then the
@@ -72,6 +101,7 @@ fn with_places<const N: usize, R: Wait>(
     requires room { count ≤ vec_capacity places }
     ensures same { IfOk result (λ t. (t.0.desk.shown ≡ publisher.entry.desk.shown)
         × (t.0.desk.spare ≡ publisher.entry.desk.spare)) }
+    ensures pending { IfOk result (λ t. drop t.0.behind t.0.log.items ≡ drop publisher.entry.behind publisher.entry.log.items) }
     ensures places { IfOk result (λ t. (vec_len t.1 ≡ count)
         × AllByRecursion (λ p. view p.place ≡ view publisher.entry.desk.place) t.1.items) }
 {
@@ -121,18 +151,16 @@ impl<const N: usize> Places<N> {
         rt: &R,
         limits: Limits,
         entries: &[Entry],
-    ) -> Result<(History, Publisher<N>, Vec<ReaderPlace<N>>), ResumeFault>
+    ) -> Result<(Opening<N>, Vec<ReaderPlace<N>>), ResumeFault>
         requires aircraft { limits.aircraft ≡ N }
         requires few { (length entries.now ≤ limits.entries) × (limits.entries ≤ most_entries) }
-        ensures history { IfOk result (λ t. (t.0.name ≡ self.entry.history) × (t.0.entries ≡ entries.now)) }
-        ensures front { IfOk result (λ t. t.1.desk.shown.value.front ≡ t.0) }
-        ensures origin { IfOk result (λ t. t.1.desk.shown.value.origin
+        ensures history { IfOk result (λ t. (t.0.history.name ≡ self.entry.history) × (t.0.history.entries ≡ entries.now)) }
+        ensures origin { IfOk result (λ t. t.0.publisher.desk.shown.value.origin
             ≡ Some (record { limits = limits; resumed = length entries.now })) }
         ensures matched { IfOk result (λ t.
-            Matches N (base_of self.entry.history) t.1.desk.shown.value.book entries.now) }
-        ensures spare { IfOk result (λ t. t.1.desk.spare.value.book ≡ t.1.desk.shown.value.book) }
-        ensures places { IfOk result (λ t. (vec_len t.2 ≡ self.entry.places)
-            × AllByRecursion (λ p. IsOf (record { history = self.entry.history; limits = limits; resumed = length entries.now }) (view p.place)) t.2.items) }
+            Matches N (base_of self.entry.history) t.0.publisher.desk.shown.value.book entries.now) }
+        ensures places { IfOk result (λ t. (vec_len t.1 ≡ self.entry.places)
+            × AllByRecursion (λ p. IsOf (record { history = self.entry.history; limits = limits; resumed = length entries.now }) (view p.place)) t.1.items) }
         ensures err { IfErr result (λ fault. Refuses limits (base_of self.entry.history) entries.now fault) }
     {
         let Places {
@@ -153,7 +181,7 @@ impl<const N: usize> Places<N> {
             Err(place) => return Err(ResumeFault::Unsound(place)),
         };
         match with_places(rt, publisher, places, count) {
-            Ok((publisher, places)) => Ok((history, publisher, places)),
+            Ok((publisher, places)) => Ok((Opening { history, publisher }, places)),
             Err(_) => Err(ResumeFault::NoMemory),
         }
     }

@@ -1,5 +1,5 @@
 //! The publishing end. Readers have one of two copies. The other is brought up to date and shown in its place.
-ghost use Rattle.std.specs.Prelude.{◌≡◌, ◌≤◌, length, None, Some, OnOk, IfOk, IfErr};
+ghost use Rattle.std.specs.Prelude.{◌≡◌, ◌≤◌, drop, length, None, Some, OnOk, IfOk, IfErr};
 ghost use Rattle.left_right.specs.Sides.{view};
 ghost use Rattle.station_book.specs.State.{starting};
 ghost use Rattle.station_book.specs.Matching.{Matches, book_after};
@@ -81,6 +81,7 @@ fn turn<const N: usize, R: Wait>(
     ensures spare { result.desk.spare.value ≡ publisher.entry.desk.shown.value }
     ensures view { view result.desk.place
         ≡ marked next.front publisher.entry.desk.shown.value.origin }
+    ensures pending { drop result.behind result.log.items ≡ drop publisher.entry.behind publisher.entry.log.items }
 {
     let mut publisher = publisher;
     let (open, mut spare) = publisher.desk.open(rt);
@@ -103,6 +104,7 @@ pub(crate) fn turn_in_place<const N: usize, R: Wait>(
     ensures spare { publisher.new.desk.spare.value ≡ publisher.old.desk.shown.value }
     ensures view { view publisher.new.desk.place
         ≡ marked next.front publisher.old.desk.shown.value.origin }
+    ensures pending { drop publisher.new.behind publisher.new.log.items ≡ drop publisher.old.behind publisher.old.log.items }
 {
     replace_with(
         publisher,
@@ -116,6 +118,7 @@ pub(crate) fn turn_in_place<const N: usize, R: Wait>(
             ensures spare { result.0.desk.spare.value ≡ publisher.entry.desk.shown.value }
             ensures view { view result.0.desk.place
                 ≡ marked parts.entry.2.front publisher.entry.desk.shown.value.origin }
+            ensures pending { drop result.0.behind result.0.log.items ≡ drop publisher.entry.behind publisher.entry.log.items }
         { (turn(parts.0, publisher, parts.1, parts.2), ()) },
     );
 }
@@ -156,6 +159,7 @@ fn fill_spare<const N: usize, R: Wait>(
     ensures sheet { IfOk result (λ p. sheet_of p.desk.spare.value
         ≡ sheet (book_after base entries.now) front (Some origin)) }
     ensures matched { IfOk result (λ p. Matches N base p.desk.spare.value.book entries.now) }
+    ensures pending { IfOk result (λ p. drop p.behind p.log.items ≡ drop publisher.entry.behind publisher.entry.log.items) }
     ensures err { IfErr result (λ place. IsFirstUnsound N base entries.now place) }
 {
     let mut publisher = publisher;
@@ -178,6 +182,7 @@ fn show_spare<const N: usize, R: Wait>(rt: &R, publisher: Publisher<N>) -> Publi
     ensures spare { result.desk.spare.value ≡ publisher.entry.desk.shown.value }
     ensures view { view result.desk.place
         ≡ marked publisher.entry.desk.spare.value.front publisher.entry.desk.spare.value.origin }
+    ensures pending { drop result.behind result.log.items ≡ drop publisher.entry.behind publisher.entry.log.items }
 {
     let mut publisher = publisher;
     let (open, spare) = publisher.desk.open(rt);
@@ -190,6 +195,7 @@ fn copy_shown<const N: usize, R: Wait>(rt: &R, publisher: Publisher<N>) -> Publi
     ensures shown { result.desk.shown ≡ publisher.entry.desk.shown }
     ensures view { view result.desk.place ≡ view publisher.entry.desk.place }
     ensures spare { result.desk.spare.value.book ≡ publisher.entry.desk.shown.value.book }
+    ensures pending { drop result.behind result.log.items ≡ drop publisher.entry.behind publisher.entry.log.items }
 {
     let mut publisher = publisher;
     let (open, mut spare) = publisher.desk.open(rt);
@@ -218,6 +224,7 @@ pub(crate) fn begin<const N: usize, R: Wait>(
     ensures spare { IfOk result (λ p. p.desk.spare.value.book ≡ p.desk.shown.value.book) }
     ensures view { IfOk result (λ p. view p.desk.place
         ≡ Some (record { front = front; origin = origin })) }
+    ensures pending { IfOk result (λ p. drop p.behind p.log.items ≡ drop publisher.entry.behind publisher.entry.log.items) }
     ensures err { IfErr result (λ place. IsFirstUnsound N base entries.now place) }
 {
     let publisher = fill_spare(rt, publisher, base, front, origin, entries)?;
@@ -251,6 +258,7 @@ fn tell_place<const N: usize>(publisher: &mut Publisher<N>, place: &mut ReaderPl
     ensures same { (publisher.new.desk.shown ≡ publisher.old.desk.shown)
         × (publisher.new.desk.spare ≡ publisher.old.desk.spare)
         × (view publisher.new.desk.place ≡ view publisher.old.desk.place) }
+    ensures pending { drop publisher.new.behind publisher.new.log.items ≡ drop publisher.old.behind publisher.old.log.items }
     ensures known { view place.new.place ≡ view publisher.old.desk.place }
 {
     place.learn::<Notes>(publisher.desk.tell::<Notes>());
@@ -263,6 +271,7 @@ pub(crate) fn new_place<const N: usize>(
     ensures same { (publisher.new.desk.shown ≡ publisher.old.desk.shown)
         × (publisher.new.desk.spare ≡ publisher.old.desk.spare)
         × (view publisher.new.desk.place ≡ view publisher.old.desk.place) }
+    ensures pending { drop publisher.new.behind publisher.new.log.items ≡ drop publisher.old.behind publisher.old.log.items }
     ensures known { IfOk result (λ place. view place.place ≡ view publisher.old.desk.place) }
 {
     let mut place = blank_place(publisher)?;

@@ -1,5 +1,5 @@
 -- What contracts see of seats, receipts and looks, and what a call does to them.
-use Rattle.std.specs.Prelude.{◌≡◌, ℕ, zero, suc, ◌+◌, ◌⊎◌, eqb, Bool, true, false, not, nat_lt, List, [], ◌∷◌, ◌++◌, None, count_by, drop}
+use Rattle.std.specs.Prelude.{◌≡◌, ℕ, zero, suc, ◌+◌, ◌⊎◌, eqb, Bool, true, not, nat_lt, List, [], ◌∷◌, ◌++◌, None, count_by, drop}
 use mathlib.Core.List.{IsPrefix}
 use Rattle.station_journal.specs.declared.entry.Entry.{Entry}
 use Rattle.station_journal.specs.declared.entry.Entry.TheVariants.{Tick, Heard}

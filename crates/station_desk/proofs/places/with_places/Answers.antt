@@ -12,6 +12,7 @@ loop-made-preserved g c =
       shown = same.0 ∙ i.shown;
       spare = same.1 ∙ i.spare;
       knows = same.2 ∙ i.knows;
+      pending = c.new_place.ensures.pending ∙ i.pending;
       made = omega (arith, c.push_reserved.ensures.len, i.made);
       room = omega (arith, c.push_reserved.ensures.capacity, i.room);
       all = rw c.push_reserved.ensures.items (all_by_recursion_push (λ p. view p.place ≡ view c.args.publisher.desk.place) c.loop-made.places.items c.in-Ok.place i.all (c.in-Ok.ensures.known ∙ i.knows));
