@@ -46,6 +46,8 @@ impl DecodedEntry {
     }
 
     /// The frame with its claim. A book reads its fields when it takes it.
+    // Inlined, as a call would write its answer in parts, and then wait for them to be copied.
+    #[inline(always)]
     pub fn heard(frame: &Frame) -> DecodedEntry
         ensures { result ≡ decoded.Heard (sighting_of frame.now) }
     {
