@@ -10,7 +10,7 @@ pub const LIMITS: Limits = Limits {
     aircraft: AIRCRAFT as u32,
 };
 
-/// A replay forgets the entries that aren't recent once it has so many. A quarter of the journal is left for those that
+/// A replay forgets the entries that aren't recent once it has this many. A quarter of the journal is left for those that
 /// come before the next tick.
 pub const FORGET_AT: u64 = 12_582_912;
 

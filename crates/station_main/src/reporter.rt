@@ -63,7 +63,7 @@ impl<const N: usize, L: StationName, S: Sink, T: Sink, A: Write> Promise<
 
 /// Ticks, prints the table and records it each time that it is due, in milliseconds since `start`.
 /// Between tables it ticks alone, if ticks are asked for. Ends when all receivers have ended, a write of the output failed,
-/// or the journal has so many entries that the station hands over: then it ticks alone once more, and asks for the end of
+/// or the journal has enough entries for the station to hand over: then it ticks alone once more, and asks for the end of
 /// all portions. Answers the seat, the sink, which has taken the tables of its looks and nothing else, and what is written
 /// beside: the record has gone on with what these looks saw. Limits that calls have met are reported at once.
 pub fn report<

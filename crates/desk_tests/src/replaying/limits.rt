@@ -49,7 +49,7 @@ impl<'a> LimitObserver for Noted<'a> {
     ghost then = { λ x y z cs ds p q. tt };
 }
 
-// Replays lines by a desk of so many entries that forgets once it has the second number of them.
+// Replays lines by a desk whose limit is the first number of entries, and which forgets once it has the second number.
 fn replayed<const N: usize, S: Sink, R: Abort + Wait>(
     rt: &R,
     alloc: Global,

@@ -197,7 +197,7 @@ fn a_hand_over_is_asked_for_right_after_a_table(rt: HostRuntime) {
     }
 }
 
-// What a hand-over leaves: so many entries, and the time of the last tick.
+// What a hand-over leaves: this number of entries, and the time of the last tick.
 fn kept<R: AllocGlobal>(rt: &R, count: u8, last_tick: u64) -> Result<Kept, std::alloc::AllocError> {
     let mut entries = Vec::new(rt.alloc());
     for i in 0..count {
