@@ -2,6 +2,7 @@
 #![tactic(auto)]
 
 mod blanks;
+mod checked_frame;
 mod claims;
 mod cutter;
 mod digits;
@@ -13,6 +14,7 @@ mod plain;
 pub mod readers;
 
 pub use blanks::trim_blanks;
+pub use checked_frame::CheckedFrame;
 pub use claims::{CheckFault, Claim};
 pub use cutter::{Cut, Cutter, LineBuf, MAX_LINE};
 pub use frame::Frame;

@@ -5,7 +5,7 @@ use mathlib.Core.List.{reverse}
 use Rattle.std.proofs.lemmas.List.{length-reverse, reverse-append, take_more}
 use Rattle.station_journal.specs.declared.entry.Entry.{Entry}
 use Rattle.station_journal.specs.Resume.{Sound}
-use Rattle.station_book.specs.Decoded.{decoded_of}
+use Rattle.station_book.specs.Call.{call_of}
 use Rattle.station_book.specs.State.{BookState, fits}
 use Rattle.station_journal.specs.Follow.{IsFirstUnsound}
 use Rattle.station_book.specs.Matching.{Matches}
@@ -18,7 +18,7 @@ module _ (n base : ℕ) (book : BookState) (entries : List Entry) (i : ℕ) (ent
   more : reverse (take (i + 1) entries) ≡ entry ∷ reverse (take i entries)
   more = ap (λ (l : List Entry). reverse l) (take_more entries i entry within ∙ ap (λ e. take i entries ++ e ∷ []) (sym is)) ∙ reverse-append (take i entries) (entry ∷ [])
 
-  pub out_of_place : fits n book (decoded_of entry) ≡ false → (place : ℕ) → place ≡ book.entries → IsFirstUnsound n base entries place
+  pub out_of_place : fits n book (call_of entry) ≡ false → (place : ℕ) → place ≡ book.entries → IsFirstUnsound n base entries place
   out_of_place refused place at = subst (λ k. IsFirstUnsound n base entries k) (sym (at ∙ count_is)) (record {
     within = within;
     before = m.sound;

@@ -8,12 +8,19 @@ use Rattle.station_journal.specs.declared.entry.Entry.{Entry}
 use Rattle.station_journal.specs.Log.{Log, IsLegal, table_of, placed_of, clock_of, past_of, refusal_of, most_entries}
 use Rattle.station_journal.specs.Resume.{Sound}
 use Rattle.station_journal.proofs.SoundLemmas.{sound_legal}
-use Rattle.station_book.specs.Decoded.{decoded_of}
+use Rattle.station_book.specs.declared.call.Call.{Call}
+use Rattle.station_book.specs.declared.call.Call.TheVariants.{Tick, Heard}
+use Rattle.station_book.specs.Call.{call_of, entry_of}
 use Rattle.station_book.specs.State.{BookState, applied, offered, rows, placed_rows, fits}
 use Rattle.station_book.specs.Matching.{MatchesPast, Matches, Shows, book_of_past, book_after}
 use Rattle.station_book.proofs.MatchingLemmas.{matches_starting, matches_applied, matches_push}
 use Rattle.station_book.proofs.TableLemmas.{rows_are_table, placed_are_table}
 use Rattle.station_book.proofs.VerdictLemmas.{same_tick_refusal, same_refusal, fits_from_accepts, fits_from, fits_back}
+
+-- the entry of a call is this call again, without its seat
+pub call_back : (seat : ℕ) (call : Call) → call_of (entry_of seat call) ≡ call
+call_back seat (Tick at) = refl
+call_back seat (Heard frame) = refl
 
 pub shows_from_match : (n base : ℕ) (book : BookState) (entries : List Entry) → Matches n base book entries → Shows n base book entries
 shows_from_match n base book entries m = record {
@@ -25,25 +32,29 @@ shows_from_match n base book entries m = record {
   entry = same_refusal n base (reverse entries) book m;
 }
 
-pub match_after_accepted : (log : Log) (book : BookState) (entry : Entry) → refusal_of log entry ≡ None → Matches log.limits.aircraft log.base book log.entries → Matches log.limits.aircraft log.base (applied book entry) (log.entries ++ entry ∷ [])
+pub match_after_accepted : (log : Log) (book : BookState) (entry : Entry) → refusal_of log entry ≡ None → Matches log.limits.aircraft log.base book log.entries → Matches log.limits.aircraft log.base (applied book (call_of entry)) (log.entries ++ entry ∷ [])
 match_after_accepted log book entry accepted m =
     matches_push log.limits.aircraft log.base log.entries entry book (fits_from_accepts log.limits log.base (past_of log) entry m.sound accepted) m
 
-pub match_after_fit : (n base : ℕ) (book : BookState) (journal : List Entry) (entry : Entry) → fits n book (decoded_of entry) ≡ true → Matches n base book journal → Matches n base (applied book entry) (journal ++ entry ∷ [])
+pub match_after_fit : (n base : ℕ) (book : BookState) (journal : List Entry) (entry : Entry) → fits n book (call_of entry) ≡ true → Matches n base book journal → Matches n base (applied book (call_of entry)) (journal ++ entry ∷ [])
 match_after_fit n base book journal entry fit m = matches_push n base journal entry book (fits_back n base (reverse journal) book m entry fit) m
 
-pub accepted_fits_book : (log : Log) (book : BookState) (entry : Entry) → refusal_of log entry ≡ None → Matches log.limits.aircraft log.base book log.entries → fits log.limits.aircraft book (decoded_of entry) ≡ true
+pub accepted_fits_book : (log : Log) (book : BookState) (entry : Entry) → refusal_of log entry ≡ None → Matches log.limits.aircraft log.base book log.entries → fits log.limits.aircraft book (call_of entry) ≡ true
 accepted_fits_book log book entry accepted m =
     fits_from log.limits.aircraft log.base (past_of log) book m entry (fits_from_accepts log.limits log.base (past_of log) entry m.sound accepted)
 
-pub offer_is_taken : (log : Log) (book : BookState) (entry : Entry) → refusal_of log entry ≡ None → length log.entries < most_entries → Matches log.limits.aircraft log.base book log.entries → offered log.limits.aircraft book entry ≡ applied book entry
-offer_is_taken log book entry accepted few m =
-    let fit : fits log.limits.aircraft book (decoded_of entry) ≡ true = accepted_fits_book log book entry accepted m in
-    let count : book.entries ≡ length log.entries = m.entries ∙ length-reverse log.entries in
-    let test : nat_lt book.entries most_entries ≡ true = rw count (grind (arith, nat_tests)) in
+-- an offered call that fits is applied
+pub offer_of_fit : (n : ℕ) (book : BookState) (call : Call) → fits n book call ≡ true → book.entries < most_entries → offered n book call ≡ applied book call
+offer_of_fit n book call fit few =
+    let test : nat_lt book.entries most_entries ≡ true = grind (arith, nat_tests) in
     rw (fit, test) refl
 
-pub match_after_offer : (log : Log) (book : BookState) (entry : Entry) → refusal_of log entry ≡ None → length log.entries < most_entries → Matches log.limits.aircraft log.base book log.entries → Matches log.limits.aircraft log.base (offered log.limits.aircraft book entry) (log.entries ++ entry ∷ [])
+pub offer_is_taken : (log : Log) (book : BookState) (entry : Entry) → refusal_of log entry ≡ None → length log.entries < most_entries → Matches log.limits.aircraft log.base book log.entries → offered log.limits.aircraft book (call_of entry) ≡ applied book (call_of entry)
+offer_is_taken log book entry accepted few m =
+    let count : book.entries ≡ length log.entries = m.entries ∙ length-reverse log.entries in
+    offer_of_fit log.limits.aircraft book (call_of entry) (accepted_fits_book log book entry accepted m) (omega (arith, count, few))
+
+pub match_after_offer : (log : Log) (book : BookState) (entry : Entry) → refusal_of log entry ≡ None → length log.entries < most_entries → Matches log.limits.aircraft log.base book log.entries → Matches log.limits.aircraft log.base (offered log.limits.aircraft book (call_of entry)) (log.entries ++ entry ∷ [])
 match_after_offer log book entry accepted few m = rw (offer_is_taken log book entry accepted few m) (match_after_accepted log book entry accepted m)
 
 -- a book that has applied the entries of a sound list matches it

@@ -14,12 +14,12 @@ use Rattle.station_journal.specs.declared.refusal.Refusal.{Refusal}
 use Rattle.station_journal.specs.declared.refusal.Refusal.TheVariants.{Unknown, JournalFull, BookFull, NotLater, Repeated}
 use Rattle.station_journal.specs.Past.{Frame, clock, live, or_older}
 use Rattle.station_journal.specs.Table.{live_addresses}
-use Rattle.station_journal.specs.Repeats.{is_repeated}
+use Rattle.station_journal.specs.Repeats.{is_one_of, is_repeated}
 use Rattle.station_journal.specs.Verdict.{refuse_if, claim_refusal, tick_refusal, refusal, is_full, Accepts}
 use Rattle.station_book.specs.declared.tracks.Track.{Track}
-use Rattle.station_book.specs.Decoded.{with_frame, claim_in, decoded_of}
+use Rattle.station_book.specs.Call.{call_of}
 use Rattle.station_book.specs.Tracks.{find_track}
-use Rattle.station_book.specs.State.{BookState, book_claim_refusal, book_tick_refusal, book_refusal, repeats, claim_fits, fits}
+use Rattle.station_book.specs.State.{BookState, book_claim_refusal, book_tick_refusal, book_refusal, claim_fits, fits}
 use Rattle.station_book.specs.Matching.{MatchesPast}
 use Rattle.station_journal.specs.Resume.{ClaimFits, Fits, Sound}
 use Rattle.station_book.proofs.TableLemmas.{kept_is_live, same_count}
@@ -36,22 +36,17 @@ not_refused : (test : Bool) (r : Refusal) → refuse_if test r ≡ None → test
 not_refused true r e = cc
 not_refused false r e = refl
 
--- the claim of a sighting is the claim of its frame
-claim_kept : (frame : Frame) (claim : Result Claim CheckFault) → claim_in (with_frame frame claim) ≡ claim
-claim_kept frame (Ok claim) = refl
-claim_kept frame (Err fault) = refl
-
 module _ (n base : ℕ) (past : List Entry) (book : BookState) (m : MatchesPast n base book past) where
   -- the book's refusal of a frame with this claim is that of a journal that isn't full
   same_claim_refusal : (frame : Frame) (claim : Result Claim CheckFault) →
-      book_claim_refusal n book (repeats book (with_frame frame claim)) (claim_in (with_frame frame claim)) ≡ claim_refusal false (is_repeated past frame) n base past claim
+      book_claim_refusal n book (is_one_of book.first_frames frame) claim ≡ claim_refusal false (is_repeated past frame) n base past claim
   same_claim_refusal frame (Err fault) = refl
   same_claim_refusal frame (Ok claim) = rw (kept_is_live n base past book m claim.address, same_count n base past book m, m.first_frames) refl
 
   pub same_tick_refusal : (at : ℕ) → book_tick_refusal book at ≡ tick_refusal false base past at
   same_tick_refusal at = rw m.moment (sym (or_older_none (refuse_if (nat_le at (clock base past)) (NotLater (clock base past)))))
 
-  pub same_refusal : (entry : Entry) → book_refusal n book entry ≡ refusal false n base past entry
+  pub same_refusal : (entry : Entry) → book_refusal n book (call_of entry) ≡ refusal false n base past entry
   same_refusal (Tick seat at) = same_tick_refusal at
   same_refusal (Heard seat frame) = same_claim_refusal frame (claim_of frame)
 
@@ -79,13 +74,13 @@ module _ (n base : ℕ) (past : List Entry) (book : BookState) (m : MatchesPast 
       by_room false e = grind (arith, nat_tests)
 
   -- an entry fits the book exactly where it fits the past
-  pub fits_from : (entry : Entry) → Fits n base past entry → fits n book (decoded_of entry) ≡ true
+  pub fits_from : (entry : Entry) → Fits n base past entry → fits n book (call_of entry) ≡ true
   fits_from (Tick seat at) fit = rw m.moment (grind (arith, nat_tests))
-  fits_from (Heard seat frame) fit = rw (claim_kept frame (claim_of frame)) (claim_fits_from (claim_of frame) fit)
+  fits_from (Heard seat frame) fit = claim_fits_from (claim_of frame) fit
 
-  pub fits_back : (entry : Entry) → fits n book (decoded_of entry) ≡ true → Fits n base past entry
+  pub fits_back : (entry : Entry) → fits n book (call_of entry) ≡ true → Fits n base past entry
   fits_back (Tick seat at) fit = let fit' : nat_lt (clock base past) at ≡ true = rw m.moment at fit in grind (arith, nat_tests)
-  fits_back (Heard seat frame) fit = claim_fits_back (claim_of frame) (rw (claim_kept frame (claim_of frame)) at fit)
+  fits_back (Heard seat frame) fit = claim_fits_back (claim_of frame) fit
 
 pub fits_from_accepts : (limits : Limits) (base : ℕ) (past : List Entry) (entry : Entry) → Sound limits.aircraft base past → Accepts limits base past entry → Fits limits.aircraft base past entry
 fits_from_accepts limits base past entry sound accepts = accepted_fits (is_full limits past) limits.aircraft base past entry sound accepts
@@ -115,7 +110,7 @@ accepted_with_room full n base past (Tick seat at) e = without_last (refuse_if (
 accepted_with_room full n base past (Heard seat frame) e = room_claim full (is_repeated past frame) n base past (claim_of frame) e
 
 -- an entry that a matching book doesn't refuse fits it
-pub fits_unless_refused : (n base : ℕ) (past : List Entry) (book : BookState) (entry : Entry) → MatchesPast n base book past → book_refusal n book entry ≡ None → fits n book (decoded_of entry) ≡ true
+pub fits_unless_refused : (n base : ℕ) (past : List Entry) (book : BookState) (entry : Entry) → MatchesPast n base book past → book_refusal n book (call_of entry) ≡ None → fits n book (call_of entry) ≡ true
 fits_unless_refused n base past book entry m free = fits_from n base past book m entry (accepted_fits false n base past entry m.sound (sym (same_refusal n base past book m entry) ∙ free))
 
 -- a claim that fits is of an aircraft that has a track, or finds a place

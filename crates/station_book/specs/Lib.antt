@@ -1,4 +1,4 @@
-pub mod Decoded
+pub mod Call
 pub mod Tracks
 pub mod Digests
 pub mod State

@@ -8,6 +8,7 @@ use Rattle.station_journal.specs.Repeats.{first_heard}
 use Rattle.station_journal.specs.Resume.{Sound}
 use Rattle.station_journal.specs.Verdict.{tick_refusal, refusal}
 use Rattle.station_book.specs.declared.tracks.Track.{Track}
+use Rattle.station_book.specs.Call.{call_of}
 use Rattle.station_book.specs.Tracks.{find_track, Rising}
 use Rattle.station_book.specs.State.{BookState, rows, placed_rows, starting, applied, book_tick_refusal, book_refusal}
 
@@ -54,12 +55,12 @@ pub record Shows (n base : ℕ) (book : BookState) (entries : List Entry) : Type
   pub moment : book.moment ≡ clock base (reverse entries)
   pub count : book.entries ≡ length entries
   pub tick : (at : ℕ) → book_tick_refusal book at ≡ tick_refusal false base (reverse entries) at
-  pub entry : (entry : Entry) → book_refusal n book entry ≡ refusal false n base (reverse entries) entry
+  pub entry : (entry : Entry) → book_refusal n book (call_of entry) ≡ refusal false n base (reverse entries) entry
 
 -- the book that has applied each entry of the past in turn
 abbrev pub book_of_past : ℕ → List Entry → BookState
 book_of_past base [] = starting base
-book_of_past base (entry ∷ past) = applied (book_of_past base past) entry
+book_of_past base (entry ∷ past) = applied (book_of_past base past) (call_of entry)
 
 -- the book that has applied the entries, the oldest first
 abbrev pub book_after : ℕ → List Entry → BookState

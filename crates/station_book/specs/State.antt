@@ -1,24 +1,21 @@
--- The value of a book, what it refuses, and what an entry makes of it.
+-- The value of a book, what it refuses, and what a call makes of it.
 use Rattle.std.specs.Prelude.{ℕ, ◌+◌, Bool, false, not, ◌&&◌, nat_lt, nat_le, is_some, if◌then◌else◌, List, [], ◌++◌, Option, Some, Result, Ok, Err, length, map, take, drop}
 use Rattle.modes_frame.specs.declared.claims.Claim.{Claim}
 use Rattle.modes_frame.specs.declared.claims.CheckFault.{CheckFault}
-use Rattle.modes_frame.specs.Claims.{is_unassigned}
+use Rattle.modes_frame.specs.Claims.{claim_of, is_unassigned}
 use Rattle.station_journal.specs.declared.aircraft.Aircraft.{Aircraft}
-use Rattle.station_journal.specs.declared.entry.Entry.{Entry}
 use Rattle.station_journal.specs.declared.refusal.Refusal.{Refusal}
 use Rattle.station_journal.specs.declared.refusal.Refusal.TheVariants.{Unknown, BookFull, NotLater, Repeated}
 use Rattle.station_journal.specs.Log.{most_entries}
 use Rattle.station_journal.specs.Past.{Frame, or_older}
 use Rattle.station_journal.specs.Repeats.{is_one_of, with_heard}
 use Rattle.station_journal.specs.Verdict.{refuse_if, fault_refusal}
-use Rattle.station_book.specs.declared.decoded_entry.Sighting.{Sighting}
-use Rattle.station_book.specs.declared.decoded_entry.DecodedEntry.{DecodedEntry}
-use Rattle.station_book.specs.declared.decoded_entry.DecodedEntry.TheVariants.{Tick, Heard}
+use Rattle.station_book.specs.declared.call.Call.{Call}
+use Rattle.station_book.specs.declared.call.Call.TheVariants.{Tick, Heard}
 use Rattle.station_book.specs.declared.tracks.Track.{Track}
-use Rattle.station_book.specs.declared.decoded_entry.Change.{Change}
-use Rattle.station_book.specs.declared.decoded_entry.Change.TheVariants as change
-use Rattle.station_book.specs.Decoded.{decoded_of, claim_in}
-use Rattle.station_book.specs.Tracks.{find_track, swept, with_sighting, has_place, with_track, track_row, track_placed}
+use Rattle.station_book.specs.declared.call.Change.{Change}
+use Rattle.station_book.specs.declared.call.Change.TheVariants as change
+use Rattle.station_book.specs.Tracks.{find_track, swept, with_claimed, has_place, with_track, track_row, track_placed}
 
 -- the clock, the number of entries taken, the track of each live aircraft, and the first frames since the newest tick
 pub record BookState : Type 0 where
@@ -48,61 +45,43 @@ book_claim_refusal n book repeated (Ok claim) =
     (or_older (refuse_if repeated Repeated)
     (refuse_if (if is_some (find_track claim.address book.tracks) then false else nat_le n (length book.tracks)) BookFull))
 
--- the frame is one of the first frames
-abbrev pub repeats : BookState → Result Sighting CheckFault → Bool
-repeats book (Err fault) = false
-repeats book (Ok sighting) = is_one_of book.first_frames sighting.frame
-
 -- the book's refusal of a tick
 abbrev pub book_tick_refusal : BookState → ℕ → Option Refusal
 book_tick_refusal book at = refuse_if (nat_le at book.moment) (NotLater book.moment)
 
--- the book's refusal of an entry with its claim
-abbrev pub decoded_refusal : ℕ → BookState → DecodedEntry → Option Refusal
-decoded_refusal n book (Tick at) = book_tick_refusal book at
-decoded_refusal n book (Heard sighting) = book_claim_refusal n book (repeats book sighting) (claim_in sighting)
+-- the book's refusal of a call
+abbrev pub book_refusal : ℕ → BookState → Call → Option Refusal
+book_refusal n book (Tick at) = book_tick_refusal book at
+book_refusal n book (Heard frame) = book_claim_refusal n book (is_one_of book.first_frames frame) (claim_of frame)
 
--- the book's refusal of an entry
-abbrev pub book_refusal : ℕ → BookState → Entry → Option Refusal
-book_refusal n book entry = decoded_refusal n book (decoded_of entry)
+-- the first frames with a frame that has this claim
+abbrev pub with_frame_of : Frame → Result Claim CheckFault → List Frame → List Frame
+with_frame_of frame (Err fault) frames = frames
+with_frame_of frame (Ok claim) frames = with_heard frame frames
 
--- the first frames with that of a sighting
-abbrev pub with_frame_of : Result Sighting CheckFault → List Frame → List Frame
-with_frame_of (Err fault) frames = frames
-with_frame_of (Ok sighting) frames = with_heard sighting.frame frames
-
--- the book with one more entry, which has its claim
-abbrev pub applied_decoded : BookState → DecodedEntry → BookState
-applied_decoded book (Tick at) = record { moment = at; entries = book.entries + 1; tracks = swept at book.tracks; first_frames = [] }
-applied_decoded book (Heard sighting) = record {
+-- the book that took a call
+abbrev pub applied : BookState → Call → BookState
+applied book (Tick at) = record { moment = at; entries = book.entries + 1; tracks = swept at book.tracks; first_frames = [] }
+applied book (Heard frame) = record {
   moment = book.moment;
   entries = book.entries + 1;
-  tracks = with_sighting book.moment sighting book.tracks;
-  first_frames = with_frame_of sighting book.first_frames;
+  tracks = with_claimed book.moment frame (claim_of frame) book.tracks;
+  first_frames = with_frame_of frame (claim_of frame) book.first_frames;
 }
-
--- the book with one more entry
-abbrev pub applied : BookState → Entry → BookState
-applied book entry = applied_decoded book (decoded_of entry)
 
 -- the claim is of an assigned address, which has a track or finds a place
 abbrev pub claim_fits : ℕ → BookState → Result Claim CheckFault → Bool
 claim_fits n book (Ok claim) = not (is_unassigned claim.address) && has_place n claim.address book.tracks
 claim_fits n book (Err fault) = false
 
--- the entry fits the book, so that it may be applied
-abbrev pub fits : ℕ → BookState → DecodedEntry → Bool
+-- the call fits the book, so that it may be applied
+abbrev pub fits : ℕ → BookState → Call → Bool
 fits n book (Tick at) = nat_lt book.moment at
-fits n book (Heard sighting) = claim_fits n book (claim_in sighting)
+fits n book (Heard frame) = claim_fits n book (claim_of frame)
 
--- an offered entry is applied where it fits and the book counts fewer than the most entries; else nothing changes
-abbrev pub offered_decoded : ℕ → BookState → DecodedEntry → BookState
-offered_decoded n book decoded =
-    if fits n book decoded && nat_lt book.entries most_entries then applied_decoded book decoded else book
-
--- the book that was offered an entry
-abbrev pub offered : ℕ → BookState → Entry → BookState
-offered n book entry = offered_decoded n book (decoded_of entry)
+-- an offered call is applied where it fits and the book counts fewer than the most entries; else nothing changes
+abbrev pub offered : ℕ → BookState → Call → BookState
+offered n book call = if fits n book call && nat_lt book.entries most_entries then applied book call else book
 
 -- the first frames with the next one of others that are ahead, if they have one
 abbrev pub with_frame_ahead : List Frame → List Frame → List Frame

@@ -4,11 +4,11 @@ use Rattle.modes_fields.specs.declared.place.Place.{Place}
 use Rattle.modes_cpr.specs.declared.points.Position.{Position}
 use Rattle.modes_fields.specs.declared.fields.Fields.{Fields}
 use Rattle.modes_fields.specs.Carried.{fields_of}
+use Rattle.modes_frame.specs.declared.claims.Claim.{Claim}
 use Rattle.modes_frame.specs.declared.claims.CheckFault.{CheckFault}
 use Rattle.station_journal.specs.declared.aircraft.Aircraft.{Aircraft}
-use Rattle.station_journal.specs.Past.{stamp, or_older, fresh, fresh_moment, with_parity, pair_with, life_ms, pair_ms}
+use Rattle.station_journal.specs.Past.{Frame, stamp, or_older, fresh, fresh_moment, with_parity, pair_with, life_ms, pair_ms}
 use Rattle.station_book.specs.declared.tracks.Track.{Track}
-use Rattle.station_book.specs.declared.decoded_entry.Sighting.{Sighting}
 
 -- the track of an aircraft of which nothing is known yet
 abbrev pub blank : ℕ → Track
@@ -94,10 +94,10 @@ swept now tracks = filter (λ track. nat_le (now - track.heard) life_ms) tracks
 abbrev pub track_or_blank : ℕ → List Track → Track
 track_or_blank a tracks = unwrap_or (find_track a tracks) (blank a)
 
--- the tracks after a frame heard at the time now
-abbrev pub with_sighting : ℕ → Result Sighting CheckFault → List Track → List Track
-with_sighting now (Err fault) tracks = tracks
-with_sighting now (Ok sighting) tracks = put_track (updated now (fields_of sighting.frame) (track_or_blank sighting.claim.address tracks)) tracks
+-- the tracks after a frame with this claim, heard at the time now
+abbrev pub with_claimed : ℕ → Frame → Result Claim CheckFault → List Track → List Track
+with_claimed now frame (Err fault) tracks = tracks
+with_claimed now frame (Ok claim) tracks = put_track (updated now (fields_of frame) (track_or_blank claim.address tracks)) tracks
 
 -- the address has a track, or there are fewer than n
 abbrev pub has_place : ℕ → ℕ → List Track → Bool

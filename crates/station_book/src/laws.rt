@@ -3,10 +3,10 @@
 ghost use Rattle.std.specs.Prelude.{◌≡◌, ℕ, true, List, ◌∷◌, [], ◌++◌, ◌<◌, length, None, Some};
 ghost use Rattle.station_journal.specs.declared.entry.Entry.{Entry};
 ghost use Rattle.station_journal.specs.Log.{Log, IsLegal, table_of, placed_of, clock_of, refusal_of, most_entries};
-ghost use Rattle.station_book.specs.declared.decoded_entry.DecodedEntry.{DecodedEntry};
-ghost use Rattle.station_book.specs.declared.decoded_entry.Change.{Change};
-ghost use Rattle.station_book.specs.Decoded.{decoded_of, change_of};
-ghost use Rattle.station_book.specs.State.{BookState, starting, applied, applied_decoded, offered, fits, rows, placed_rows, caught_up, book_refusal};
+ghost use Rattle.station_book.specs.declared.call.Call.{Call};
+ghost use Rattle.station_book.specs.declared.call.Change.{Change};
+ghost use Rattle.station_book.specs.Call.{call_of, change_of};
+ghost use Rattle.station_book.specs.State.{BookState, starting, applied, offered, fits, rows, placed_rows, caught_up, book_refusal};
 ghost use Rattle.station_book.specs.Matching.{Matches, Shows, book_after};
 
 /// A book without entries matches the list without entries, whatever the base of its clock.
@@ -25,21 +25,21 @@ pub fn a_match_shows_the_search()
 pub fn an_accepted_entry_fits()
     ensures { (log : Log) (book : BookState) (entry : Entry) → refusal_of log entry ≡ None →
         Matches log.limits.aircraft log.base book log.entries →
-        fits log.limits.aircraft book (decoded_of entry) ≡ true }
+        fits log.limits.aircraft book (call_of entry) ≡ true }
 {}
 
 /// An entry that a matching book doesn't refuse fits it.
 pub fn an_entry_that_is_not_refused_fits()
     ensures { (n : ℕ) (base : ℕ) (book : BookState) (entries : List Entry) (entry : Entry) →
-        Matches n base book entries → book_refusal n book entry ≡ None →
-        fits n book (decoded_of entry) ≡ true }
+        Matches n base book entries → book_refusal n book (call_of entry) ≡ None →
+        fits n book (call_of entry) ≡ true }
 {}
 
 /// A matching book that applies an accepted entry still matches.
 pub fn a_match_stays()
     ensures { (log : Log) (book : BookState) (entry : Entry) → refusal_of log entry ≡ None →
         Matches log.limits.aircraft log.base book log.entries →
-        Matches log.limits.aircraft log.base (applied book entry) (log.entries ++ entry ∷ []) }
+        Matches log.limits.aircraft log.base (applied book (call_of entry)) (log.entries ++ entry ∷ []) }
 {}
 
 /// A matching book that is offered an accepted entry still matches, if it counts fewer than the most entries.
@@ -47,7 +47,7 @@ pub fn an_offer_keeps_a_match()
     ensures { (log : Log) (book : BookState) (entry : Entry) → refusal_of log entry ≡ None →
         length log.entries < most_entries →
         Matches log.limits.aircraft log.base book log.entries →
-        Matches log.limits.aircraft log.base (offered log.limits.aircraft book entry)
+        Matches log.limits.aircraft log.base (offered log.limits.aircraft book (call_of entry))
         (log.entries ++ entry ∷ []) }
 {}
 
@@ -61,9 +61,9 @@ pub fn the_book_equals_the_search()
         (placed_rows (book_after log.base log.entries) ≡ placed_of log) }
 {}
 
-/// A book that copies what an entry changed equals the one that applied the entry.
+/// A book that copies what a call changed equals the one that applied the call.
 pub fn a_change_brings_up()
-    ensures { (n : ℕ) (book : BookState) (decoded : DecodedEntry) (change : Change) → fits n book decoded ≡ true →
-        change_of decoded ≡ Some change →
-        caught_up n (applied_decoded book decoded) change book ≡ applied_decoded book decoded }
+    ensures { (n : ℕ) (book : BookState) (call : Call) (change : Change) → fits n book call ≡ true →
+        change_of call ≡ Some change →
+        caught_up n (applied book call) change book ≡ applied book call }
 {}

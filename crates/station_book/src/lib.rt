@@ -2,13 +2,13 @@
 //! what a search of all of them finds.
 #![tactic(auto)]
 
+pub mod call;
 mod copying;
-pub mod decoded_entry;
 mod first_frames;
 pub mod laws;
 pub mod running;
 mod table;
 mod tracks;
 
-pub use decoded_entry::{Change, DecodedEntry, Sighting};
+pub use call::{Call, Change};
 pub use running::Book;

@@ -5,9 +5,9 @@ use mathlib.Core.Option.{some}
 use lib.ListN.{get_elem?}
 use Rattle.station_journal.specs.declared.entry.Entry.{Entry}
 use Rattle.station_journal.specs.Log.{IsLegal}
-use Rattle.station_book.specs.State.{BookState, caught_up, offered_decoded}
-use Rattle.station_book.specs.declared.decoded_entry.Change.{Change}
-use Rattle.station_book.specs.declared.decoded_entry.DecodedEntry.{DecodedEntry}
+use Rattle.station_book.specs.State.{BookState, caught_up, offered}
+use Rattle.station_book.specs.declared.call.Change.{Change}
+use Rattle.station_book.specs.declared.call.Call.{Call}
 use Rattle.station_book.specs.Matching.{Matches}
 use Rattle.station_desk.specs.History.{Known, Name, base_of}
 use Rattle.station_desk.specs.Start.{Start, log_of, origin_of, start_at}
@@ -34,9 +34,9 @@ brought_up n shown (Some change) book = caught_up n shown change book
 abbrev pub sheet_of : {n : ℕ} → PublishedTable n → Sheet
 sheet_of copy = sheet copy.book copy.front copy.origin
 
--- what is published next: the spare copy, brought up to date, with one entry more
-abbrev pub next_sheet : {n : ℕ} → PublishedTable n → PublishedTable n → DecodedEntry → NextCopy → Sheet
-next_sheet {n} shown spare decoded next = sheet (offered_decoded n (brought_up n shown.book next.missing_change spare.book) decoded) next.front shown.origin
+-- what is published next: the spare copy, brought up to date, with one call more
+abbrev pub next_sheet : {n : ℕ} → PublishedTable n → PublishedTable n → Call → NextCopy → Sheet
+next_sheet {n} shown spare call next = sheet (offered n (brought_up n shown.book next.missing_change spare.book) call) next.front shown.origin
 
 -- the entries are legal for the station, where there is one
 abbrev pub LegalUnder : Name → Option Origin → List Entry → Type 0

@@ -13,7 +13,7 @@ use crate::publish_rule::{Notes, PublishRule, ReaderPlace, Sees};
 use crate::published::{Mark, Origin, PublishedTable, Unlogged};
 use core::mem::replace_with;
 use left_right::writer::Writer;
-use station_book::{Book, Change, DecodedEntry};
+use station_book::{Book, Call, Change};
 use station_journal::Entry;
 use std::alloc::AllocError;
 use std::sync::Wait;
@@ -21,7 +21,7 @@ use std::sync::Wait;
 /// The publishing end.
 pub type Publisher<const N: usize> = Writer<PublishedTable<N>, Unlogged, Option<Mark>, PublishRule>;
 
-/// What makes the next copy, beside an entry: the change that the spare copy lacks, and the beginning of the history
+/// What makes the next copy, beside a call: the change that the spare copy lacks, and the beginning of the history
 /// that it then shows.
 #[derive(Drop)]
 pub(crate) struct NextCopy {
@@ -55,29 +55,29 @@ fn bring_up<const N: usize>(book: &mut Book<N>, shown: &Book<N>, missing_change:
 fn renew<const N: usize>(
     copy: &mut PublishedTable<N>,
     shown: &PublishedTable<N>,
-    decoded: &DecodedEntry,
+    call: &Call,
     next: NextCopy,
 )
-    ensures { sheet_of copy.new ≡ next_sheet shown.now copy.old decoded.now next }
+    ensures { sheet_of copy.new ≡ next_sheet shown.now copy.old call.now next }
 {
     bring_up(&mut copy.book, &shown.book, next.missing_change);
-    copy.book.offer_decoded(decoded);
+    copy.book.offer_call(call);
     copy.front = next.front;
     copy.origin = shown.origin;
 }
 
-// Brings the spare copy up to date, applies the entry to it, and shows it. It waits for those that still read the copy,
+// Brings the spare copy up to date, applies the call to it, and shows it. It waits for those that still read the copy,
 // and allocates nothing.
 fn turn<const N: usize, R: Wait>(
     rt: &R,
     publisher: Publisher<N>,
-    decoded: &DecodedEntry,
+    call: &Call,
     next: NextCopy,
 ) -> Publisher<N>
     requires { Follows N (sheet_of publisher.desk.shown.value)
-        (next_sheet publisher.desk.shown.value publisher.desk.spare.value decoded.now next) }
+        (next_sheet publisher.desk.shown.value publisher.desk.spare.value call.now next) }
     ensures shown { sheet_of result.desk.shown.value
-        ≡ next_sheet publisher.entry.desk.shown.value publisher.entry.desk.spare.value decoded.now next }
+        ≡ next_sheet publisher.entry.desk.shown.value publisher.entry.desk.spare.value call.now next }
     ensures spare { result.desk.spare.value ≡ publisher.entry.desk.shown.value }
     ensures view { view result.desk.place
         ≡ marked next.front publisher.entry.desk.shown.value.origin }
@@ -85,7 +85,7 @@ fn turn<const N: usize, R: Wait>(
 {
     let mut publisher = publisher;
     let (open, mut spare) = publisher.desk.open(rt);
-    renew(&mut spare, open.shown.get(), decoded, next);
+    renew(&mut spare, open.shown.get(), call, next);
     publisher.desk = open.show_as::<Sees>(spare);
     publisher
 }
@@ -94,13 +94,13 @@ fn turn<const N: usize, R: Wait>(
 pub(crate) fn turn_in_place<const N: usize, R: Wait>(
     rt: &R,
     publisher: &mut Publisher<N>,
-    decoded: &DecodedEntry,
+    call: &Call,
     next: NextCopy,
 )
     requires { Follows N (sheet_of publisher.old.desk.shown.value)
-        (next_sheet publisher.old.desk.shown.value publisher.old.desk.spare.value decoded.now next) }
+        (next_sheet publisher.old.desk.shown.value publisher.old.desk.spare.value call.now next) }
     ensures shown { sheet_of publisher.new.desk.shown.value
-        ≡ next_sheet publisher.old.desk.shown.value publisher.old.desk.spare.value decoded.now next }
+        ≡ next_sheet publisher.old.desk.shown.value publisher.old.desk.spare.value call.now next }
     ensures spare { publisher.new.desk.spare.value ≡ publisher.old.desk.shown.value }
     ensures view { view publisher.new.desk.place
         ≡ marked next.front publisher.old.desk.shown.value.origin }
@@ -108,8 +108,8 @@ pub(crate) fn turn_in_place<const N: usize, R: Wait>(
 {
     replace_with(
         publisher,
-        (rt, decoded, next),
-        |publisher: Publisher<N>, parts: (&R, &DecodedEntry, NextCopy)| -> (Publisher<N>, ())
+        (rt, call, next),
+        |publisher: Publisher<N>, parts: (&R, &Call, NextCopy)| -> (Publisher<N>, ())
             requires { Follows N (sheet_of publisher.desk.shown.value)
                 (next_sheet publisher.desk.shown.value publisher.desk.spare.value parts.1.now parts.2) }
             ensures shown { sheet_of result.0.desk.shown.value

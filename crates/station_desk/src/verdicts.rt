@@ -1,29 +1,26 @@
-//! Why a desk refuses an entry.
-ghost use Rattle.std.specs.Prelude.{◌≡◌, ◌≢◌, ◌<◌, IfErr, OnOk, None, Some, MatchResult, length};
+//! Why a desk refuses a call.
+ghost use Rattle.std.specs.Prelude.{◌≡◌, ◌≢◌, ℕ, ◌<◌, IfErr, OnOk, None, Some, MatchResult, length};
 ghost use Rattle.station_journal.specs.declared.refusal.Refusal.TheVariants.{NoMemory};
 ghost use Rattle.station_journal.specs.Log.{refusal_of};
-ghost use Rattle.station_book.specs.Decoded.{decoded_of};
+ghost use Rattle.station_book.specs.Call.{entry_of};
 ghost use Rattle.station_desk.specs.Desk.{HasMatchingBook, full_first};
 
-use station_book::{Book, DecodedEntry};
-use station_journal::{Entry, Journal, Refusal};
+use station_book::{Book, Call};
+use station_journal::{Journal, Refusal};
 
-/// Answers why a desk refuses an entry, if it does. The entry is given with what it decodes to. `NoMemory` is never the
-/// answer.
+/// Answers why a desk refuses a call, by whatever seat, if it does. `NoMemory` is never the answer.
 pub(crate) fn verdict<const N: usize>(
     journal: &Journal,
     book: &Book<N>,
-    entry: &Entry,
-    decoded: &DecodedEntry,
+    call: &Call,
 ) -> Result<(), Refusal>
-    requires kept { HasMatchingBook N journal.now.log book.now }
-    requires decoded { decoded.now ≡ decoded_of entry.now }
-    ensures verdict { MatchResult result (λ _. refusal_of journal.now.log entry.now ≡ None)
-        (λ e. refusal_of journal.now.log entry.now ≡ Some e) }
+    requires { HasMatchingBook N journal.now.log book.now }
+    ensures verdict { (seat : ℕ) → let refusal = refusal_of journal.now.log (entry_of seat call.now) in
+        MatchResult result (λ _. refusal ≡ None) (λ e. refusal ≡ Some e) }
     ensures few { OnOk result (length journal.now.log.entries < journal.now.log.limits.entries) }
     ensures never { IfErr result (λ refusal. refusal ≢ NoMemory) }
 {
-    let verdict = book.verdict_of(decoded);
+    let verdict = book.verdict_of(call);
     if journal.len() >= u64::from(journal.limits().entries) {
         full_first(verdict)
     } else {
@@ -31,7 +28,7 @@ pub(crate) fn verdict<const N: usize>(
     }
 }
 
-// The verdict on an entry where the journal is full, from the book's verdict.
+// The verdict on a call where the journal is full, from the book's verdict.
 fn full_first(verdict: Result<(), Refusal>) -> Result<(), Refusal>
     ensures { result ≡ full_first verdict }
 {

@@ -1,4 +1,4 @@
-pub mod AheadLemmas
+pub mod ParsedLemmas
 pub mod CloseLemmas
 pub mod CountLemmas
 pub mod LookLemmas

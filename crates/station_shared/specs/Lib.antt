@@ -1,4 +1,4 @@
 pub mod Closing
-pub mod LinesAhead
+pub mod ParsedLines
 pub mod Seats
 pub mod Workers

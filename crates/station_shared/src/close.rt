@@ -3,7 +3,7 @@ ghost use Rattle.std.specs.Prelude.{◌≡◌, ◌≤◌, ◌↔◌, IsTrue, eqb
 ghost use Rattle.station_shared.specs.Closing.{EachOnce, Closes, accepted_at, accepted_by};
 ghost use Rattle.station_desk.specs.Start.{log_of};
 
-use crate::locked::Locked;
+use crate::counted_desk::CountedDesk;
 use crate::seat::Seat;
 use crate::station::Station;
 use crate::station_name::StationName;
@@ -43,7 +43,7 @@ impl<const N: usize, L: StationName> Station<N, L> {
             seats: _count,
             flags: _,
         } = self;
-        let Locked {
+        let CountedDesk {
             desk,
             total: _,
             rest: _,
@@ -84,14 +84,14 @@ impl<const N: usize, L: StationName> Station<N, L> {
     }
 }
 
-impl<const N: usize, L: StationName> Locked<N, L> {
+impl<const N: usize, L: StationName> CountedDesk<N, L> {
     // Takes the seats back, and returns the journal.
     fn close<R: Wait>(self, rt: &R, mut seats: Vec<Seat<N, L>>) -> Journal
         requires { EachOnce L.seats seats.items }
         ensures log { result.log ≡ log_of L.start result.log.entries }
         ensures closes { Closes L.start L.seats result.log.entries seats.items }
     {
-        let Locked {
+        let CountedDesk {
             mut desk,
             mut total,
             mut rest,

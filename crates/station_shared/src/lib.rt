@@ -2,11 +2,11 @@
 #![tactic(auto)]
 
 pub mod close;
+mod counted_desk;
 mod held_pump;
 pub mod limits_met;
-mod lines_ahead;
-mod locked;
 pub mod look;
+mod parsed_line;
 mod receipt;
 pub mod seat;
 pub mod seat_feed;

@@ -96,7 +96,7 @@ impl<const N: usize, L: StationName> Seat<N, L> {
                     return Err(Seat { standing, place });
                 }
                 standing.front.begins(&looking.get().front);
-                standing.know(looking.get().front.again());
+                standing.set_seen(looking.get().front.again());
                 Ok(Look { standing, looking })
             }
             Err(place) => Err(Seat {

@@ -67,7 +67,7 @@ impl<const N: usize, L: StationName> Seat<N, L> {
         ensures legal { IsLegal (log_of L.start self.new.seen) }
     {
         let longer = self.standing.front.longer(&receipt.front);
-        self.standing.know(longer);
+        self.standing.set_seen(longer);
     }
 
     /// Takes the seat apart: what it keeps whether it looks or not, and its place among the readers, if it has one.

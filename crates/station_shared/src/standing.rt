@@ -43,7 +43,7 @@ impl<L: StationName> Model for Standing<L> {
 
 impl<L: StationName> Standing<L> {
     /// Sets what was seen of the journal.
-    pub(crate) fn know(&mut self, front: Front)
+    pub(crate) fn set_seen(&mut self, front: Front)
         requires history { front.name ≡ L.start.history }
         requires later { IsPrefix self.old.seen front.entries }
         requires legal { IsLegal (log_of L.start front.entries) }

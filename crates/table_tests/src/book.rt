@@ -8,7 +8,7 @@ mod repeats;
 use crate::calls::Call::{self, Hear, Tick};
 use crate::calls::{entry, frame, once};
 use crate::known::{ALL_CALL, IDENTIFICATION, SHORT_AIR};
-use station_book::{Book, DecodedEntry};
+use station_book::Book;
 use station_journal::{Aircraft, Entry, Journal, Limits, PlacedRows, Refusal, Rows};
 use std::alloc::Global;
 use std::process::Abort;
@@ -37,7 +37,7 @@ fn same_verdict<const N: usize>(
     entry: &Entry,
     answer: Result<(), Refusal>,
 ) {
-    assert_eq!(rt; book.verdict_of(&DecodedEntry::of(entry)), answer);
+    assert_eq!(rt; book.verdict_of(&station_book::Call::of(entry)), answer);
     match entry {
         Entry::Tick { seat: _, at } => assert_eq!(rt; book.verdict_tick(*at), answer),
         Entry::Heard { seat: _, frame } => assert_eq!(rt; book.verdict(frame), answer),
@@ -193,7 +193,7 @@ fn overlaid_replies_speak_for_live_aircraft(rt: HostRuntime) -> Result<(), Fail>
         let book: Book<4> = compare(&rt, alloc, &[Hear(reply)])?;
         assert_eq!(rt; book.entries(), 0);
         assert_eq!(rt;
-            book.verdict_of(&DecodedEntry::of(&entry(Hear(reply))?)),
+            book.verdict_of(&station_book::Call::of(&entry(Hear(reply))?)),
             Err(Refusal::Unknown(0x4840D6))
         );
         let book: Book<4> = compare(&rt, alloc, &[Hear(IDENTIFICATION), Hear(reply)])?;

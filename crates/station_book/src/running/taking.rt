@@ -2,68 +2,45 @@
 
 ghost use Rattle.std.specs.Prelude.{◌≡◌, ◌⊎◌, ◌&&◌, not, ℕ, ◌<◌, ◌≤◌, true, List, [], ◌∷◌, ◌++◌};
 ghost use Rattle.std.specs.Prelude.{length, take, OnOk, IfErr, Ok};
-ghost use Rattle.station_book.specs.declared.decoded_entry.DecodedEntry.TheVariants as decoded;
-ghost use Rattle.modes_frame.specs.Claims.{is_unassigned};
+ghost use Rattle.station_book.specs.declared.call.Call.TheVariants as call;
+ghost use Rattle.modes_frame.specs.Claims.{claim_of, is_unassigned};
 ghost use Rattle.station_journal.specs.declared.entry.Entry.{Entry};
 ghost use Rattle.station_journal.specs.Follow.{IsFirstUnsound};
 ghost use Rattle.station_journal.specs.Log.{most_entries};
-ghost use Rattle.station_book.specs.Decoded.{decoded_of};
-ghost use Rattle.station_book.specs.State.{starting, fits};
-ghost use Rattle.station_book.specs.State.{applied, applied_decoded, offered, offered_decoded, caught_up};
+ghost use Rattle.station_book.specs.Call.{call_of};
+ghost use Rattle.station_book.specs.State.{starting, fits, applied, offered, caught_up};
 ghost use Rattle.station_book.specs.Tracks.{StandsAt, has_place, swept};
 ghost use Rattle.station_book.specs.Matching.{Matches, book_after};
 
 use crate::Book;
-use crate::decoded_entry::{Change, DecodedEntry, Sighting};
+use crate::call::{Call, Change};
+use modes_frame::readers::claim;
+use modes_frame::{CheckedFrame, Claim, Frame};
 use station_journal::{Entry, MOST_ENTRIES};
 
 impl<const N: usize> Book<N> {
     /// Applies an entry that fits.
     pub fn apply(&mut self, entry: &Entry)
-        requires fits { fits N self.old (decoded_of entry.now) ≡ true }
+        requires fits { fits N self.old (call_of entry.now) ≡ true }
         requires few { self.old.entries < most_entries }
-        ensures value { self.new ≡ applied self.old entry.now }
+        ensures value { self.new ≡ applied self.old (call_of entry.now) }
         ensures kept { (base : ℕ) (journal : List Entry) → Matches N base self.old journal →
             Matches N base self.new (journal ++ entry.now ∷ []) }
     {
-        self.apply_decoded(&DecodedEntry::of(entry));
-    }
-
-    /// As `apply`, of an entry with its claim.
-    pub fn apply_decoded(&mut self, decoded: &DecodedEntry)
-        requires fits { fits N self.old decoded.now ≡ true }
-        requires few { self.old.entries < most_entries }
-        ensures { self.new ≡ applied_decoded self.old decoded.now }
-    {
-        match decoded {
-            DecodedEntry::Tick(at) => self.apply_tick(*at),
-            DecodedEntry::Heard(Ok(sighting)) => {
-                let place = self.table.locate(sighting.claim.address);
-                self.apply_at(place, sighting);
-            }
-            DecodedEntry::Heard(Err(_)) => {}
-        }
+        self.offer(entry);
     }
 
     /// Whether the entry may be applied. It is a later tick, or a frame of an assigned address that is live or finds a
     /// place.
     pub fn fits(&self, entry: &Entry) -> bool
-        ensures { result ≡ fits N self.now (decoded_of entry.now) }
+        ensures { result ≡ fits N self.now (call_of entry.now) }
     {
-        self.fits_decoded(&DecodedEntry::of(entry))
-    }
-
-    // As `fits`, of an entry with its claim.
-    fn fits_decoded(&self, decoded: &DecodedEntry) -> bool
-        ensures { result ≡ fits N self.now decoded.now }
-    {
-        match decoded {
-            DecodedEntry::Tick(at) => *at > self.clock,
-            DecodedEntry::Heard(Ok(sighting)) => {
-                let address = sighting.claim.address;
-                self.may_take(self.table.locate(address), address)
-            }
-            DecodedEntry::Heard(Err(_)) => false,
+        match entry {
+            Entry::Tick { seat: _, at } => *at > self.clock,
+            Entry::Heard { seat: _, frame } => match claim(frame) {
+                Ok(claim) => self.may_take(self.table.locate(claim.address), claim.address),
+                Err(_) => false,
+            },
         }
     }
 
@@ -97,24 +74,23 @@ impl<const N: usize> Book<N> {
 
     /// Applies the entry, if it fits and the book has taken fewer than 16,777,216. Else nothing changes.
     pub fn offer(&mut self, entry: &Entry)
-        ensures value { self.new ≡ offered N self.old entry.now }
+        ensures value { self.new ≡ offered N self.old (call_of entry.now) }
         ensures kept { (base : ℕ) (journal : List Entry) → Matches N base self.old journal →
             (self.new ≡ self.old) ⊎ Matches N base self.new (journal ++ entry.now ∷ []) }
     {
-        self.offer_decoded(&DecodedEntry::of(entry));
+        self.offer_call(&Call::of(entry));
     }
 
-    /// The same as `offer`, for the decoded entry.
-    pub fn offer_decoded(&mut self, decoded: &DecodedEntry)
-        ensures { self.new ≡ offered_decoded N self.old decoded.now }
+    /// As `offer`, of a call.
+    pub fn offer_call(&mut self, call: &Call)
+        ensures { self.new ≡ offered N self.old call.now }
     {
         if self.count >= u64::from(MOST_ENTRIES) {
             return;
         }
-        match decoded {
-            DecodedEntry::Tick(at) => self.offer_tick(*at),
-            DecodedEntry::Heard(Ok(sighting)) => self.offer_sighting(sighting),
-            DecodedEntry::Heard(Err(_)) => {}
+        match call {
+            Call::Tick(at) => self.offer_tick(*at),
+            Call::Heard(heard) => self.offer_frame(heard),
         }
     }
 
@@ -146,33 +122,26 @@ impl<const N: usize> Book<N> {
     // Applies the tick, if it is later than the clock.
     fn offer_tick(&mut self, at: u64)
         requires few { self.old.entries < most_entries }
-        ensures { self.new ≡ offered_decoded N self.old (decoded.Tick at) }
+        ensures { self.new ≡ offered N self.old (call.Tick at) }
     {
         if at > self.clock {
-            self.apply_tick(at);
+            self.count += 1;
+            self.clock = at;
+            self.sweep(at);
         }
     }
 
     // Applies the frame, if it fits.
-    fn offer_sighting(&mut self, sighting: &Sighting)
+    fn offer_frame(&mut self, heard: &CheckedFrame)
         requires few { self.old.entries < most_entries }
-        ensures { self.new ≡ offered_decoded N self.old (decoded.Heard (Ok sighting.now)) }
+        ensures { self.new ≡ offered N self.old (call.Heard heard.now) }
     {
-        let address = sighting.claim.address;
-        let place = self.table.locate(address);
-        if self.may_take(place, address) {
-            self.apply_at(place, sighting);
+        if let Ok(claim) = heard.claim() {
+            let place = self.table.locate(claim.address);
+            if self.may_take(place, claim.address) {
+                self.apply_at(place, claim, heard.frame());
+            }
         }
-    }
-
-    // Applies a tick.
-    fn apply_tick(&mut self, at: u64)
-        requires few { self.old.entries < most_entries }
-        ensures { self.new ≡ applied_decoded self.old (decoded.Tick at) }
-    {
-        self.count += 1;
-        self.clock = at;
-        self.sweep(at);
     }
 
     // Drops the aircraft that aren't live at a tick, and the frames heard before it.
@@ -184,16 +153,16 @@ impl<const N: usize> Book<N> {
         self.first_frames.clear();
     }
 
-    // Applies a frame of the aircraft whose address has this place.
-    fn apply_at(&mut self, place: Result<usize, usize>, sighting: &Sighting)
-        requires place { StandsAt self.old.tracks sighting.now.claim.address place }
-        requires fits { fits N self.old (decoded.Heard (Ok sighting.now)) ≡ true }
+    // Applies a frame with this claim, whose address has this place.
+    fn apply_at(&mut self, place: Result<usize, usize>, claim: Claim, frame: &Frame)
+        requires claim { claim_of frame.now ≡ Ok claim }
+        requires place { StandsAt self.old.tracks claim.address place }
+        requires fits { fits N self.old (call.Heard frame.now) ≡ true }
         requires few { self.old.entries < most_entries }
-        ensures { self.new ≡ applied_decoded self.old (decoded.Heard (Ok sighting.now)) }
+        ensures { self.new ≡ applied self.old (call.Heard frame.now) }
     {
         self.count += 1;
-        let address = sighting.claim.address;
-        self.table.hear(place, self.clock, address, &sighting.frame);
-        self.first_frames.hear(&sighting.frame);
+        self.table.hear(place, self.clock, claim.address, frame);
+        self.first_frames.hear(frame);
     }
 }

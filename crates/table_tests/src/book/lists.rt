@@ -3,7 +3,7 @@
 use crate::calls::Call::{Hear, Tick};
 use crate::calls::entry;
 use crate::known::{ALL_CALL, EVEN, IDENTIFICATION, NOBODY, SHORT_AIR, SPOILED};
-use station_book::{Book, DecodedEntry};
+use station_book::{Book, Call};
 use station_journal::{Refusal, Rows};
 use std::test::Fail;
 
@@ -14,7 +14,7 @@ fn what_does_not_fit_leaves_a_book_as_it_was(rt: HostRuntime) -> Result<(), Fail
         let entry = entry(call)?;
         assert!(rt; !book.fits(&entry));
         book.offer(&entry);
-        book.offer_decoded(&DecodedEntry::of(&entry));
+        book.offer_call(&Call::of(&entry));
     }
     assert_eq!(rt; book.entries(), 0);
     assert_eq!(rt; book.now(), 7);
@@ -27,7 +27,7 @@ fn an_overlaid_frame_fits_whoever_is_live(rt: HostRuntime) -> Result<(), Fail> {
     let mut book = Book::<1>::new();
     let reply = entry(Hear(SHORT_AIR))?;
     assert_eq!(rt;
-        book.verdict_of(&DecodedEntry::of(&reply)),
+        book.verdict_of(&Call::of(&reply)),
         Err(Refusal::Unknown(0x4840D6))
     );
     assert!(rt; book.fits(&reply));

@@ -5,7 +5,7 @@ use crate::calls::Call::{Hear, Tick};
 use crate::calls::{entry, frame};
 use crate::known::{IDENTIFICATION, SHORT_AIR};
 use modes_frame::remainder;
-use station_book::{Book, DecodedEntry};
+use station_book::{Book, Call};
 use station_journal::{Entry, Journal, Limits, Refusal};
 use std::test::Fail;
 
@@ -82,7 +82,7 @@ fn frames_with_the_same_last_bits_are_told_apart(rt: HostRuntime) -> Result<(), 
 fn give_change(shown: &mut Book<4>, spare: &mut Book<4>, entry: &Entry) {
     let before = shown.entries();
     shown.offer(entry);
-    if let Some(change) = DecodedEntry::of(entry).change() {
+    if let Some(change) = Call::of(entry).change() {
         if shown.entries() > before {
             spare.catch_up(shown, change);
         }
@@ -97,22 +97,22 @@ fn a_second_copy_refuses_the_same(rt: HostRuntime) -> Result<(), Fail> {
     give_change(&mut shown, &mut spare, &entry(Hear(IDENTIFICATION))?);
     for last in 0..=255 {
         let heard = reply(last)?;
-        let decoded = DecodedEntry::of(&heard);
-        assert_eq!(rt; shown.verdict_of(&decoded), Ok(()));
+        let call = Call::of(&heard);
+        assert_eq!(rt; shown.verdict_of(&call), Ok(()));
         give_change(&mut shown, &mut spare, &heard);
         let answer = if last == 255 {
             Ok(())
         } else {
             Err(Refusal::Repeated)
         };
-        assert_eq!(rt; shown.verdict_of(&decoded), answer);
-        assert_eq!(rt; spare.verdict_of(&decoded), answer);
+        assert_eq!(rt; shown.verdict_of(&call), answer);
+        assert_eq!(rt; spare.verdict_of(&call), answer);
     }
     give_change(&mut shown, &mut spare, &entry(Tick(1))?);
     assert_eq!(rt; (spare.entries(), spare.now()), (258, 1));
     assert_eq!(rt; spare.get(0x4840D6), shown.get(0x4840D6));
     for heard in [entry(Hear(IDENTIFICATION))?, reply(7)?] {
-        assert_eq!(rt; spare.verdict_of(&DecodedEntry::of(&heard)), Ok(()));
+        assert_eq!(rt; spare.verdict_of(&Call::of(&heard)), Ok(()));
     }
     Ok(())
 }

@@ -2,4 +2,4 @@ use Rattle.station_book.proofs.CatchingLemmas.{catches_up}
 use Rattle.station_book.proofs.laws.a_change_brings_up.Goals as goal
 
 pub returns : goal.returns
-returns c = λ n book decoded change fit is. catches_up n book decoded change fit is
+returns c = λ n book call change fit is. catches_up n book call change fit is

@@ -4,5 +4,5 @@ use Rattle.station_desk.proofs.publisher.renew.Goals as goal
 pub bring_up-requires : goal.bring_up-requires
 bring_up-requires g c = book_in_copy g.row.N (search)
 
-pub offer_decoded-requires : goal.offer_decoded-requires
-offer_decoded-requires g c = book_in_copy g.row.N (search)
+pub offer_call-requires : goal.offer_call-requires
+offer_call-requires g c = book_in_copy g.row.N (search)

@@ -1,4 +1,9 @@
+use Rattle.std.proofs.Common.{rules}
+use Rattle.station_book.proofs.RoomLemmas.{table_in_book}
 use Rattle.station_book.proofs.running.Book.fits.Goals as goal
 
-pub fits_decoded-requires : goal.fits_decoded-requires
-fits_decoded-requires g c = search
+pub locate-requires : goal.locate-requires
+locate-requires g c = table_in_book g.row.N (search)
+
+pub may_take-requires : goal.may_take-requires
+may_take-requires g c = (search, search rules)
