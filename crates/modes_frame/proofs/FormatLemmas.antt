@@ -1,5 +1,5 @@
 -- The downlink format is in the first byte.
-use Rattle.std.proofs.Common.{◌≡◌, ℕ, ◌/◌, ◌<◌, ◌==◌, true, List, [], ◌∷◌, get_or, refl, ap, sym, ◌∙◌, eqb-true}
+use Rattle.std.proofs.Common.{◌≡◌, ℕ, ◌/◌, ◌<◌, ◌==◌, true, List, [], ◌∷◌, get_or, refl, sym, ◌∙◌, eqb-true}
 use Rattle.modes_frame.specs.Frames.{byte_bits, df_of}
 use Rattle.modes_frame.proofs.AllByteLemmas.{all_of_width, all_of_width-at}
 
@@ -18,7 +18,3 @@ format-byte b h = eqb-true (b / 8) (df_of (b ∷ [])) (all_of_width-at 8 (λ b. 
 
 pub format-is : (bytes : List ℕ) → get_or bytes 0 0 < 256 → get_or bytes 0 0 / 8 ≡ df_of bytes
 format-is bytes h = format-byte (get_or bytes 0 0) h ∙ sym (format-first bytes)
-
--- bytes that begin alike have one format
-pub format-same : (xs ys : List ℕ) → get_or xs 0 0 ≡ get_or ys 0 0 → df_of xs ≡ df_of ys
-format-same xs ys e = format-first xs ∙ ap (λ b. df_of (b ∷ [])) e ∙ sym (format-first ys)

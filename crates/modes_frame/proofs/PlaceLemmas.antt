@@ -76,6 +76,12 @@ remainder-at bytes n count =
     sym (remainder-split (take n bytes) (drop n bytes) (length-drop n bytes ∙ left))
     ∙ ap remainder_of (take-append-drop n bytes)
 
+-- zeros before the bytes change nothing
+pub remainder-after_zeros : (n : ℕ) (bytes : List ℕ) → remainder_of (replicate n 0 ++ bytes) ≡ remainder_of bytes
+unfolding byte_bits divide
+remainder-after_zeros zero bytes = refl
+remainder-after_zeros (suc n) bytes = remainder-after_zeros n bytes
+
 -- the number that they write
 pub number-of_three : (bytes : List ℕ) → length bytes ≡ 3 → get_or bytes 0 0 < 256 → get_or bytes 1 0 < 256 → get_or bytes 2 0 < 256
     → get_or bytes 0 0 * 65536 + get_or bytes 1 0 * 256 + get_or bytes 2 0 ≡ number_of (bits_of bytes)

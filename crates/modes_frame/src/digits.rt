@@ -1,13 +1,14 @@
 //! Hexadecimal digits.
-ghost use Rattle.std.specs.Prelude.{◌≡◌, ◌≤◌, ◌<◌, ◌*◌, ◌↔◌, ◌⊎◌, IsTrue, IfSome, Ok, length};
-ghost use Rattle.std.specs.List.{AllPass};
-ghost use Rattle.hex.specs.Hex.{decode_pairs, hex_digit_value, is_hex_digit};
+ghost use Rattle.std.specs.Prelude.{◌≡◌, ◌≤◌, ◌<◌, ◌+◌, ◌-◌, ◌*◌, ◌/◌, ◌++◌, IfSome, IsTrue, Ok, length, slice_index, map, take, drop};
+ghost use Rattle.std.specs.Simd.Lanes.{Each1};
+ghost use Rattle.hex.specs.Hex.{decode_pairs};
 ghost use Rattle.modes_frame.specs.Frames.{IsFrame};
+ghost use Rattle.modes_frame.specs.Kept.{bytes_of, value_of, with_zeros};
 ghost use Rattle.modes_frame.specs.Reading.{Decodes};
 
 use crate::frame::Frame;
 use hex::FromHexError;
-use std::marker::Model;
+use std::simd::prelude::*;
 
 // Decodes digits into bytes, or answers the place of the first byte that is no digit, counted from 1.
 pub(crate) fn decode_digits(digits: &[u8], bytes: &mut [u8]) -> Result<(), u8>
@@ -24,77 +25,72 @@ pub(crate) fn decode_digits(digits: &[u8], bytes: &mut [u8]) -> Result<(), u8>
     }
 }
 
-// The value of a hexadecimal digit, if the byte is one.
-fn digit_value(byte: u8) -> Option<u8>
-    ensures { result ≡ hex_digit_value byte }
+// The value of each of 16 bytes as a digit, or 16 where it is none.
+#[inline(always)]
+fn digit_values(bytes: u8x16) -> u8x16
+    ensures { result ≡ map value_of bytes }
 {
-    let mut value = [0];
-    match hex::decode_to_slice(&[b'0', byte], &mut value) {
-        Ok(()) => Some(value[0]),
-        Err(_) => None,
-    }
+    // `0` to `9` become the ten highest numbers, then 0xF0 to 0xF9 and all others less, then 0 to 9 and all others more.
+    let highest = bytes + u8x16::splat(0xFF - b'9');
+    let decimal = highest.saturating_sub(u8x16::splat(6)) - u8x16::splat(0xF0);
+    let letter = (bytes & u8x16::splat(0xDF)) - u8x16::splat(b'A');
+    decimal.simd_min(letter.simd_min(u8x16::splat(6)) + u8x16::splat(10))
 }
 
-// In a table, the value of a byte that is no digit.
-const NO_DIGIT: u8 = 16;
-
-// The value of each byte as a hexadecimal digit, by one call of `hex` each.
-#[derive(Drop)]
-pub(crate) struct DigitTable {
-    values: [u8; 256],
+// Whether the first 14 numbers of both are values of digits.
+#[inline(always)]
+fn are_digits(front: u8x16, back: u8x16) -> bool
+    ensures front { IsTrue result → Each1 (λ value. value < 16) (take 14 front) }
+    ensures back { IsTrue result → Each1 (λ value. value < 16) (take 14 back) }
+{
+    (front | back).simd_gt(u8x16::splat(15)).to_bitmask() & 0x3FFF == 0
 }
 
-impl Model for DigitTable {
-    ghost use Rattle.modes_frame.specs.Kept.{HasValues};
+// The places of a frame's bytes in its two halves of 8, and 128 for the zeros before them.
+static PLACES: [u8; 32] = [
+    128, 128, 128, 128, 128, 128, 128, 128, 128, 8, 9, 10, 11, 12, 13, 14, // a short frame is the last half alone
+    128, 128, 0, 1, 2, 3, 4, 5, 6, 8, 9, 10, 11, 12, 13, 14,
+];
 
-    ghost Value = { Unit {0} };
-
-    ghost view = { λ t. tt };
-
-    ghost invariant = { λ t. HasValues 256 t.values };
+// The bytes of pairs of values, with zeros before them: of the last 14 values, or of all 28 where `longer` is 1.
+#[inline(always)]
+fn paired(front: u8x16, back: u8x16, longer: usize) -> [u8; 16]
+    requires one { longer ≤ 1 }
+    requires front { Each1 (λ value. value < 16) (take 14 front) }
+    requires back { Each1 (λ value. value < 16) (take 14 back) }
+    ensures { result ≡ with_zeros (bytes_of (drop (14 - 14 * longer) (take 14 front ++ take 14 back))) }
+{
+    let (high, low) = front.deinterleave(back);
+    let bytes = high << u8x16::splat(4) | low;
+    bytes
+        .swizzle_dyn(u8x16::from_slice(&PLACES[16 * longer..]))
+        .to_array()
 }
 
-impl DigitTable {
-    pub(crate) fn new() -> Self {
-        let mut values = [NO_DIGIT; 256];
-        for byte in 0..256 {
-            values[byte] = digit_value(byte as u8).unwrap_or(NO_DIGIT);
-        }
-        DigitTable { values }
-    }
+// 1 where a frame that begins with this digit is a long one, else 0. By numbers: the processor would often foresee a
+// branch wrongly.
+#[inline(always)]
+pub(crate) fn longer(first: u8) -> usize
+    ensures one { result ≤ 1 }
+    ensures digit { value_of first < 16 → result ≡ value_of first / 8 }
+{
+    usize::from(first.wrapping_add(8) / 64 % 2)
+}
 
-    // The frame that 14 or 28 digits write. None where a byte is no digit, or where their number doesn't fit the
-    // downlink format.
-    #[inline(always)]
-    pub(crate) fn frame(&self, digits: &[u8]) -> Option<Frame>
-        requires { (length digits.now ≡ 14) ⊎ (length digits.now ≡ 28) }
-        ensures value { IfSome result (λ frame. decode_pairs 0 digits.now ≡ Ok frame) }
-        ensures frame { IfSome result (λ frame. IsFrame frame) }
-    {
-        let count = digits.len() / 2;
-        let mut padded = [0; 16];
-        if self.decode(digits, &mut padded[..count]) {
-            Frame::from_padded(count as u8, padded)
-        } else {
-            None
-        }
+// The frame that 14 digits write, or 28 where `longer` is 1, which the first of them says. The digits are all of the
+// line but its first byte and its last two. None where one of them is no digit.
+#[inline(always)]
+pub(crate) fn enclosed_frame(line: &[u8], longer: usize) -> Option<Frame>
+    requires one { longer ≤ 1 }
+    requires size { length line.now ≡ 17 + 14 * longer }
+    requires first { value_of (slice_index line.now 1) < 16 → longer ≡ value_of (slice_index line.now 1) / 8 }
+    ensures value { IfSome result (λ frame. decode_pairs 0 (take (14 + 14 * longer) (drop 1 line.now)) ≡ Ok frame) }
+    ensures frame { IfSome result (λ frame. IsFrame frame) }
+{
+    let front = digit_values(u8x16::from_slice(&line[1..]));
+    let back = digit_values(u8x16::from_slice(&line[line.len() - 16..]));
+    if !are_digits(front, back) {
+        return None;
     }
-
-    // Decodes digits into bytes. Where it answers false, one of them is no digit, and the bytes mean nothing.
-    #[inline(always)]
-    pub(crate) fn decode(&self, digits: &[u8], bytes: &mut [u8]) -> bool
-        requires even { length digits.now ≡ 2 * length bytes.old }
-        ensures size { length bytes.new ≡ length bytes.old }
-        ensures all { IsTrue result ↔ AllPass is_hex_digit digits.now }
-        ensures value { IsTrue result → decode_pairs 0 digits.now ≡ Ok bytes.new }
-    {
-        let mut merged = 0;
-        for i in 0..bytes.len() {
-            let high = self.values[usize::from(digits[2 * i])];
-            let low = self.values[usize::from(digits[2 * i + 1])];
-            merged |= high | low;
-            bytes[i] = high << 4 | low;
-        }
-        merged < NO_DIGIT
-    }
+    Some(Frame::from_padded(7 + 7 * longer as u8, paired(front, back, longer)))
 }

@@ -1,5 +1,5 @@
 //! Frames (ICAO Annex 10 Volume IV, 3.1.2.3).
-ghost use Rattle.std.specs.Prelude.{◌≡◌, ◌≤◌, ◌<◌, ◌↔◌, ◌⊎◌, ◌*◌, ℕ, List, IsSome, IfSome, length, take};
+ghost use Rattle.std.specs.Prelude.{◌≡◌, ◌≤◌, ◌<◌, ◌↔◌, ◌⊎◌, ◌*◌, ◌-◌, ◌++◌, ℕ, List, IsSome, IfSome, length, drop, replicate};
 ghost use Rattle.modes_frame.specs.Frames.{df_of};
 ghost use Rattle.modes_frame.specs.Kept.{count_of};
 
@@ -10,58 +10,53 @@ use std::marker::Model;
 #[derive(Clone, Copy, Debug, PartialEq, Eq)]
 pub struct Frame {
     count: u8,
-    // The bytes, and zeros after them: 16 bytes are copied in one move.
+    // The bytes, and zeros before them: 16 bytes are copied in one move, and the last is always at one place.
     padded: [u8; 16],
 }
 
 impl Model for Frame {
-    ghost use Rattle.std.specs.Prelude.{ℕ, List};
+    ghost use Rattle.std.specs.Prelude.{ℕ, List, length};
     ghost use Rattle.std.proofs.Common.{ap, ◌∙◌};
-    ghost use Rattle.modes_frame.specs.Kept.{bytes_in, count_of, with_zeros, IsPaddedFrame};
+    ghost use Rattle.modes_frame.specs.Kept.{bytes_in, with_zeros, IsPaddedFrame};
 
     ghost Value = { List ℕ };
 
-    ghost view = { λ f. bytes_in f.padded };
+    ghost view = { λ f. bytes_in f.count f.padded };
 
     ghost invariant = { λ f. IsPaddedFrame f.count f.padded };
 
-    ghost inverse = { λ xs. record { count = count_of xs; padded = with_zeros xs } };
+    ghost inverse = { λ xs. record { count = length xs; padded = with_zeros xs } };
 
-    ghost inverse_ok = { λ a h. ap (λ c. record { count = c; padded = with_zeros (bytes_in a.padded) }) h.same
+    ghost inverse_ok = { λ a h. ap (λ c. record { count = c; padded = with_zeros (bytes_in a.count a.padded) }) h.same
         ∙ ap (λ d. record { count = a.count; padded = d }) h.rest };
 }
 
 impl Frame {
     ghost use Rattle.modes_frame.specs.Frames.{IsFrame, bits_of, bit_of};
-    ghost use Rattle.modes_frame.specs.Kept.{with_zeros};
+    ghost use Rattle.modes_frame.specs.Kept.{bytes_in, with_zeros};
 
     /// The frame of these bytes. None where their number doesn't fit their downlink format.
     pub fn from_bytes(bytes: &[u8]) -> Option<Frame>
         ensures some { IsSome result ↔ IsFrame bytes.now }
         ensures value { IfSome result (λ f. f ≡ bytes.now) }
     {
-        if bytes.len() != 7 && bytes.len() != 14 {
+        if bytes.is_empty() || bytes.len() != byte_count(bytes) {
             return None;
         }
         let mut padded = [0; 16];
-        padded[..bytes.len()].copy_from_slice(bytes);
-        Frame::from_padded(bytes.len() as u8, padded)
+        padded[16 - bytes.len()..].copy_from_slice(bytes);
+        Some(Frame::from_padded(bytes.len() as u8, padded))
     }
 
-    // The frame of the first `count` of 16 bytes, 7 or 14, with zeros after them. None where that number doesn't fit
-    // their downlink format.
+    // The frame of the last `count` of 16 bytes, with zeros before them.
     #[inline(always)]
-    pub(crate) fn from_padded(count: u8, padded: [u8; 16]) -> Option<Frame>
-        requires count { (count ≡ 7) ⊎ (count ≡ 14) }
-        requires zeros { padded ≡ with_zeros (take count padded) }
-        ensures some { IsSome result ↔ IsFrame (take count padded) }
-        ensures value { IfSome result (λ f. f ≡ take count padded) }
+    pub(crate) fn from_padded(count: u8, padded: [u8; 16]) -> Frame
+        requires few { count ≤ 14 }
+        requires zeros { padded ≡ with_zeros (bytes_in count padded) }
+        requires frame { IsFrame (bytes_in count padded) }
+        ensures { result ≡ bytes_in count padded }
     {
-        if count == byte_count(&padded) {
-            Some(Frame { count, padded })
-        } else {
-            None
-        }
+        Frame { count, padded }
     }
 
     /// The 7 or 14 bytes of the frame.
@@ -69,7 +64,15 @@ impl Frame {
         ensures bytes { result.now ≡ self.now }
         ensures frame { IsFrame self.now }
     {
-        &self.padded[..usize::from(self.count)]
+        &self.padded[16 - usize::from(self.count)..]
+    }
+
+    // The last 14 of the bytes and the zeros before them: those of a short frame have zeros in the place of seven.
+    pub(crate) fn last_fourteen(&self) -> &[u8]
+        ensures size { length result.now ≡ 14 }
+        ensures bytes { result.now ≡ replicate (14 - length self.now) 0 ++ self.now }
+    {
+        &self.padded[2..]
     }
 
     /// The downlink format, 0 to 31: bits 1 to 5 (3.1.2.3.2.1.2).
@@ -99,7 +102,7 @@ impl Frame {
 }
 
 // The number of bytes of a frame that begins with these.
-fn byte_count(bytes: &[u8]) -> u8
+fn byte_count(bytes: &[u8]) -> usize
     requires { 0 < length bytes.now }
     ensures { result ≡ count_of bytes.now }
 {

@@ -5,28 +5,14 @@ ghost use Rattle.modes_frame.specs.Frames.{remainder_of, parity_of};
 use crate::frame::Frame;
 use crate::parity::{parity_of_byte, sent};
 
-// The same as `remainder`, by as many look-ups that the processor can overlap.
+// The same as `remainder`, by look-ups that the processor can overlap. A short frame is read as a long one that begins
+// with zeros, which change no remainder: a branch on its length would often be foreseen wrongly.
 pub(crate) fn remainder_by_place(frame: &Frame) -> u32
     ensures value { result ≡ remainder_of frame.now }
     ensures small { result < 2 ^ 24 }
 {
-    let bytes = frame.bytes();
-    if bytes.len() == 7 {
-        remainder_after(bytes, 4)
-    } else {
-        remainder_after(bytes, 11)
-    }
-}
-
-// The remainder of `count` + 3 bytes. Inlined where `count` is a constant, it has no loop.
-#[inline(always)]
-fn remainder_after(bytes: &[u8], count: usize) -> u32
-    requires few { count ≤ 11 }
-    requires three { length bytes.now ≡ count + 3 }
-    ensures value { result ≡ remainder_of bytes.now }
-    ensures small { result < 2 ^ 24 }
-{
-    parity_by_place(&bytes[..count]) ^ sent(&bytes[count..])
+    let bytes = frame.last_fourteen();
+    parity_by_place(&bytes[..11]) ^ sent(&bytes[11..])
 }
 
 // The remainder of some bytes with 24 zero bits after them.
@@ -51,18 +37,25 @@ pub(crate) fn parity_before(after: usize, byte: u8) -> u32
     let index = usize::from(byte);
     match after {
         0 => parity_of_byte(byte),
-        1 => BEFORE_1[index],
-        2 => BEFORE_2[index],
-        3 => BEFORE_3[index],
-        4 => BEFORE_4[index],
-        5 => BEFORE_5[index],
-        6 => BEFORE_6[index],
-        7 => BEFORE_7[index],
-        8 => BEFORE_8[index],
-        9 => BEFORE_9[index],
-        _ => BEFORE_10[index],
+        1 => FROM_1[0][index],
+        2 => FROM_1[1][index],
+        3 => FROM_1[2][index],
+        4 => FROM_4[0][index],
+        5 => FROM_4[1][index],
+        6 => FROM_4[2][index],
+        7 => FROM_7[0][index],
+        8 => FROM_7[1][index],
+        9 => FROM_7[2][index],
+        _ => FROM_7[3][index],
     }
 }
+
+// Tables side by side, so that the processor is given one address for several.
+static FROM_1: [[u32; 256]; 3] = [BEFORE_1, BEFORE_2, BEFORE_3];
+
+static FROM_4: [[u32; 256]; 3] = [BEFORE_4, BEFORE_5, BEFORE_6];
+
+static FROM_7: [[u32; 256]; 4] = [BEFORE_7, BEFORE_8, BEFORE_9, BEFORE_10];
 
 // Entry k is the XOR of the numbers whose bit is set in k. The first number is bit 0.
 macro_rules! sums {

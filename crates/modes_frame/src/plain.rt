@@ -21,8 +21,7 @@ impl Cutter {
     ///
     /// None says nothing about the bytes: push them. It is the answer
     /// - to any other line,
-    /// - to a line that goes on behind the bytes,
-    /// - always with a reader for a few lines.
+    /// - to a line that goes on behind the bytes.
     #[inline(always)]
     pub fn plain_line(&self, lines: &LineReader, bytes: &[u8]) -> Option<PlainLine>
         ensures some { IfSome result (λ line. 0 < line.length) }

@@ -68,9 +68,3 @@ fn a_plain_line_behind_a_line_without_its_end_is_not_seen(rt: HostRuntime) {
         assert_eq!(rt; cutter.plain_line(&lines, &KLM1023_LINE).is_some(), is_seen);
     }
 }
-
-#[test]
-fn a_reader_of_a_few_lines_sees_no_plain_line(rt: HostRuntime) {
-    let lines = LineReader::without_digits();
-    assert_eq!(rt; Cutter::new().plain_line(&lines, &KLM1023_LINE), None);
-}
