@@ -66,31 +66,8 @@ fn renew<const N: usize>(
     copy.origin = shown.origin;
 }
 
-// Brings the spare copy up to date, applies the call to it, and shows it. It waits for those that still read the copy,
-// and allocates nothing.
-fn turn<const N: usize, R: Wait>(
-    rt: &R,
-    publisher: Publisher<N>,
-    call: &Call,
-    next: NextCopy,
-) -> Publisher<N>
-    requires { Follows N (sheet_of publisher.desk.shown.value)
-        (next_sheet publisher.desk.shown.value publisher.desk.spare.value call.now next) }
-    ensures shown { sheet_of result.desk.shown.value
-        ≡ next_sheet publisher.entry.desk.shown.value publisher.entry.desk.spare.value call.now next }
-    ensures spare { result.desk.spare.value ≡ publisher.entry.desk.shown.value }
-    ensures view { view result.desk.place
-        ≡ marked next.front publisher.entry.desk.shown.value.origin }
-    ensures pending { drop result.behind result.log.items ≡ drop publisher.entry.behind publisher.entry.log.items }
-{
-    let mut publisher = publisher;
-    let (open, mut spare) = publisher.desk.open(rt);
-    renew(&mut spare, open.shown.get(), call, next);
-    publisher.desk = open.show_as::<Sees>(spare);
-    publisher
-}
-
-/// Turns the copies in place, as `turn` does.
+/// Brings the spare copy up to date, applies the call to it, and shows it. It waits for those that still read the copy,
+/// and allocates nothing.
 pub(crate) fn turn_in_place<const N: usize, R: Wait>(
     rt: &R,
     publisher: &mut Publisher<N>,
@@ -106,20 +83,22 @@ pub(crate) fn turn_in_place<const N: usize, R: Wait>(
         ≡ marked next.front publisher.old.desk.shown.value.origin }
     ensures pending { drop publisher.new.behind publisher.new.log.items ≡ drop publisher.old.behind publisher.old.log.items }
 {
+    // Only what shows the copies is moved, and not the log.
     replace_with(
-        publisher,
+        &mut publisher.desk,
         (rt, call, next),
-        |publisher: Publisher<N>, parts: (&R, &Call, NextCopy)| -> (Publisher<N>, ())
-            requires { Follows N (sheet_of publisher.desk.shown.value)
-                (next_sheet publisher.desk.shown.value publisher.desk.spare.value parts.1.now parts.2) }
-            ensures shown { sheet_of result.0.desk.shown.value
-                ≡ next_sheet publisher.entry.desk.shown.value publisher.entry.desk.spare.value
-                parts.entry.1.now parts.entry.2 }
-            ensures spare { result.0.desk.spare.value ≡ publisher.entry.desk.shown.value }
-            ensures view { view result.0.desk.place
-                ≡ marked parts.entry.2.front publisher.entry.desk.shown.value.origin }
-            ensures pending { drop result.0.behind result.0.log.items ≡ drop publisher.entry.behind publisher.entry.log.items }
-        { (turn(parts.0, publisher, parts.1, parts.2), ()) },
+        |desk, parts: (&R, &Call, NextCopy)| -> (_, ())
+            requires { Follows N (sheet_of desk.shown.value)
+                (next_sheet desk.shown.value desk.spare.value parts.1.now parts.2) }
+            ensures shown { sheet_of result.0.shown.value
+                ≡ next_sheet desk.entry.shown.value desk.entry.spare.value parts.entry.1.now parts.entry.2 }
+            ensures spare { result.0.spare.value ≡ desk.entry.shown.value }
+            ensures view { view result.0.place ≡ marked parts.entry.2.front desk.entry.shown.value.origin }
+        {
+            let (open, mut spare) = desk.open(parts.0);
+            renew(&mut spare, open.shown.get(), parts.1, parts.2);
+            (open.show_as::<Sees>(spare), ())
+        },
     );
 }
 
