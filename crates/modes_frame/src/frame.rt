@@ -67,6 +67,13 @@ impl Frame {
         &self.padded[16 - usize::from(self.count)..]
     }
 
+    /// The bytes with zeros before them, 16 in all.
+    pub fn padded(&self) -> &[u8]
+        ensures { result.now ≡ replicate (16 - length self.now) 0 ++ self.now }
+    {
+        &self.padded
+    }
+
     // The last 14 of the bytes and the zeros before them: those of a short frame have zeros in the place of seven.
     pub(crate) fn last_fourteen(&self) -> &[u8]
         ensures size { length result.now ≡ 14 }
