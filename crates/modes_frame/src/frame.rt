@@ -85,6 +85,7 @@ impl Frame {
     /// The downlink format, 0 to 31: bits 1 to 5 (3.1.2.3.2.1.2).
     pub fn df(&self) -> u8
         ensures value { result ≡ df_of self.now }
+        ensures below { result < 32 }
         ensures frame { IsFrame self.now }
     {
         format_of(self.bytes())
@@ -119,7 +120,8 @@ fn byte_count(bytes: &[u8]) -> usize
 // The downlink format of a frame that begins with these bytes.
 pub(crate) fn format_of(bytes: &[u8]) -> u8
     requires { 0 < length bytes.now }
-    ensures { result ≡ df_of bytes.now }
+    ensures value { result ≡ df_of bytes.now }
+    ensures below { result < 32 }
 {
     bytes[0] / 8
 }

@@ -1,7 +1,9 @@
 //! Whose frame it is: the claim that parity and format allow.
-ghost use Rattle.std.specs.Prelude.{◌≡◌, ◌^◌, ◌<◌, ◌==◌, not, IfOk, length};
+ghost use Rattle.std.specs.Prelude.{◌≡◌, ◌^◌, ◌<◌, ◌==◌, if◌then◌else◌, IfOk, length};
 ghost use Rattle.std.specs.Bool.{OnTrue};
-ghost use Rattle.modes_frame.specs.Claims.{claim_of, address_field, assigned, control_field, is_squitter_frame};
+ghost use Rattle.modes_frame.specs.Claims.{claim_of, address_field, control_field, is_announced_format, is_overlaid_format, is_squitter_frame};
+ghost use Rattle.modes_frame.specs.Frames.{df_of};
+ghost use Rattle.modes_frame.specs.declared.claims.CheckFault.TheVariants.{BadParity, Unsupported};
 
 use crate::claims::{CheckFault, Claim};
 use crate::frame::Frame;
@@ -14,18 +16,52 @@ pub fn claim(frame: &Frame) -> Result<Claim, CheckFault>
     ensures value { result ≡ claim_of frame.now }
     ensures below { IfOk result (λ claim. claim.address < 2 ^ 24) }
 {
+    // By numbers, as the processor would often foresee a branch on the format wrongly.
     let df = frame.df();
     let remainder = remainder_by_place(frame);
-    match df {
-        0 | 4 | 5 | 16 | 20 | 21 => Ok(Claim {
-            address: remainder,
-            overlaid: true,
-        }),
-        11 if remainder < 128 => announced(frame, remainder),
-        11 => Err(CheckFault::BadParity(remainder)),
-        _ if !is_squitter(frame) => Err(CheckFault::Unsupported(df)),
-        _ if remainder == 0 => announced(frame, remainder),
-        _ => Err(CheckFault::BadParity(remainder)),
+    let remainders = remainders(df);
+    if remainder >= remainders || (df == 18 && control(frame) != 0) {
+        return Err(refused(frame, remainder));
+    }
+    let is_overlaid = remainders == OVERLAID;
+    let announced = announced_address(frame);
+    if !is_overlaid & ((announced == 0) | (announced == 0xFF_FFFF)) {
+        return Err(CheckFault::Unassigned(announced));
+    }
+    Ok(Claim {
+        address: if is_overlaid { remainder } else { announced },
+        overlaid: is_overlaid | (remainder != 0),
+    })
+}
+
+// How many remainders there are: any is an address that was laid over the parity.
+const OVERLAID: u32 = 0x100_0000;
+
+// How many remainders a frame of each format can have, from 0 on, where its control field is 0.
+static REMAINDERS: [u32; 32] = [
+    OVERLAID, 0, 0, 0, OVERLAID, OVERLAID, 0, 0, 0, 0, 0, 128, 0, 0, 0, 0, OVERLAID, 1, 1, 0,
+    OVERLAID, OVERLAID, 0, 0, 0, 0, 0, 0, 0, 0, 0, 0,
+];
+
+#[inline(always)]
+fn remainders(df: u8) -> u32
+    requires { df < 32 }
+    ensures { result ≡ (if is_overlaid_format df then 2 ^ 24 else if df == 11 then 128
+        else if is_announced_format df 0 then 1 else 0) }
+{
+    REMAINDERS[usize::from(df)]
+}
+
+// Why a frame that can't have this remainder speaks for nobody.
+#[cold]
+fn refused(frame: &Frame, remainder: u32) -> CheckFault
+    ensures { let df = df_of frame.now in
+        result ≡ (if is_announced_format df (control_field frame.now) then BadParity remainder else Unsupported df) }
+{
+    match frame.df() {
+        11 => CheckFault::BadParity(remainder),
+        _ if is_squitter(frame) => CheckFault::BadParity(remainder),
+        df => CheckFault::Unsupported(df),
     }
 }
 
@@ -49,22 +85,6 @@ fn control(frame: &Frame) -> u8
     ensures { result ≡ control_field frame.now }
 {
     frame.bytes()[0] % 8
-}
-
-// The claim to the announced address, in a frame with this remainder.
-fn announced(frame: &Frame, remainder: u32) -> Result<Claim, CheckFault>
-    ensures value { result ≡ assigned (address_field frame.now) (not (remainder == 0)) }
-    ensures below { IfOk result (λ claim. claim.address < 2 ^ 24) }
-{
-    let address = announced_address(frame);
-    if address == 0 || address == 0xFF_FFFF {
-        Err(CheckFault::Unassigned(address))
-    } else {
-        Ok(Claim {
-            address,
-            overlaid: remainder != 0,
-        })
-    }
 }
 
 // The announced address: the number in bits 9 to 32.
