@@ -1,5 +1,5 @@
 //! Sources, sinks and desks for tests, and what is counted of their lines.
-ghost use Rattle.std.specs.Prelude.{◌≡◌, ◌≤◌, None};
+ghost use Rattle.std.specs.Prelude.{◌≡◌, ◌≤◌, None, false};
 ghost use Rattle.station_desk.specs.Desk.{most_aircraft};
 
 use arrayvec::ArrayVec;
@@ -69,13 +69,14 @@ impl<'a> Pieces<'a> {
 }
 
 impl<'a> Source for Pieces<'a> {
-    ghost left = { λ _. None };
-
-    ghost reads = { λ s. s.reads };
-
-    ghost ends = { λ s. s.ends };
-
-    ghost failures = { λ s. s.failures };
+    ghost state = { λ s. record {
+      left = None;
+      given = None;
+      reads = s.reads;
+      ends = s.ends;
+      failures = s.failures;
+      at_hand = false;
+    } };
 
     fn read(&mut self, buffer: &mut [u8]) -> Result<usize, Failed> {
         self.reads = self.reads.saturating_add(1);
@@ -135,9 +136,7 @@ impl Taker {
 }
 
 impl Sink for Taker {
-    ghost taken = { λ _. None };
-
-    ghost failures = { λ s. s.failures };
+    ghost state = { λ s. record { taken = None; failures = s.failures } };
 
     fn write(&mut self, piece: &[u8]) -> Result<usize, Failed> {
         let count = self.space().min(piece.len());

@@ -5,7 +5,6 @@ use station_lines::{
     Ended, FrameTaker, FromBuffer, FromRead, LineTaker, PieceTaker, Source, take_each, take_lines,
 };
 use std::io::BufReader;
-use std::sync::Wait;
 use std::test::*;
 
 const BYTES: [u8; 3000] = [b' '; 3000];
@@ -23,7 +22,7 @@ impl LineTaker for Lengths {
 
     ghost counted = { λ _. 0 };
 
-    fn take_line<R: Wait>(&mut self, _rt: &R, _lines: &LineReader, _cut: &Cut) -> Result<(), ()> {
+    fn take_line(&mut self, _lines: &LineReader, _cut: &Cut) -> Result<(), ()> {
         Ok(())
     }
 
@@ -33,35 +32,30 @@ impl LineTaker for Lengths {
 }
 
 impl FrameTaker for Lengths {
-    fn take_frame<R: Wait>(&mut self, _rt: &R, _frame: Frame) -> Result<(), ()> {
+    fn take_frame(&mut self, _frame: Frame) -> Result<(), ()> {
         Ok(())
     }
 }
 
 impl PieceTaker for Lengths {
-    fn take_piece<R: Wait>(
+    fn take_piece(
         &mut self,
-        rt: &R,
         cutter: &mut Cutter,
         lines: &LineReader,
         bytes: &[u8],
     ) -> Result<(), ()> {
-        let taken = take_each(rt, self, cutter, lines, bytes);
+        let taken = take_each(self, cutter, lines, bytes);
         let _fits = self.lengths.try_push(bytes.len());
         taken
     }
 }
 
 // How the source ended in this many turns, and how many bytes its pieces had.
-fn gathered<S: Source, R: Wait>(
-    rt: &R,
-    from: &mut S,
-    turns: u32,
-) -> (Ended<()>, ArrayVec<usize, 8>) {
+fn gathered<S: Source>(from: &mut S, turns: u32) -> (Ended<()>, ArrayVec<usize, 8>) {
     let mut taker = Lengths {
         lengths: ArrayVec::new(),
     };
-    let ended = take_lines(rt, &mut taker, from, turns);
+    let ended = take_lines(&mut taker, from, turns);
     (ended, taker.lengths)
 }
 
@@ -74,7 +68,7 @@ fn reads_go_on_while_bytes_are_at_hand(rt: HostRuntime) -> Result<(), Fail> {
         (9, Ended::AtEnd, &[2048, 952, 0]),
     ] {
         let reader = BufReader::with_capacity(rt.alloc(), 2048, BYTES.as_slice())?;
-        let (ended, lengths) = gathered(&rt, &mut FromBuffer::new(reader), turns);
+        let (ended, lengths) = gathered(&mut FromBuffer::new(reader), turns);
         assert_eq!(rt; ended, want, "{turns}");
         assert_eq!(rt; lengths.as_slice(), pieces, "{turns}");
     }
@@ -84,7 +78,7 @@ fn reads_go_on_while_bytes_are_at_hand(rt: HostRuntime) -> Result<(), Fail> {
 #[test]
 fn reads_end_with_the_turns(rt: HostRuntime) -> Result<(), Fail> {
     let reader = BufReader::with_capacity(rt.alloc(), 2048, BYTES.as_slice())?;
-    let (ended, lengths) = gathered(&rt, &mut FromBuffer::new(reader), 3);
+    let (ended, lengths) = gathered(&mut FromBuffer::new(reader), 3);
     assert_eq!(rt; ended, Ended::TurnsOver);
     assert_eq!(rt; lengths.as_slice(), [1536].as_slice());
     Ok(())
@@ -96,7 +90,7 @@ fn a_source_that_does_not_know_is_read_once(rt: HostRuntime) {
         (1, Ended::TurnsOver, [512].as_slice()),
         (9, Ended::AtEnd, &[512, 512, 512, 512, 512, 440, 0]),
     ] {
-        let (ended, lengths) = gathered(&rt, &mut FromRead::new(BYTES.as_slice()), turns);
+        let (ended, lengths) = gathered(&mut FromRead::new(BYTES.as_slice()), turns);
         assert_eq!(rt; ended, want, "{turns}");
         assert_eq!(rt; lengths.as_slice(), pieces, "{turns}");
     }

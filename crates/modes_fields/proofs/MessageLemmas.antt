@@ -5,7 +5,8 @@ use Rattle.std.proofs.lemmas.Nat.{and_mask, one_shl}
 use Rattle.std.proofs.lemmas.Nat.Bits.{shr_and_one}
 use Rattle.modes_frame.specs.Frames.{byte_bits, bits_of, bit_of}
 use Rattle.modes_fields.specs.Bits.{number, field, code_bits, me_of}
-use Rattle.modes_fields.proofs.NumberLemmas.{number-lt, number-part, length-bits_of, field-part, field_of_code, code_bits-number}
+use Rattle.modes_frame.proofs.BitLemmas.{length-bits_of}
+use Rattle.modes_fields.proofs.NumberLemmas.{number-lt, number-part, field-part, field_of_code, code_bits-number}
 
 -- ---- the bits of some of the bytes
 

@@ -11,6 +11,7 @@ use Rattle.station_journal.specs.Past.{clock, speaks_for, heard_within, live, st
 use Rattle.station_journal.specs.Table.{altitude_of, squawk_of, velocity_of, vertical_of}
 use Rattle.station_journal.proofs.FreshLemmas.{fresh_none_below, agree_later, agree_newer, agree_none}
 use Rattle.station_journal.specs.Past.{IsTimed}
+use Rattle.station_journal.proofs.RecentSoundLemmas.{old_later}
 use Rattle.station_journal.proofs.SearchLemmas.{newest_old, newest_fix_old, heard_by_newest}
 use Rattle.station_book.specs.declared.tracks.Track.{Track}
 use Rattle.station_book.specs.Tracks.{blank, kept_partner, kept_fix, updated}
@@ -26,17 +27,6 @@ pub record Serves (base : ℕ) (past : List Entry) (a : ℕ) (track : Track) : T
   pub even : AgreeFrom 10000 (clock base past) track.even (newest even_place_of base a past)
   pub odd : AgreeFrom 10000 (clock base past) track.odd (newest odd_place_of base a past)
   pub position : AgreeFrom 60000 (clock base past) track.position (newest_fix base a past)
-
--- an aircraft that isn't heard within 60,000 ms now isn't later
-pub old_later : (now later base a : ℕ) (past : List Entry) → now ≤ later → heard_within now base a past ≡ false → heard_within later base a past ≡ false
-old_later now later base a [] le old = refl
-old_later now later base a (Tick seat at ∷ past) le old = old_later now later base a past le old
-old_later now later base a (Heard seat frame ∷ past) le old =
-    step (speaks_for a frame) (clock base past) (heard_within now base a past) (heard_within later base a past) old (old_later now later base a past le)
-  where
-    step : (speaks : Bool) (m : ℕ) (rest rest' : Bool) → (speaks && nat_le (now - m) 60000) || rest ≡ false → (rest ≡ false → rest' ≡ false) → (speaks && nat_le (later - m) 60000) || rest' ≡ false
-    step false m rest rest' old before = before old
-    step true m rest rest' old before = grind (arith, nat_tests)
 
 module _ (base a : ℕ) (past : List Entry) where
   -- a blank track shows what a search finds of an aircraft that isn't live

@@ -21,14 +21,9 @@ use Rattle.station_book.specs.State.{BookState, applied, starting}
 use Rattle.station_book.specs.Matching.{Tracks, TracksAt, MatchesPast, Matches}
 use Rattle.station_journal.specs.Resume.{ClaimFits, Fits, Sound}
 use Rattle.station_journal.proofs.RepeatLemmas.{first_heard_next}
+use Rattle.station_journal.proofs.SoundLemmas.{timed_sound}
 use Rattle.station_book.proofs.AircraftLemmas.{kept_by_tick, swept_by_tick, absent_after_tick, unchanged_by_other, heard_of_own}
 use Rattle.station_book.proofs.TrackLemmas.{keep_if, find_put_as, find_filter, rising_put, rising_filter}
-
--- in a sound past each tick is later than the clock before it
-pub timed_from_sound : (n base : ℕ) (past : List Entry) → Sound n base past → IsTimed base past
-timed_from_sound n base [] sound = tt
-timed_from_sound n base (Tick seat at ∷ past) sound = (sound.0, timed_from_sound n base past sound.1)
-timed_from_sound n base (Heard seat frame ∷ past) sound = timed_from_sound n base past sound.1
 
 -- a book without entries matches the empty past
 pub matches_starting : (n base : ℕ) → MatchesPast n base (starting base) []
@@ -50,7 +45,7 @@ module _ (n base : ℕ) (past : List Entry) where
     moment = refl;
     entries = omega (arith, m.entries);
     rising = rising_filter (λ track. nat_le (at - track.heard) 60000) book.tracks m.rising;
-    each = λ a. rw (find_filter a (λ track. nat_le (at - track.heard) 60000) book.tracks m.rising) (after_tick seat at a (find_track a book.tracks) (timed_from_sound n base past m.sound) later (m.each a));
+    each = λ a. rw (find_filter a (λ track. nat_le (at - track.heard) 60000) book.tracks m.rising) (after_tick seat at a (find_track a book.tracks) (timed_sound n base past m.sound) later (m.each a));
     first_frames = refl;
   }
 

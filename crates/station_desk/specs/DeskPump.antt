@@ -5,8 +5,9 @@ use Rattle.modes_frame.specs.declared.cutter.Cut.{Cut}
 use Rattle.station_journal.specs.Log.{Log}
 use Rattle.station_lines.specs.Calls.{heard, journal_after}
 use Rattle.station_lines.specs.Counting.{Counts}
-use Rattle.station_lines.specs.Drawing.{Drawn, Draws}
+use Rattle.station_lines.specs.Drawing.{Draws}
 use Rattle.station_lines.specs.Pump.{tally_of_pump, want_of, ending_of}
+use Rattle.station_lines.specs.Source.{SourceState}
 use Rattle.station_desk.specs.Replay.{EndsWithCall}
 use Rattle.station_lines.specs.declared.pumping.PumpFault.{PumpFault}
 use Rattle.station_lines.specs.declared.tally.Tally.{Tally}
@@ -18,7 +19,7 @@ Runs seat before after lines (Err want) = EndsWithCall heard seat before after l
 
 -- the source gave the lines, up to its end or the fault: the journal is the run of their calls by the seat, and the
 -- tally counts them
-pub record PumpsDesk (seat : ℕ) (before after : Log) (source_old source_new : Drawn) (turns : ℕ) (result : Result Tally PumpFault) : Type 0 where
+pub record PumpsDesk (seat : ℕ) (before after : Log) (source_old source_new : SourceState) (turns : ℕ) (result : Result Tally PumpFault) : Type 0 where
   pub lines : List Cut
   pub draws : Draws source_old source_new turns (ending_of result) lines
   pub runs : Runs seat before after lines (want_of result)

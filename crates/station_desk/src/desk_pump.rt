@@ -1,7 +1,6 @@
 //! The pump over a desk that is lent.
 ghost use Rattle.std.specs.Prelude.{◌≡◌, ◌≤◌};
 ghost use Rattle.station_desk.specs.DeskPump.{PumpsDesk};
-ghost use Rattle.station_lines.specs.Drawing.{drawn_of};
 ghost use Rattle.station_desk.specs.Desk.{most_aircraft};
 
 use crate::desk::Desk;
@@ -17,9 +16,8 @@ fn pump_lent<const N: usize, S: Source, R: Wait>(
     turns: u32,
 ) -> Result<Tally, PumpFault>
     ensures same_desk { feed.new.desk.ghost_name ≡ feed.old.desk.ghost_name }
-    ensures pumps { PumpsDesk feed.old.seat feed.old.desk.now.log feed.new.desk.now.log
-        (drawn_of S.left S.given S.reads S.ends S.failures from.old)
-        (drawn_of S.left S.given S.reads S.ends S.failures from.new) turns result }
+    ensures pumps { PumpsDesk feed.old.seat feed.old.desk.now.log feed.new.desk.now.log (S.state from.old)
+        (S.state from.new) turns result }
 {
     pump(rt, feed, from, turns)
 }
@@ -35,9 +33,7 @@ pub fn pump_desk<const N: usize, S: Source, R: Wait>(
     turns: u32,
 ) -> Result<Tally, PumpFault>
     requires small { N ≤ most_aircraft }
-    ensures { PumpsDesk seat desk.old.log desk.new.log
-        (drawn_of S.left S.given S.reads S.ends S.failures from.old)
-        (drawn_of S.left S.given S.reads S.ends S.failures from.new) turns result }
+    ensures { PumpsDesk seat desk.old.log desk.new.log (S.state from.old) (S.state from.new) turns result }
 {
     let mut feed = DeskFeed { desk, seat };
     pump_lent(rt, &mut feed, from, turns)

@@ -1,5 +1,5 @@
 -- Bytes of a source, one read after another.
-use Rattle.std.proofs.Common.{◌≡◌, ℕ, zero, suc, ◌+◌, ◌*◌, ◌-◌, ◌≤◌, false, List, [], ◌∷◌, ◌++◌, length, take, drop, length-drop, Result, Ok, Err, refl, sym, ap, ◌∙◌, subst, append_assoc, append-nil, length-append, map, arith}
+use Rattle.std.proofs.Common.{◌≡◌, ℕ, zero, suc, ◌+◌, ◌*◌, ◌-◌, ◌<◌, ◌≤◌, Bool, true, false, not, List, [], ◌∷◌, ◌++◌, length, take, drop, length-drop, Result, Ok, Err, refl, sym, ap, ◌∙◌, append_assoc, append-nil, length-append, map, arith}
 use Rattle.std.specs.Option.{option_to_list}
 use Rattle.std.specs.Io.KnownBytes.{IsAtEnd}
 use Rattle.std.proofs.KnownBytes.{Consumes-nil, Consumes-trans, Consumes-kept, Appends-nil, Appends-trans, Appends-kept}
@@ -8,18 +8,19 @@ use Rattle.std.proofs.Math.Seq.{take-add}
 use Rattle.modes_frame.specs.declared.cutter.Cut.{Cut}
 use Rattle.modes_frame.specs.Lines.{pieces, cut, cuts, last_line, pending, ended_cuts, told}
 use Rattle.modes_frame.proofs.LineLemmas.{ended-push}
-use Rattle.station_lines.specs.Source.{one_more, counted_up, longest_read}
-use Rattle.station_lines.specs.Drawing.{Bytes, Gives, GivesNone, Drawn, Ending, AtEnd, ReadFailed, TurnsOver, LineStopped, EndsAs, is_read_failed, TakesBytes, TakesLast, Taken, ending_as, stopped_as, ended_by}
+use Rattle.station_report.specs.Sink.{counted}
+use Rattle.station_lines.specs.Source.{SourceState, one_more, counted_up, longest_read}
+use Rattle.station_lines.specs.Drawing.{Gives, GivesNone, Gathers, FailsOnce, Ending, AtEnd, ReadFailed, TurnsOver, LineStopped, EndsAs, is_read_failed, TakesBytes, TakesLast, Taken, ending_as, stopped_as, ended_by}
 
 -- ---- bytes of a source
 
-pub Gives-nil : (a : Bytes) → Gives a a []
+pub Gives-nil : (a : SourceState) → Gives a a []
 Gives-nil a = (Consumes-nil a.left, Appends-nil a.given)
 
-pub Gives-trans : (a b c : Bytes) (bs cs : List ℕ) → Gives a b bs → Gives b c cs → Gives a c (bs ++ cs)
+pub Gives-trans : (a b c : SourceState) (bs cs : List ℕ) → Gives a b bs → Gives b c cs → Gives a c (bs ++ cs)
 Gives-trans a b c bs cs p q = (Consumes-trans a.left b.left c.left bs cs p.0 q.0, Appends-trans a.given b.given c.given bs cs p.1 q.1)
 
-pub Gives-kept : (a b c : Bytes) (bs : List ℕ) → Gives a b bs → GivesNone b c → Gives a c bs
+pub Gives-kept : (a b c : SourceState) (bs : List ℕ) → Gives a b bs → GivesNone b c → Gives a c bs
 Gives-kept a b c bs p q = (Consumes-kept a.left b.left c.left bs p.0 q.0, Appends-kept a.given b.given c.given bs p.1 q.1)
 
 -- ---- lines of some bytes
@@ -46,16 +47,6 @@ counted_up-add (suc n) m old = ap (λ k. one_more k) (counted_up-add n m old) �
 
 pub counted_up-more : (n m old mid new : ℕ) → mid ≡ counted_up m old → new ≡ counted_up n mid → new ≡ counted_up (n + m) old
 counted_up-more n m old mid new p q = q ∙ ap (λ k. counted_up n k) p ∙ counted_up-add n m old
-
--- reads made of the turns left
-pub reads_left : (turns left made old mid new : ℕ) → left ≤ turns → made ≤ left → mid ≡ counted_up (turns - left) old → new ≡ counted_up made mid → new ≡ counted_up (turns - (left - made)) old
-reads_left turns left made old mid new within few p q =
-    let same : made + (turns - left) ≡ turns - (left - made) = omega arith in
-    counted_up-more made (turns - left) old mid new p q ∙ ap (λ i. counted_up i old) same
-
--- at most 512 bytes a read, of further reads too
-asked-more : (before n made : ℕ) (xs ys : List ℕ) → made ≡ before + n → length xs ≤ longest_read * before → length ys ≤ longest_read * n → length (xs ++ ys) ≤ longest_read * made
-asked-more before n made xs ys same few more = omega (arith, length-append xs ys)
 
 -- ---- bytes of one piece
 
@@ -121,35 +112,58 @@ TakesBytes-none Took before held x none h = record {
 
 -- ---- reads
 
--- the bytes that the reads so far gave, and the lines taken of them
-pub record GivenSoFar {X E : Type 0} (Took : X → List Cut → Result (Unit {0}) E → X → Type 0) (bytes_old bytes_now : Bytes) (made : ℕ) (held : Cut) (x y : X) : Type 0 where
+-- what the reads so far gave, the lines taken of it, and whether the last of them found the end
+pub record GivenSoFar {X E : Type 0} (Took : X → List Cut → Result (Unit {0}) E → X → Type 0) (old now : SourceState) (made : ℕ) (is_over : Bool) (held : Cut) (x y : X) : Type 0 where
   pub given : List ℕ
-  pub bytes : Gives bytes_old bytes_now given
+  pub bytes : Gives old now given
   pub asked : length given ≤ longest_read * made
+  pub reads : now.reads ≡ counted_up made old.reads
+  pub ends : now.ends ≡ counted (not is_over) old.ends
+  pub over : is_over ≡ true → IsAtEnd now.left
+  pub failures : now.failures ≡ old.failures
   pub taken : TakesBytes Took [] given held x y (Ok tt)
 
-pub GivenSoFar-none : {X E : Type 0} (Took : X → List Cut → Result (Unit {0}) E → X → Type 0) (bytes : Bytes) (made : ℕ) (held : Cut) (x : X) → Took x [] (Ok tt) x → held ≡ pending [] → GivenSoFar Took bytes bytes made held x x
-GivenSoFar-none Took bytes made held x none h = record { given = []; bytes = Gives-nil bytes; asked = omega arith; taken = TakesBytes-none Took [] held x none h }
+pub GivenSoFar-none : {X E : Type 0} (Took : X → List Cut → Result (Unit {0}) E → X → Type 0) (old : SourceState) (made : ℕ) (held : Cut) (x : X) → 0 ≡ made → Took x [] (Ok tt) x → held ≡ pending [] → GivenSoFar Took old old made false held x x
+GivenSoFar-none Took old made held x first none h = record {
+  given = [];
+  bytes = Gives-nil old;
+  asked = omega arith;
+  reads = ap (λ i. counted_up i old.reads) first;
+  ends = refl;
+  over = λ e. cc;
+  failures = refl;
+  taken = TakesBytes-none Took [] held x none h;
+}
 
 module _ {X E : Type 0} (Took : X → List Cut → Result (Unit {0}) E → X → Type 0)
     (joined : (x y z : X) (cs ds : List Cut) (r : Result (Unit {0}) E) → Took x cs (Ok tt) y → Took y ds r z → Took x (cs ++ ds) r z)
-    (old mid new : Drawn) (before : ℕ) (held : Cut) (x y : X) (so_far : GivenSoFar Took old.bytes mid.bytes before held x y) where
+    {old mid : SourceState} {before : ℕ} {is_over : Bool} {held : Cut} {x y : X} (so_far : GivenSoFar Took old mid before is_over held x y) where
   taken_so_far : ended_cuts so_far.given ≡ so_far.taken.lines
   taken_so_far = so_far.taken.ended ∙ ap (λ ls. so_far.taken.lines ++ ls) so_far.taken.all_taken.0 ∙ append-nil so_far.taken.lines
 
   all_lines : cuts so_far.given ≡ so_far.taken.lines ++ map cut (last_line (pieces so_far.given).rest)
   all_lines = cuts-ended so_far.given ∙ ap (λ ls. ls ++ map cut (last_line (pieces so_far.given).rest)) taken_so_far
 
-  -- the lines taken of the next piece, and of all
-  module _ (piece : List ℕ) (n made : ℕ) (held_now : Cut) (z : X) (read : Gives mid.bytes new.bytes piece) (asked : length piece ≤ longest_read * n) (all_made : made ≡ before + n) where
-    with_piece : (r : Result (Unit {0}) E) (more : TakesBytes Took so_far.given piece held_now y z r) → ended_cuts (so_far.given ++ piece) ≡ (so_far.taken.lines ++ more.lines) ++ more.left_out
+  -- no end was found yet: the lines taken of the next piece, and of all
+  module _ {new : SourceState} {left n made : ℕ} {piece : List ℕ} {ends_now : Bool} (not_yet : is_over ≡ false) (read : Gathers mid new left piece n ends_now) (all_made : made ≡ before + n) where
+    with_piece : {held_now : Cut} {z : X} (r : Result (Unit {0}) E) (more : TakesBytes Took so_far.given piece held_now y z r) → ended_cuts (so_far.given ++ piece) ≡ (so_far.taken.lines ++ more.lines) ++ more.left_out
     with_piece r more = more.ended ∙ ap (λ ls. ls ++ (more.lines ++ more.left_out)) taken_so_far ∙ sym (append_assoc so_far.taken.lines more.lines more.left_out)
 
-    pub GivenSoFar-piece : TakesBytes Took so_far.given piece held_now y z (Ok tt) → GivenSoFar Took old.bytes new.bytes made held_now x z
-    GivenSoFar-piece more = record {
+    all_asked : length (so_far.given ++ piece) ≤ longest_read * made
+    all_asked = omega (arith, length-append so_far.given piece, so_far.asked, read.asked)
+
+    all_reads : new.reads ≡ counted_up made old.reads
+    all_reads = counted_up-more n before old.reads mid.reads new.reads so_far.reads read.reads ∙ ap (λ i. counted_up i old.reads) (omega arith)
+
+    pub GivenSoFar-piece : {held_now : Cut} {z : X} → TakesBytes Took so_far.given piece held_now y z (Ok tt) → GivenSoFar Took old new made ends_now held_now x z
+    GivenSoFar-piece {held_now} {z} more = record {
       given = so_far.given ++ piece;
-      bytes = Gives-trans old.bytes mid.bytes new.bytes so_far.given piece so_far.bytes read;
-      asked = asked-more before n made so_far.given piece all_made so_far.asked asked;
+      bytes = Gives-trans old mid new so_far.given piece so_far.bytes read.given;
+      asked = all_asked;
+      reads = all_reads;
+      ends = read.ends ∙ ap (λ i. counted (not ends_now) i) (so_far.ends ∙ ap (λ b. counted (not b) old.ends) not_yet);
+      over = read.over;
+      failures = read.failures ∙ so_far.failures;
       taken = record {
         lines = so_far.taken.lines ++ more.lines;
         left_out = more.left_out;
@@ -160,9 +174,8 @@ module _ {X E : Type 0} (Took : X → List Cut → Result (Unit {0}) E → X →
     }
 
     -- a line of the piece stopped the call
-    pub Taken-stop : (turns : ℕ) (stop : E) → made ≤ turns → new.reads ≡ counted_up made old.reads → new.failures ≡ mid.failures → mid.failures ≡ old.failures → TakesBytes Took so_far.given piece held_now y z (Err stop)
-        → Taken Took old new turns LineStopped x z (Err stop)
-    Taken-stop turns stop within reads lost same_lost more =
+    pub Taken-stop : {held_now : Cut} {z : X} (turns : ℕ) (stop : E) → made ≤ turns → TakesBytes Took so_far.given piece held_now y z (Err stop) → Taken Took old new turns LineStopped x z (Err stop)
+    Taken-stop {held_now} {z} turns stop within more =
         let given : List ℕ = so_far.given ++ piece in
         let others : List Cut = map cut (last_line (pieces given).rest) in
         record {
@@ -170,83 +183,64 @@ module _ {X E : Type 0} (Took : X → List Cut → Result (Unit {0}) E → X →
           draws = record {
             given = given;
             left_out = more.left_out ++ others;
-            bytes = Gives-trans old.bytes mid.bytes new.bytes so_far.given piece so_far.bytes read;
+            bytes = Gives-trans old mid new so_far.given piece so_far.bytes read.given;
             front = cuts-ended given ∙ ap (λ ls. ls ++ others) (with_piece (Err stop) more) ∙ append_assoc (so_far.taken.lines ++ more.lines) more.left_out others;
             ends = tt;
-            failures = lost ∙ same_lost;
-            reads = (made, within, reads, asked-more before n made so_far.given piece all_made so_far.asked asked);
+            failures = read.failures ∙ so_far.failures;
+            reads = (made, within, all_reads, all_asked);
           };
           took = joined x y z so_far.taken.lines more.lines (Err stop) so_far.taken.took more.took;
         }
 
   -- a read failed
-  pub Taken-read : (made turns : ℕ) → before ≤ made → GivesNone mid.bytes new.bytes → made ≤ turns → new.reads ≡ counted_up made old.reads → new.ends ≡ mid.ends → mid.ends ≡ old.ends → new.failures ≡ one_more mid.failures → mid.failures ≡ old.failures
-      → Taken Took old new turns ReadFailed x y (Ok tt)
-  Taken-read made turns more kept within reads ends same_ends lost same_lost = record {
+  pub Taken-read : {new : SourceState} (turns : ℕ) → is_over ≡ false → FailsOnce mid new → before < turns → Taken Took old new turns ReadFailed x y (Ok tt)
+  Taken-read {new} turns not_yet failed within = record {
     lines = so_far.taken.lines;
     draws = record {
       given = so_far.given;
       left_out = map cut (last_line (pieces so_far.given).rest);
-      bytes = Gives-kept old.bytes mid.bytes new.bytes so_far.given so_far.bytes kept;
+      bytes = Gives-kept old mid new so_far.given so_far.bytes failed.given;
       front = all_lines;
-      ends = (sym taken_so_far, ends ∙ same_ends);
-      failures = lost ∙ ap (λ n. one_more n) same_lost;
-      reads = (made, within, reads, omega (arith, more, so_far.asked));
+      ends = (sym taken_so_far, failed.ends ∙ so_far.ends ∙ ap (λ b. counted (not b) old.ends) not_yet);
+      failures = failed.failures ∙ ap (λ n. one_more n) so_far.failures;
+      reads = (suc before, omega arith, failed.reads ∙ ap (λ n. one_more n) so_far.reads, omega (arith, so_far.asked));
     };
     took = so_far.taken.took;
   }
 
--- the end was found, and a last line may stop the call
-module _ {X E : Type 0} (Took : X → List Cut → Result (Unit {0}) E → X → Type 0)
-    (joined : (x y z : X) (cs ds : List Cut) (r : Result (Unit {0}) E) → Took x cs (Ok tt) y → Took y ds r z → Took x (cs ++ ds) r z)
-    (old now : Drawn) (made : ℕ) (held : Cut) (x y : X) (so_far : GivenSoFar Took old.bytes now.bytes made held x y) where
-  Taken-over : (ending : Ending) (r : Result (Unit {0}) E) (turns : ℕ) (z : X) → is_read_failed ending ≡ false → made ≤ turns → now.reads ≡ counted_up made old.reads → now.failures ≡ old.failures
-      → (last : TakesLast Took so_far.given y z r) → EndsAs so_far.given (so_far.taken.lines ++ last.lines) [] turns old now ending → Taken Took old now turns ending x z r
-  Taken-over ending r turns z read_well within reads lost last ends = record {
+  -- all turns were used
+  pub Taken-turns : (turns : ℕ) → is_over ≡ false → before ≡ turns → Taken Took old mid turns TurnsOver x y (Ok tt)
+  Taken-turns turns not_yet over = record {
+    lines = so_far.taken.lines;
+    draws = record {
+      given = so_far.given;
+      left_out = map cut (last_line (pieces so_far.given).rest);
+      bytes = so_far.bytes;
+      front = all_lines;
+      ends = (sym taken_so_far, so_far.ends ∙ ap (λ b. counted (not b) old.ends) not_yet, so_far.reads ∙ ap (λ n. counted_up n old.reads) over);
+      failures = so_far.failures;
+      reads = (before, omega arith, so_far.reads, so_far.asked);
+    };
+    took = so_far.taken.took;
+  }
+
+  -- the end was found, and a last line may stop the call
+  Taken-over : (ending : Ending) (r : Result (Unit {0}) E) (turns : ℕ) (z : X) → is_read_failed ending ≡ false → before ≤ turns
+      → (last : TakesLast Took so_far.given y z r) → EndsAs so_far.given (so_far.taken.lines ++ last.lines) [] turns old mid ending → Taken Took old mid turns ending x z r
+  Taken-over ending r turns z read_well within last ends = record {
     lines = so_far.taken.lines ++ last.lines;
     draws = record {
       given = so_far.given;
       left_out = [];
       bytes = so_far.bytes;
-      front = last.all_told ∙ ap (λ ls. ls ++ last.lines) (so_far.taken.ended ∙ ap (λ ls. so_far.taken.lines ++ ls) so_far.taken.all_taken.0 ∙ append-nil so_far.taken.lines) ∙ sym (append-nil _);
+      front = last.all_told ∙ ap (λ ls. ls ++ last.lines) taken_so_far ∙ sym (append-nil _);
       ends = ends;
-      failures = rw read_well lost;
-      reads = (made, within, reads, so_far.asked);
+      failures = rw read_well so_far.failures;
+      reads = (before, within, so_far.reads, so_far.asked);
     };
     took = joined x y z so_far.taken.lines last.lines r so_far.taken.took last.took;
   }
 
-  pub Taken-close : (stopped : Result (Unit {0}) E) (turns : ℕ) (z : X) → made ≤ turns → now.reads ≡ counted_up made old.reads → now.ends ≡ one_more old.ends → now.failures ≡ old.failures
-      → IsAtEnd now.bytes.left → TakesLast Took so_far.given y z stopped → Taken Took old now turns (ending_as (ended_by stopped)) x z (stopped_as (ended_by stopped))
-  Taken-close (Ok done) turns z within reads ends lost over last = Taken-over AtEnd (Ok tt) turns z refl within reads lost last (refl, ends, over)
-  Taken-close (Err stop) turns z within reads ends lost over last = Taken-over LineStopped (Err stop) turns z refl within reads lost last tt
-
--- the end was found after a piece, and a last line may stop the call
-module _ {X E : Type 0} (Took : X → List Cut → Result (Unit {0}) E → X → Type 0)
-    (joined : (x y z : X) (cs ds : List Cut) (r : Result (Unit {0}) E) → Took x cs (Ok tt) y → Took y ds r z → Took x (cs ++ ds) r z)
-    (old mid new : Drawn) (before : ℕ) (held : Cut) (x y : X) (so_far : GivenSoFar Took old.bytes mid.bytes before held x y)
-    (piece : List ℕ) (n made : ℕ) (held_now : Cut) (z : X) (read : Gives mid.bytes new.bytes piece) (asked : length piece ≤ longest_read * n) (all_made : made ≡ before + n) (more : TakesBytes Took so_far.given piece held_now y z (Ok tt)) where
-  pub Taken-end : (stopped : Result (Unit {0}) E) (turns : ℕ) (w : X) → made ≤ turns → new.reads ≡ counted_up made old.reads → new.ends ≡ one_more old.ends → new.failures ≡ old.failures
-      → IsAtEnd new.bytes.left → ((before : List ℕ) → held_now ≡ pending before → TakesLast Took before z w stopped) → Taken Took old new turns (ending_as (ended_by stopped)) x w (stopped_as (ended_by stopped))
-  Taken-end stopped turns w within reads ends lost over last =
-      let all : GivenSoFar Took old.bytes new.bytes made held_now x z = GivenSoFar-piece Took joined old mid new before held x y so_far piece n made held_now z read asked all_made more in
-      Taken-close Took joined old new made held_now x z all stopped turns w within reads ends lost over (last all.given all.taken.all_taken.1)
-
--- all turns were used
-pub Taken-turns : {X E : Type 0} (Took : X → List Cut → Result (Unit {0}) E → X → Type 0) (old now : Drawn) (turn : ℕ) (held : Cut) (x y : X) → GivenSoFar Took old.bytes now.bytes turn held x y
-    → (turns : ℕ) → turn ≡ turns → now.reads ≡ counted_up turn old.reads → now.ends ≡ old.ends → now.failures ≡ old.failures → Taken Took old now turns TurnsOver x y (Ok tt)
-Taken-turns Took old now turn held x y so_far turns over reads ends lost =
-    let all = so_far.taken.ended ∙ ap (λ ls. so_far.taken.lines ++ ls) so_far.taken.all_taken.0 ∙ append-nil so_far.taken.lines in
-    record {
-      lines = so_far.taken.lines;
-      draws = record {
-        given = so_far.given;
-        left_out = map cut (last_line (pieces so_far.given).rest);
-        bytes = so_far.bytes;
-        front = cuts-ended so_far.given ∙ ap (λ ls. ls ++ map cut (last_line (pieces so_far.given).rest)) all;
-        ends = (sym all, ends, subst (λ (n : ℕ). now.reads ≡ counted_up n old.reads) over reads);
-        failures = lost;
-        reads = (turn, omega arith, reads, so_far.asked);
-      };
-      took = so_far.taken.took;
-    }
+  pub Taken-end : (stopped : Result (Unit {0}) E) (turns : ℕ) (z : X) → is_over ≡ true → before ≤ turns → TakesLast Took so_far.given y z stopped → Taken Took old mid turns (ending_as (ended_by stopped)) x z (stopped_as (ended_by stopped))
+  Taken-end (Ok done) turns z found within last = Taken-over AtEnd (Ok tt) turns z refl within last (refl, so_far.ends ∙ ap (λ b. counted (not b) old.ends) found, so_far.over found)
+  Taken-end (Err stop) turns z found within last = Taken-over LineStopped (Err stop) turns z refl within last tt

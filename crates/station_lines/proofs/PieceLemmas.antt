@@ -1,5 +1,5 @@
 -- The bytes of several reads.
-use Rattle.std.proofs.Common.{◌≡◌, ℕ, ◌+◌, ◌*◌, ◌<◌, ◌≤◌, Bool, true, false, not, nat_lt, nat_eq, cond, List, [], ◌++◌, length, take, drop, Option, Some, None, Ok, refl, sym, ap, ◌∙◌, subst, take-append-drop, length-append, arith}
+use Rattle.std.proofs.Common.{◌≡◌, ℕ, ◌+◌, ◌<◌, ◌≤◌, Bool, true, false, not, nat_lt, nat_eq, cond, List, [], ◌++◌, length, take, drop, Option, Some, None, Ok, refl, sym, ap, ◌∙◌, subst, take-append-drop, length-append, arith}
 use Rattle.std.proofs.lemmas.Bool.Decides.{nat_tests}
 use Rattle.std.proofs.lemmas.List.{take_at, drop_at, take-append-le, length-take-le}
 use Rattle.std.specs.Io.KnownBytes.{Consumes, prepend_known}
@@ -7,8 +7,8 @@ use Rattle.std.specs.Io.BufRead.{DropsConsumable}
 use borrow.Rule.Slice.PartMut.{put_mid, post_of}
 use lib.Seq.{take-add}
 use Rattle.station_report.specs.Sink.{counted}
-use Rattle.station_lines.specs.Source.{is_end, counted_up, longest_read}
-use Rattle.station_lines.specs.Drawing.{Gives, Drawn, Gathers, ReadsMore}
+use Rattle.station_lines.specs.Source.{SourceState, is_end, counted_up}
+use Rattle.station_lines.specs.Drawing.{Gives, Gathers, ReadsMore}
 use Rattle.station_lines.proofs.DrawingLemmas.{Gives-trans, counted_up-more}
 
 -- the front of a list, once the part behind it was written
@@ -32,9 +32,9 @@ held_first false xs (Some ys) new n got within is drops =
     rw (drops within, is) (sym (take-append-drop n (xs ++ ys)) ∙ ap (λ l. l ++ drop n (xs ++ ys)) (take-append-le n xs ys within))
 
 -- one more read, after one that gave some bytes
-pub Gathers-more : (old mid new : Drawn) (turns made k n : ℕ) (bytes after : List ℕ) → Gathers old mid turns bytes made (nat_eq k 0) → 0 < k → made < turns → ReadsMore mid new bytes after n → Gathers old new turns after (made + 1) (nat_eq n 0)
+pub Gathers-more : (old mid new : SourceState) (turns made k n : ℕ) (bytes after : List ℕ) → Gathers old mid turns bytes made (nat_eq k 0) → 0 < k → made < turns → ReadsMore mid new bytes after n → Gathers old new turns after (made + 1) (nat_eq n 0)
 Gathers-more old mid new turns made k n bytes after so_far some few more = record {
-  given = subst (Gives old.bytes new.bytes) (sym more.held) (Gives-trans old.bytes mid.bytes new.bytes bytes more.bytes so_far.given more.given);
+  given = subst (Gives old new) (sym more.held) (Gives-trans old mid new bytes more.bytes so_far.given more.given);
   some = omega arith;
   few = omega arith;
   reads = counted_up-more 1 made old.reads mid.reads new.reads so_far.reads more.reads ∙ ap (λ i. counted_up i old.reads) (omega arith);
@@ -51,9 +51,9 @@ Gathers-more old mid new turns made k n bytes after so_far some few more = recor
     found = grind (arith, nat_tests)
 
 -- the first read
-pub Gathers-first : (old new : Drawn) (turns n : ℕ) (after : List ℕ) → 0 < turns → ReadsMore old new [] after n → Gathers old new turns after 1 (nat_eq n 0)
+pub Gathers-first : (old new : SourceState) (turns n : ℕ) (after : List ℕ) → 0 < turns → ReadsMore old new [] after n → Gathers old new turns after 1 (nat_eq n 0)
 Gathers-first old new turns n after few more = record {
-  given = subst (Gives old.bytes new.bytes) (sym more.held) more.given;
+  given = subst (Gives old new) (sym more.held) more.given;
   some = omega arith;
   few = omega arith;
   reads = more.reads;

@@ -13,9 +13,10 @@ use Rattle.station_journal.specs.declared.refusal.Refusal.TheVariants.{Unsupport
 use Rattle.station_lines.specs.Calls.{heard, heard_line}
 use Rattle.station_lines.specs.Command.{of_line}
 use Rattle.station_lines.specs.Counting.{Counts, is_tick, is_show}
-use Rattle.station_lines.specs.Drawing.{Drawn, Taken, ending_as, stopped_as}
+use Rattle.station_lines.specs.Drawing.{Taken, ending_as, stopped_as}
 use Rattle.station_lines.specs.Feeds.{is_reply}
 use Rattle.station_lines.specs.Pump.{Wants, Pumping, Pumps, PumpsFrame, PumpsAll, answer_of, tally_of_pump, want_of, ending_of}
+use Rattle.station_lines.specs.Source.{SourceState}
 use Rattle.station_lines.specs.declared.command.Command.TheVariants.{Line as Received}
 use Rattle.station_lines.specs.declared.pumping.PumpFault.{PumpFault}
 use Rattle.station_lines.specs.declared.pumping.PumpFault.TheVariants as Faults
@@ -90,7 +91,7 @@ none_by p none (c ∷ cs) = let here = none c in rw here (none_by p none cs)
 
 -- ---- the ends of a pump
 
-module _ {F : Type 0} (gives : F → List ℕ → Result (Unit {0}) Refusal → F → Type 0) {x z : Pumping F} {old new : Drawn} {turns : ℕ} (empty : x.tally.lines ≡ 0) where
+module _ {F : Type 0} (gives : F → List ℕ → Result (Unit {0}) Refusal → F → Type 0) {x z : Pumping F} {old new : SourceState} {turns : ℕ} (empty : x.tally.lines ≡ 0) where
   -- what a pump has done once all lines were taken, by its answer
   PumpsAll-taken : (result : Result Tally PumpFault) → tally_of_pump result ≡ z.tally → Taken (Pumps gives) old new turns (ending_of result) x z (want_of result) → PumpsAll gives x.feed z.feed old new turns result
   PumpsAll-taken result told all =

@@ -1,66 +1,47 @@
 -- The lines that a call takes of what its source gives.
-use Rattle.std.specs.Prelude.{◌≡◌, ℕ, ◌*◌, ◌<◌, ◌≤◌, Bool, true, false, not, nat_lt, List, length, [], ◌++◌, Option, Result, Ok, Err, OnOk}
+use Rattle.std.specs.Prelude.{◌≡◌, ℕ, ◌*◌, ◌<◌, ◌≤◌, Bool, true, false, not, nat_lt, List, length, [], ◌++◌, Result, Ok, Err, OnOk}
 use Rattle.std.specs.Io.KnownBytes.{Appends, Consumes, Keeps, IsAtEnd}
 use Rattle.modes_frame.specs.declared.cutter.Cut.{Cut}
 use Rattle.modes_frame.specs.Lines.{cuts, ended_cuts, pending}
 use Rattle.station_report.specs.Sink.{counted}
-use Rattle.station_lines.specs.Source.{one_more, counted_up, longest_read}
+use Rattle.station_lines.specs.Source.{SourceState, one_more, counted_up, longest_read}
 use Rattle.station_lines.specs.declared.taking.Ended.{Ended}
 use Rattle.station_lines.specs.declared.taking.Ended.TheVariants as Ends
 
--- the bytes that a source has left, where they are known, and those that it gave, where it reports them
-pub record Bytes : Type 0 where
-  pub left : Option (List ℕ)
-  pub given : Option (List ℕ)
-
-abbrev pub bytes_of : {S : Type 0} → (S → Option (List ℕ)) → (S → Option (List ℕ)) → S → Bytes
-bytes_of left given source = record { left = left source; given = given source }
-
 -- it gave these bytes
-abbrev pub Gives : Bytes → Bytes → List ℕ → Type 0
+abbrev pub Gives : SourceState → SourceState → List ℕ → Type 0
 Gives old new bytes = Consumes old.left new.left bytes × Appends old.given new.given bytes
 
 -- it gave none
-abbrev pub GivesNone : Bytes → Bytes → Type 0
+abbrev pub GivesNone : SourceState → SourceState → Type 0
 GivesNone old new = Keeps old.left new.left × Keeps old.given new.given
 
--- the bytes of a source, and what it has counted
-pub record Drawn : Type 0 where
-  pub bytes : Bytes
-  pub reads : ℕ
-  pub ends : ℕ
-  pub failures : ℕ
-
--- a source as its trait shows it
-abbrev pub drawn_of : {S : Type 0} → (S → Option (List ℕ)) → (S → Option (List ℕ)) → (S → ℕ) → (S → ℕ) → (S → ℕ) → S → Drawn
-drawn_of left given reads ends failures source = record { bytes = bytes_of left given source; reads = reads source; ends = ends source; failures = failures source }
-
 -- reads made one after another gave these bytes, at most 512 each, and the last of them may have found the end
-pub record Gathers (old new : Drawn) (turns : ℕ) (bytes : List ℕ) (made : ℕ) (is_over : Bool) : Type 0 where
-  pub given : Gives old.bytes new.bytes bytes
+pub record Gathers (old new : SourceState) (turns : ℕ) (bytes : List ℕ) (made : ℕ) (is_over : Bool) : Type 0 where
+  pub given : Gives old new bytes
   pub some : 0 < made
   pub few : made ≤ turns
   pub reads : new.reads ≡ counted_up made old.reads
   pub ends : new.ends ≡ counted (not is_over) old.ends
-  pub over : is_over ≡ true → IsAtEnd new.bytes.left
+  pub over : is_over ≡ true → IsAtEnd new.left
   pub failures : new.failures ≡ old.failures
   pub asked : length bytes ≤ longest_read * made
 
 -- a read of at most 512 bytes gave n, which follow those before it
-pub record ReadsMore (old new : Drawn) (before after : List ℕ) (n : ℕ) : Type 0 where
+pub record ReadsMore (old new : SourceState) (before after : List ℕ) (n : ℕ) : Type 0 where
   pub bytes : List ℕ
   pub held : after ≡ before ++ bytes
   pub many : length bytes ≡ n
-  pub given : Gives old.bytes new.bytes bytes
+  pub given : Gives old new bytes
   pub reads : new.reads ≡ one_more old.reads
   pub ends : new.ends ≡ counted (nat_lt 0 n) old.ends
-  pub over : n ≡ 0 → IsAtEnd new.bytes.left
+  pub over : n ≡ 0 → IsAtEnd new.left
   pub failures : new.failures ≡ old.failures
   pub asked : n ≤ longest_read
 
 -- a read gave nothing and failed
-pub record FailsOnce (old new : Drawn) : Type 0 where
-  pub given : GivesNone old.bytes new.bytes
+pub record FailsOnce (old new : SourceState) : Type 0 where
+  pub given : GivesNone old new
   pub reads : new.reads ≡ one_more old.reads
   pub ends : new.ends ≡ old.ends
   pub failures : new.failures ≡ one_more old.failures
@@ -73,8 +54,8 @@ pub data Ending : Type 0 where
   LineStopped : Ending
 
 -- the lines taken of those in the bytes given, and what the source counted, by the reason
-abbrev pub EndsAs : List ℕ → List Cut → List Cut → ℕ → Drawn → Drawn → Ending → Type 0
-EndsAs given lines left_out turns old new AtEnd = (left_out ≡ []) × (new.ends ≡ one_more old.ends) × IsAtEnd new.bytes.left
+abbrev pub EndsAs : List ℕ → List Cut → List Cut → ℕ → SourceState → SourceState → Ending → Type 0
+EndsAs given lines left_out turns old new AtEnd = (left_out ≡ []) × (new.ends ≡ one_more old.ends) × IsAtEnd new.left
 EndsAs given lines left_out turns old new ReadFailed = (lines ≡ ended_cuts given) × (new.ends ≡ old.ends)
 EndsAs given lines left_out turns old new TurnsOver =
     (lines ≡ ended_cuts given) × (new.ends ≡ old.ends) × (new.reads ≡ counted_up turns old.reads)
@@ -88,10 +69,10 @@ is_read_failed TurnsOver = false
 is_read_failed LineStopped = false
 
 -- the bytes that the reads of a call gave, and the lines taken of them: a prefix of all lines
-pub record Draws (old new : Drawn) (turns : ℕ) (ending : Ending) (lines : List Cut) : Type 0 where
+pub record Draws (old new : SourceState) (turns : ℕ) (ending : Ending) (lines : List Cut) : Type 0 where
   pub given : List ℕ
   pub left_out : List Cut
-  pub bytes : Gives old.bytes new.bytes given
+  pub bytes : Gives old new given
   pub front : cuts given ≡ lines ++ left_out
   pub ends : EndsAs given lines left_out turns old new ending
   -- a read failed exactly where that ended the call. At most `turns` reads were made, of at most 512 bytes each
@@ -113,7 +94,7 @@ pub record TakesLast {X E : Type 0} (Took : X → List Cut → Result (Unit {0})
   pub took : Took x lines result y
 
 -- all lines that a call took, as Took says, of the bytes that its source gave
-pub record Taken {X E : Type 0} (Took : X → List Cut → Result (Unit {0}) E → X → Type 0) (old new : Drawn) (turns : ℕ) (ending : Ending) (x z : X) (result : Result (Unit {0}) E) : Type 0 where
+pub record Taken {X E : Type 0} (Took : X → List Cut → Result (Unit {0}) E → X → Type 0) (old new : SourceState) (turns : ℕ) (ending : Ending) (x z : X) (result : Result (Unit {0}) E) : Type 0 where
   pub lines : List Cut
   pub draws : Draws old new turns ending lines
   pub took : Took x lines result z

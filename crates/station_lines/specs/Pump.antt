@@ -8,8 +8,9 @@ use Rattle.station_journal.specs.declared.refusal.Refusal.{Refusal}
 use Rattle.station_journal.specs.declared.refusal.Refusal.TheVariants.{NoMemory}
 use Rattle.station_lines.specs.Calls.{heard, frames_of}
 use Rattle.station_lines.specs.Counting.{CountsCall, CountsLines, Counts}
-use Rattle.station_lines.specs.Drawing.{Drawn, Ending, AtEnd, ReadFailed, TurnsOver, LineStopped, Draws}
+use Rattle.station_lines.specs.Drawing.{Ending, AtEnd, ReadFailed, TurnsOver, LineStopped, Draws}
 use Rattle.station_lines.specs.Feeds.{Feeds, is_reply}
+use Rattle.station_lines.specs.Source.{SourceState}
 use Rattle.station_lines.specs.declared.command.Command.TheVariants.{Line as Received}
 use Rattle.station_lines.specs.declared.pumping.PumpFault.{PumpFault}
 use Rattle.station_lines.specs.declared.pumping.PumpFault.TheVariants as Faults
@@ -89,7 +90,7 @@ ending_of (Err (Faults.NoMemory tally)) = LineStopped
 
 -- lines were taken of what the source gave, up to its end or the fault. The feed took their frames step by step,
 -- and the tally counts the lines
-pub record PumpsAll {F : Type 0} (gives : F → List ℕ → Result (Unit {0}) Refusal → F → Type 0) (before after : F) (source_old source_new : Drawn) (turns : ℕ) (result : Result Tally PumpFault) : Type 0 where
+pub record PumpsAll {F : Type 0} (gives : F → List ℕ → Result (Unit {0}) Refusal → F → Type 0) (before after : F) (source_old source_new : SourceState) (turns : ℕ) (result : Result Tally PumpFault) : Type 0 where
   pub lines : List Cut
   pub answers : List (Result (Unit {0}) Refusal)
   pub draws : Draws source_old source_new turns (ending_of result) lines

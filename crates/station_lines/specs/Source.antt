@@ -1,6 +1,20 @@
--- What a source counts.
-use Rattle.std.specs.Prelude.{ℕ, zero, suc, ◌==◌, ◌&&◌, not, Bool, false, Result, Ok, Err}
+-- What a source reports.
+use Rattle.std.specs.Prelude.{ℕ, zero, suc, ◌==◌, ◌&&◌, not, Bool, false, List, Option, Result, Ok, Err}
 use Rattle.station_report.specs.Sink.{counted}
+
+-- what a source has left and has given
+pub record SourceState : Type 0 where
+  -- the bytes still to come, where they are known
+  pub left : Option (List ℕ)
+  -- the bytes given so far, where the source reports them
+  pub given : Option (List ℕ)
+  -- the reads so far, those of them that found the end, and those that failed, each up to 2^64 - 1. A read finds the
+  -- end where it gives no byte into a buffer with room
+  pub reads : ℕ
+  pub ends : ℕ
+  pub failures : ℕ
+  -- the next read can't fail
+  pub at_hand : Bool
 
 -- a read into a buffer with room that gave no byte found the end
 abbrev pub is_end : {E : Type 0} → Result ℕ E → ℕ → Bool

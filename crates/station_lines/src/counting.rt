@@ -12,11 +12,8 @@ impl Tally {
     {
         self.lines += 1;
         self.frames += 1;
-        if is_accepted {
-            self.accepted += 1;
-        } else {
-            self.refused += 1;
-        }
+        self.accepted += u64::from(is_accepted);
+        self.refused += u64::from(!is_accepted);
     }
 
     /// Counts a line with a tick, and the answer to it.
@@ -26,11 +23,8 @@ impl Tally {
     {
         self.lines += 1;
         self.ticks += 1;
-        if is_accepted {
-            self.accepted += 1;
-        } else {
-            self.refused += 1;
-        }
+        self.accepted += u64::from(is_accepted);
+        self.refused += u64::from(!is_accepted);
     }
 
     /// Counts a line that asks for the table.

@@ -4,7 +4,6 @@
 pub mod command;
 mod counting;
 pub mod feed;
-pub mod from_buffer;
 pub mod from_read;
 pub mod piece;
 pub mod pumping;
@@ -14,8 +13,7 @@ pub mod tally;
 
 pub use command::{Command, CommandFault, read_command, read_command_short};
 pub use feed::Feed;
-pub use from_buffer::FromBuffer;
-pub use from_read::FromRead;
+pub use from_read::{FromBuffer, FromRead};
 pub use piece::PIECE;
 pub use pumping::{PumpFault, pump};
 pub use source::Source;

@@ -1,6 +1,6 @@
 //! The bytes of several reads, gathered while they are at hand.
 ghost use Rattle.std.specs.Prelude.{◌≡◌, ◌+◌, ◌<◌, ◌≤◌, ◌++◌, ℕ, List, [], length, IfOk, OnErr, is_ok, true};
-ghost use Rattle.station_lines.specs.Drawing.{FailsOnce, Gathers, ReadsMore, drawn_of};
+ghost use Rattle.station_lines.specs.Drawing.{FailsOnce, Gathers, ReadsMore};
 ghost use Rattle.station_lines.specs.Source.{longest_piece};
 
 use crate::source::Source;
@@ -58,13 +58,9 @@ impl Piece {
     // Reads once, behind the bytes that it has. Answers how many bytes came.
     fn read_more<S: Source>(&mut self, from: &mut S) -> Result<usize, Failed>
         requires room { self.old.count + 512 ≤ longest_piece }
-        ensures ok { IfOk result (λ n. ReadsMore
-            (drawn_of S.left S.given S.reads S.ends S.failures from.old)
-            (drawn_of S.left S.given S.reads S.ends S.failures from.new) (held self.old) (held self.new) n) }
-        ensures err { OnErr result (FailsOnce
-            (drawn_of S.left S.given S.reads S.ends S.failures from.old)
-            (drawn_of S.left S.given S.reads S.ends S.failures from.new)) }
-        ensures at_hand { S.at_hand from.old ≡ true → is_ok result ≡ true }
+        ensures ok { IfOk result (λ n. ReadsMore (S.state from.old) (S.state from.new) (held self.old) (held self.new) n) }
+        ensures err { OnErr result (FailsOnce (S.state from.old) (S.state from.new)) }
+        ensures at_hand { (S.state from.old).at_hand ≡ true → is_ok result ≡ true }
     {
         let held = self.count;
         let count = from.read(&mut self.bytes[held..held + READ])?;
@@ -76,12 +72,9 @@ impl Piece {
     /// Only the first read can wait or fail.
     pub(crate) fn gather<S: Source>(&mut self, from: &mut S, turns: u32) -> Result<Gathered, Failed>
         requires { 0 < turns }
-        ensures ok { IfOk result (λ g. Gathers
-            (drawn_of S.left S.given S.reads S.ends S.failures from.old)
-            (drawn_of S.left S.given S.reads S.ends S.failures from.new) turns (held self.new) g.reads g.is_over) }
-        ensures err { OnErr result (FailsOnce
-            (drawn_of S.left S.given S.reads S.ends S.failures from.old)
-            (drawn_of S.left S.given S.reads S.ends S.failures from.new)) }
+        ensures ok { IfOk result (λ g.
+            Gathers (S.state from.old) (S.state from.new) turns (held self.new) g.reads g.is_over) }
+        ensures err { OnErr result (FailsOnce (S.state from.old) (S.state from.new)) }
     {
         self.count = 0;
         let mut count = self.read_more(from)?;

@@ -1,12 +1,11 @@
 //! What takes lines one after another, and the loops that give it the lines of a source.
 ghost use Rattle.std.specs.Prelude.{◌≡◌, ℕ, ◌+◌, ◌^◌, ◌<◌, ◌≤◌, List, length};
 ghost use Rattle.modes_frame.specs.Lines.{pending};
-ghost use Rattle.station_lines.specs.Drawing.{TakesBytes, TakesLast, Taken, drawn_of, ended_by, ending_as, stopped_as};
+ghost use Rattle.station_lines.specs.Drawing.{TakesBytes, TakesLast, Taken, ended_by, ending_as, stopped_as};
 
 use crate::piece::Piece;
 use crate::source::Source;
 use modes_frame::{Cut, Cutter, Frame, LineReader};
-use std::sync::Wait;
 
 /// Takes lines one after another, and counts them.
 pub trait LineTaker {
@@ -23,12 +22,7 @@ pub trait LineTaker {
     ghost counted: { Self → ℕ };
 
     /// Takes one line.
-    fn take_line<R: Wait>(
-        &mut self,
-        rt: &R,
-        lines: &LineReader,
-        cut: &Cut,
-    ) -> Result<(), Self::Stop>
+    fn take_line(&mut self, lines: &LineReader, cut: &Cut) -> Result<(), Self::Stop>
         requires room { counted self.old + 1 < 2 ^ 64 }
         ensures counted { counted self.new ≤ counted self.old + 1 }
         ensures taken { took self.old (cut.now ∷ []) result self.new };
@@ -49,7 +43,7 @@ pub trait FrameTaker: LineTaker {
     ghost use Rattle.modes_frame.specs.Reading.{reading_of};
 
     /// Takes a line of this frame.
-    fn take_frame<R: Wait>(&mut self, rt: &R, frame: Frame) -> Result<(), Self::Stop>
+    fn take_frame(&mut self, frame: Frame) -> Result<(), Self::Stop>
         requires room { Self.counted self.old + 1 < 2 ^ 64 }
         ensures counted { Self.counted self.new ≤ Self.counted self.old + 1 }
         ensures taken { (line : List ℕ) → reading_of line ≡ Ok (Lines.Frame frame) →
@@ -63,9 +57,8 @@ pub trait PieceTaker: LineTaker {
     ghost use Rattle.station_lines.specs.Drawing.{TakesBytes};
 
     /// Takes the lines that end in `bytes`. The cutter has the bytes of the first that came before these.
-    fn take_piece<R: Wait>(
+    fn take_piece(
         &mut self,
-        rt: &R,
         cutter: &mut Cutter,
         lines: &LineReader,
         bytes: &[u8],
@@ -91,8 +84,7 @@ pub enum Ended<E> {
 }
 
 /// Takes the lines that end in `bytes` one by one, plain ones in place.
-pub fn take_each<T: FrameTaker, R: Wait>(
-    rt: &R,
+pub fn take_each<T: FrameTaker>(
     taker: &mut T,
     cutter: &mut Cutter,
     lines: &LineReader,
@@ -107,13 +99,13 @@ pub fn take_each<T: FrameTaker, R: Wait>(
     while at < bytes.len() {
         if let Some(plain) = cutter.plain_line(lines, &bytes[at..]) {
             at += plain.length;
-            taker.take_frame(rt, plain.frame)?;
+            taker.take_frame(plain.frame)?;
             continue;
         }
         let (taken, cut) = cutter.push_line(&bytes[at..]);
         at += taken;
         match cut {
-            Some(cut) => taker.take_line(rt, lines, &cut)?,
+            Some(cut) => taker.take_line(lines, &cut)?,
             None => {}
         }
     }
@@ -121,8 +113,7 @@ pub fn take_each<T: FrameTaker, R: Wait>(
 }
 
 // Takes a last line without its line feed, unless it is empty.
-fn take_last<T: LineTaker, R: Wait>(
-    rt: &R,
+fn take_last<T: LineTaker>(
     taker: &mut T,
     cutter: &mut Cutter,
     lines: &LineReader,
@@ -132,7 +123,7 @@ fn take_last<T: LineTaker, R: Wait>(
         TakesLast T.took before taker.old taker.new result }
 {
     match cutter.finish() {
-        Some(cut) => taker.take_line(rt, lines, &cut),
+        Some(cut) => taker.take_line(lines, &cut),
         None => Ok(()),
     }
 }
@@ -151,17 +142,14 @@ fn after_the_last<E>(stopped: Result<(), E>) -> Ended<E>
 /// source, whose last line may lack its line feed. Where it ends before that, a line that hasn't ended is dropped.
 ///
 /// The bytes of several reads are one piece where they are at hand.
-pub fn take_lines<T: PieceTaker, S: Source, R: Wait>(
-    rt: &R,
+pub fn take_lines<T: PieceTaker, S: Source>(
     taker: &mut T,
     from: &mut S,
     turns: u32,
 ) -> Ended<T::Stop>
     requires new { T.counted taker.old ≡ 0 }
-    ensures { Taken T.took
-        (drawn_of S.left S.given S.reads S.ends S.failures from.old)
-        (drawn_of S.left S.given S.reads S.ends S.failures from.new)
-        turns (ending_as result) taker.old taker.new (stopped_as result) }
+    ensures { Taken T.took (S.state from.old) (S.state from.new) turns (ending_as result)
+        taker.old taker.new (stopped_as result) }
 {
     let mut cutter = Cutter::new();
     let lines = LineReader::new();
@@ -173,12 +161,12 @@ pub fn take_lines<T: PieceTaker, S: Source, R: Wait>(
             Err(_) => return Ended::ReadFailed,
         };
         left -= read.reads;
-        match taker.take_piece(rt, &mut cutter, &lines, piece.as_slice()) {
+        match taker.take_piece(&mut cutter, &lines, piece.as_slice()) {
             Ok(()) => {}
             Err(stop) => return Ended::Stopped(stop),
         }
         if read.is_over {
-            return after_the_last(take_last(rt, taker, &mut cutter, &lines));
+            return after_the_last(take_last(taker, &mut cutter, &lines));
         }
     }
     Ended::TurnsOver

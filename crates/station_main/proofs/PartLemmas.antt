@@ -1,13 +1,13 @@
 -- Lists whose items are passed one by one from a list.
-use Rattle.std.proofs.Common.{◌≡◌, ◌∙◌, ◌∷◌, ◌++◌, ◌+◌, ℕ, List, [], Option, Some, None, Result, append_assoc, append-nil, arith, ap, get_or, is_some, length, map, refl, suc, true, subst, sym}
+use Rattle.std.proofs.Common.{◌≡◌, ◌∙◌, ◌∷◌, ◌++◌, List, [], Option, Some, Result, append_assoc, append-nil, arith, ap, get_or, is_some, length, map, refl, suc, true, subst, sym}
 use Rattle.std.specs.Prelude.{All}
 use Rattle.station_lines.specs.declared.pumping.PumpFault.{PumpFault}
 use Rattle.station_lines.specs.declared.tally.Tally.{Tally}
 use Rattle.std.proofs.lemmas.List.{map_push}
-use Rattle.station_lines.specs.Drawing.{Drawn}
+use Rattle.station_portions.specs.Giving.{state_of}
+use Rattle.station_lines.specs.Source.{SourceState}
 use Rattle.station_portions.specs.declared.portions.Portions.{Portions}
 use Rattle.station_main.specs.Inputs.{AreFed, IsFedBy, path_of}
-use Rattle.station_main.specs.Run.{drawn_from}
 use Rattle.station_main.specs.Sums.{AddsAll, AddsAnswer}
 use Rattle.station_main.specs.declared.opened.Opened.{Opened}
 
@@ -54,12 +54,12 @@ rest_answered answer items rest w split all k d inside =
 
 -- one more source, of a file whose others are to come
 pub one_more_fed : {R : Type 0} (files : List Opened) (done new : List (Portions R)) (file : Opened) (items rest : List Opened) (input : Portions R) → items ≡ file ∷ rest → new ≡ done ++ input ∷ []
-    → IsFedBy (path_of file) (drawn_from input)
-    → ((later : List Drawn) → AreFed (map path_of items) later → AreFed (map path_of files) (map drawn_from done ++ later))
-    → (later : List Drawn) → AreFed (map path_of rest) later → AreFed (map path_of files) (map drawn_from new ++ later)
+    → IsFedBy (path_of file) (state_of input)
+    → ((later : List SourceState) → AreFed (map path_of items) later → AreFed (map path_of files) (map state_of done ++ later))
+    → (later : List SourceState) → AreFed (map path_of rest) later → AreFed (map path_of files) (map state_of new ++ later)
 one_more_fed files done new file items rest input split pushed fed so_far later later_fed =
-    let here : AreFed (map path_of (file ∷ rest)) (drawn_from input ∷ later) = (fed, later_fed) in
-    let all = so_far (drawn_from input ∷ later) (subst (λ (fs : List Opened). AreFed (map path_of fs) (drawn_from input ∷ later)) (sym split) here) in
-    let parts : map drawn_from new ++ later ≡ map drawn_from done ++ (drawn_from input ∷ later) =
-    ap (λ (l : List (Portions _)). map drawn_from l ++ later) pushed ∙ ap (λ (l : List Drawn). l ++ later) (map_push drawn_from done input) ∙ append_assoc (map drawn_from done) (drawn_from input ∷ []) later in
+    let here : AreFed (map path_of (file ∷ rest)) (state_of input ∷ later) = (fed, later_fed) in
+    let all = so_far (state_of input ∷ later) (subst (λ (fs : List Opened). AreFed (map path_of fs) (state_of input ∷ later)) (sym split) here) in
+    let parts : map state_of new ++ later ≡ map state_of done ++ (state_of input ∷ later) =
+    ap (λ (l : List (Portions _)). map state_of l ++ later) pushed ∙ ap (λ (l : List SourceState). l ++ later) (map_push state_of done input) ∙ append_assoc (map state_of done) (state_of input ∷ []) later in
     subst (AreFed (map path_of files)) (sym parts) all

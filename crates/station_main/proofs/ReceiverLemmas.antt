@@ -1,33 +1,35 @@
 -- The receivers of a round: their answers, and the numbers of all seats.
-use Rattle.std.proofs.Common.{zero, suc, ◌≡◌, ◌∙◌, ℕ, ◌+◌, ◌<◌, ◌≤◌, ◌≢◌, Bool, true, false, cond, eqb, not, nat_lt, ◌⊎◌, inl, inr, ⊎_elim, List, [], ◌∷◌, ◌++◌, Option, Some, None, Result, is_some, length, length-append, map, get_or, refl, sym, ap, subst, arith, rules}
+use Rattle.std.proofs.Common.{zero, suc, ◌≡◌, ◌∙◌, ℕ, ◌+◌, ◌<◌, ◌≤◌, ◌≢◌, Bool, true, false, cond, eqb, not, nat_lt, ◌⊎◌, inl, inr, ⊎_elim, List, [], ◌∷◌, ◌++◌, Option, Some, None, Result, is_some, length, map, get_or, refl, sym, ap, subst, arith, rules}
 use Rattle.std.specs.Prelude.{All, IfSome, count_by, unwrap_or}
 use Rattle.std.specs.List.{AllByRecursion}
 use Rattle.std.proofs.lemmas.Bool.Decides.{eqb_tells, nat_tests}
 use lib.ListN.{get_or-append}
 use Rattle.std.proofs.lemmas.List.{get_or_at, get_or-map, length-map}
 use Rattle.std.proofs.lemmas.List.Sums.{sum_by-cons}
+use Rattle.station_portions.specs.Giving.{state_of}
+use Rattle.station_lines.specs.Source.{SourceState}
+use Rattle.station_report.specs.Sink.{SinkState}
 use native.Mathlib.Decide.{dec_lt}
 use Rattle.station_journal.specs.declared.entry.Entry.{Entry}
 use Rattle.station_desk.specs.Start.{Start}
 use Rattle.station_shared.specs.Closing.{Closes, EachOnce}
-use Rattle.station_shared.specs.Seats.{Seated, Looks, new_seat, new_seats, newcomers}
+use Rattle.station_shared.specs.Seats.{Seated, Looks, new_seat, new_seats, newcomer, newcomers}
 use Rattle.station_shared.specs.Workers.{Works}
 use Rattle.station_portions.specs.declared.portions.Portions.{Portions}
-use Rattle.station_lines.specs.Drawing.{Drawn}
 use Rattle.station_report.specs.declared.formats.Format.{Format}
 use Rattle.station_report.specs.declared.sinks.WriteFault.{WriteFault}
 use Rattle.station_lines.specs.declared.pumping.PumpFault.{PumpFault}
 use Rattle.station_lines.specs.declared.tally.Tally.{Tally}
 use Rattle.station_main.specs.Limits.{most_reads}
-use Rattle.station_main.specs.Output.{Printed}
 use Rattle.station_main.specs.Recorded.{PrintsAndRecords, Recording}
 use Rattle.station_main.specs.Reporter.{IsLater, MayHandOver, ReportsByAClock, Showing, Showings, Ticks, seat_after}
 use Rattle.station_main.specs.Rounds.{Begun, IsServedBy, Serves}
-use Rattle.station_main.specs.Run.{AreNumbered, Closing, HavePumped, HaveWorked, IsClosed, PrintsLast, drawn_from}
+use Rattle.station_main.specs.Run.{AreNumbered, Closing, HavePumped, HaveWorked, IsClosed, PrintsLast}
 use Rattle.station_main.specs.Sums.{AddsAll, AddsEach}
 use Rattle.station_main.specs.declared.duties.Duties.{Duties}
 use Rattle.station_main.specs.declared.schedule.Due.{Due}
 use Rattle.station_main.proofs.RunJobLemmas.{length_new_seats}
+use Rattle.station_main.proofs.RunLemmas.{some_same}
 
 -- ---- elements of lists
 
@@ -66,14 +68,11 @@ answers_of answer (w ∷ ws) all =
     let rest = answers_of answer ws (λ k d inside. all (suc k) d (omega (arith, inside))) in
     (one.0 ∷ rest.0, cc (one.1, rest.1))
 
-some_same : {T : Type 0} (x y : T) → Some x ≡ Some y → x ≡ y
-some_same x y e = cc (e)
-
 module _ {W R : Type 0} (start : Start) (entries : List Entry) (seat : W → Seated) (source : W → Portions R) (answer : W → Option (Result Tally PumpFault)) where
   one_receives : (inputs : List (Portions R)) (old new : List W) (answers : List (Result Tally PumpFault)) → map seat old ≡ newcomers entries (length inputs) → map source old ≡ inputs
       → HaveWorked start seat source answer old new → map answer new ≡ map Some answers
-      → (i : ℕ) (b : Drawn) (s : Seated) (a : Result Tally PumpFault) → i < length inputs
-      → Works start (new_seat entries false i) (get_or (map seat new) i s) (get_or (map drawn_from inputs) i b) (get_or (map drawn_from (map source new)) i b) most_reads (get_or answers i a)
+      → (i : ℕ) (b : SourceState) (s : Seated) (a : Result Tally PumpFault) → i < length inputs
+      → Works start (new_seat entries false i) (get_or (map seat new) i s) (get_or (map state_of inputs) i b) (get_or (map state_of (map source new)) i b) most_reads (get_or answers i a)
   one_receives inputs old new answers seats sources worked answered i b s a inside =
       let many : length old ≡ length inputs = sym (length-map old source) ∙ ap length sources in
       let in_old : i < length old = omega (arith, inside, many) in
@@ -85,29 +84,29 @@ module _ {W R : Type 0} (start : Start) (entries : List Entry) (seat : W → Sea
       let is = get_or new i d in
       let work = worked.each i d in_old in
       let in_sources : i < length (map source new) = omega (arith, in_new, length-map new source) in
-      let before_is : drawn_from (source was) ≡ get_or (map drawn_from inputs) i b =
-      ap drawn_from (sym (get_or-map source old i d (source d) in_old) ∙ ap (λ l. get_or l i (source d)) sources) ∙ sym (get_or-map drawn_from inputs i (source d) b inside) in
-      let after_is : drawn_from (source is) ≡ get_or (map drawn_from (map source new)) i b =
-      ap drawn_from (sym (get_or-map source new i d (source d) in_new)) ∙ sym (get_or-map drawn_from (map source new) i (source d) b in_sources) in
+      let before_is : state_of (source was) ≡ get_or (map state_of inputs) i b =
+      ap state_of (sym (get_or-map source old i d (source d) in_old) ∙ ap (λ l. get_or l i (source d)) sources) ∙ sym (get_or-map state_of inputs i (source d) b inside) in
+      let after_is : state_of (source is) ≡ get_or (map state_of (map source new)) i b =
+      ap state_of (sym (get_or-map source new i d (source d) in_new)) ∙ sym (get_or-map state_of (map source new) i (source d) b in_sources) in
       let old_is : seat was ≡ new_seat entries false i = sym (get_or-map seat old i d (seat d) in_old) ∙ ap (λ l. get_or l i (seat d)) seats ∙ newcomer_at entries (length inputs) i (seat d) inside in
       let new_is : get_or (map seat new) i s ≡ seat is = get_or-map seat new i d s in_new in
       let answer_is : work.result ≡ get_or answers i a =
       some_same _ _ (sym work.answered ∙ sym (get_or-map answer new i d (Some a) in_new) ∙ ap (λ l. get_or l i (Some a)) answered ∙ get_or-map Some answers i a (Some a) in_answers) in
-      subst (λ x. Works start (new_seat entries false i) (get_or (map seat new) i s) x (get_or (map drawn_from (map source new)) i b) most_reads (get_or answers i a)) before_is
-      (subst (λ x. Works start (new_seat entries false i) (get_or (map seat new) i s) (drawn_from (source was)) x most_reads (get_or answers i a)) after_is
-      (subst (λ x. Works start x (get_or (map seat new) i s) (drawn_from (source was)) (drawn_from (source is)) most_reads (get_or answers i a)) old_is
-      (subst (λ x. Works start (seat was) x (drawn_from (source was)) (drawn_from (source is)) most_reads (get_or answers i a)) (sym new_is)
-      (subst (λ x. Works start (seat was) (seat is) (drawn_from (source was)) (drawn_from (source is)) most_reads x) answer_is work.works))))
+      subst (λ x. Works start (new_seat entries false i) (get_or (map seat new) i s) x (get_or (map state_of (map source new)) i b) most_reads (get_or answers i a)) before_is
+      (subst (λ x. Works start (new_seat entries false i) (get_or (map seat new) i s) (state_of (source was)) x most_reads (get_or answers i a)) after_is
+      (subst (λ x. Works start x (get_or (map seat new) i s) (state_of (source was)) (state_of (source is)) most_reads (get_or answers i a)) old_is
+      (subst (λ x. Works start (seat was) x (state_of (source was)) (state_of (source is)) most_reads (get_or answers i a)) (sym new_is)
+      (subst (λ x. Works start (seat was) (seat is) (state_of (source was)) (state_of (source is)) most_reads x) answer_is work.works))))
 
   pub have_pumped : (inputs : List (Portions R)) (old new : List W) (answers : List (Result Tally PumpFault)) → map seat old ≡ newcomers entries (length inputs) → map source old ≡ inputs
       → HaveWorked start seat source answer old new → map answer new ≡ map Some answers
-      → HavePumped start entries (map drawn_from inputs) (map drawn_from (map source new)) (map seat new) answers
+      → HavePumped start entries (map state_of inputs) (map state_of (map source new)) (map seat new) answers
   have_pumped inputs old new answers seats sources worked answered =
       let many : length old ≡ length inputs = sym (length-map old source) ∙ ap length sources in
       let size : length answers ≡ length new = sym (length-map answers Some) ∙ ap length (sym answered) ∙ length-map new answer in
-      let inputs_size = length-map inputs drawn_from in
+      let inputs_size = length-map inputs state_of in
       record {
-        many_sources = length-map (map source new) drawn_from ∙ length-map new source ∙ worked.many ∙ many ∙ sym inputs_size;
+        many_sources = length-map (map source new) state_of ∙ length-map new source ∙ worked.many ∙ many ∙ sym inputs_size;
         many_seats = length-map new seat ∙ worked.many ∙ many ∙ sym inputs_size;
         many_answers = size ∙ worked.many ∙ many ∙ sym inputs_size;
         each = λ i b s a inside. one_receives inputs old new answers seats sources worked answered i b s a (omega (arith, inside, inputs_size));
@@ -124,6 +123,17 @@ module _ {W R : Type 0} (start : Start) (entries : List Entry) (seat : W → Sea
       let work = worked.each i e in_old in
       let old_is : seat (get_or old i e) ≡ new_seat entries false i = sym (get_or-map seat old i e (seat e) in_old) ∙ ap (λ l. get_or l i (seat e)) seats ∙ newcomer_at entries (length inputs) i (seat e) inside in
       ap (λ (s : Seated). s.number) (get_or-map seat new i e d in_new) ∙ work.works.fed.number ∙ ap (λ (s : Seated). s.number) old_is
+
+  -- and so does the reporter's
+  pub are_numbered : (inputs : List (Portions R)) (old new : List W) (n : ℕ) (first last : Seated) → map seat old ≡ newcomers entries (length inputs) → map source old ≡ inputs → HaveWorked start seat source answer old new
+      → n ≡ length inputs + 1 → first ≡ newcomer entries (length inputs) → last.number ≡ first.number → AreNumbered n last (map seat new)
+  are_numbered inputs old new n first last seats sources worked count is same =
+      let many : length (map seat new) ≡ length inputs = length-map new seat ∙ worked.many ∙ sym (length-map old source) ∙ ap length sources in
+      record {
+        many = omega (arith, many, count);
+        last = same ∙ ap (λ (s : Seated). s.number) is ∙ sym many;
+        each = λ i d inside. seats_numbered inputs old new seats sources worked i d (omega (arith, inside, many));
+      }
 
 -- ---- what was counted before is added
 
@@ -169,19 +179,19 @@ hand_over_number : (start : Start) (duties : Duties) (asked_at : Option ℕ) (du
 hand_over_number start duties None due next old new has_failed is = ap (λ (s : Seated). s.number) is.0
 hand_over_number start duties (Some at) due next old new has_failed is = ticks_number start old new at is.ticks
 
-pub reporter_numbered : (start : Start) (duties : Duties) (next : Due) (asked_at : Option ℕ) (old new : Seated) (before after : Printed) (was is : Option Recording) (has_failed : Bool)
+pub reporter_numbered : (start : Start) (duties : Duties) (next : Due) (asked_at : Option ℕ) (old new : Seated) (before after : SinkState) (was is : Option Recording) (has_failed : Bool)
     → ReportsByAClock start duties next asked_at old new before after was is has_failed → new.number ≡ old.number
 reporter_numbered start duties next asked_at old new before after was is has_failed by_clock =
     hand_over_number start duties asked_at by_clock.due next by_clock.mid new has_failed by_clock.hands_over
     ∙ later_number start by_clock.reports.shown by_clock.mid by_clock.reports.later
     ∙ showings_number start old by_clock.reports.shown by_clock.reports.showings by_clock.reports.keeps.walk
 
-pub last_numbered : (format : Format) (start : Start) (old new : Seated) (before : Printed) (after : Option (List ℕ)) (was is : Option Recording) (failed_before has_failed : Bool)
+pub last_numbered : (format : Format) (start : Start) (old new : Seated) (before : SinkState) (after : Option (List ℕ)) (was is : Option Recording) (failed_before has_failed : Bool)
     → PrintsLast format start old new before failed_before after was is has_failed → new.number ≡ old.number
 last_numbered format start old new before after was is true has_failed prints = ap (λ (s : Seated). s.number) prints.0
 last_numbered format start old new before after was is false has_failed prints = printed_number format start old new before prints.sink was is prints.result prints.prints
   where
-    printed_number : (format : Format) (start : Start) (old new : Seated) (before after : Printed) (was is : Option Recording) (result : Result (Unit {0}) WriteFault) → PrintsAndRecords format start old new before after was is result → new.number ≡ old.number
+    printed_number : (format : Format) (start : Start) (old new : Seated) (before after : SinkState) (was is : Option Recording) (result : Result (Unit {0}) WriteFault) → PrintsAndRecords format start old new before after was is result → new.number ≡ old.number
     printed_number format start old new before after was is result (inl prints) = prints.0.looks.number
     printed_number format start old new before after was is result (inr passes) = ap (λ (s : Seated). s.number) passes.0.same_seat
 
@@ -276,32 +286,32 @@ closed_by start n entries seats reporter receivers numbered same closes = record
 }
 
 -- what a station that is closed has served
-pub serves_by : (begun : Begun) (start : Start) (closing : Closing) (now sources : List Drawn) (options : List (Option (Result Tally PumpFault))) (answers : List (Result Tally PumpFault))
+pub serves_by : (begun : Begun) (start : Start) (closing : Closing) (now sources : List SourceState) (options : List (Option (Result Tally PumpFault))) (answers : List (Result Tally PumpFault))
     → IsServedBy begun start closing.receivers now options → sources ≡ now → AddsAll begun.answers options answers → IsClosed start closing → Serves begun start closing sources answers
 serves_by begun start closing now sources options answers served same adds closed = record {
   goes_on = served.goes_on;
   counted = served.counted;
-  pumped = subst (λ (ss : List Drawn). HavePumped start begun.given.entries begun.sources ss closing.receivers served.counted) (sym same) served.pumped;
+  pumped = subst (λ (ss : List SourceState). HavePumped start begun.given.entries begun.sources ss closing.receivers served.counted) (sym same) served.pumped;
   sums = adds_each begun.answers served.counted answers (subst (λ (os : List (Option (Result Tally PumpFault))). AddsAll begun.answers os answers) served.answers_are adds);
   closed = closed;
 }
 
 -- a reporter that has asked for a hand-over has not failed
-pub hand_over_reports : (start : Start) (duties : Duties) (next : Due) (asked_at : Option ℕ) (at : ℕ) (old new : Seated) (before after : Printed) (was is : Option Recording) (has_failed : Bool) → asked_at ≡ Some at
+pub hand_over_reports : (start : Start) (duties : Duties) (next : Due) (asked_at : Option ℕ) (at : ℕ) (old new : Seated) (before after : SinkState) (was is : Option Recording) (has_failed : Bool) → asked_at ≡ Some at
     → ReportsByAClock start duties next asked_at old new before after was is has_failed → ReportsByAClock start duties next (Some at) old new before after was is false
 hand_over_reports start duties next asked_at at old new before after was is has_failed asked by_clock =
     let with_time = subst (λ (o : Option ℕ). ReportsByAClock start duties next o old new before after was is has_failed) asked by_clock in
     subst (λ (b : Bool). ReportsByAClock start duties next (Some at) old new before after was is b) with_time.hands_over.well with_time
 
 -- what a reporter has done, by other words for its duties and for what is due next
-pub reports_by : (start : Start) (duties other : Duties) (due next : Due) (asked_at : Option ℕ) (old new : Seated) (before after : Printed) (was is : Option Recording) (has_failed : Bool) → other ≡ duties → next ≡ due
+pub reports_by : (start : Start) (duties other : Duties) (due next : Due) (asked_at : Option ℕ) (old new : Seated) (before after : SinkState) (was is : Option Recording) (has_failed : Bool) → other ≡ duties → next ≡ due
     → ReportsByAClock start duties due asked_at old new before after was is has_failed → ReportsByAClock start other next asked_at old new before after was is has_failed
 reports_by start duties other due next asked_at old new before after was is has_failed same same_due by_clock =
     subst (λ (d : Duties). ReportsByAClock start d next asked_at old new before after was is has_failed) (sym same)
     (subst (λ (n : Due). ReportsByAClock start duties n asked_at old new before after was is has_failed) (sym same_due) by_clock)
 
 -- the same of a seat that equals the one that it began with
-pub reports_from : (start : Start) (duties : Duties) (due : Due) (asked_at : Option ℕ) (old first new : Seated) (before after : Printed) (was is : Option Recording) (has_failed : Bool) → old ≡ first
+pub reports_from : (start : Start) (duties : Duties) (due : Due) (asked_at : Option ℕ) (old first new : Seated) (before after : SinkState) (was is : Option Recording) (has_failed : Bool) → old ≡ first
     → ReportsByAClock start duties due asked_at old new before after was is has_failed → ReportsByAClock start duties due asked_at first new before after was is has_failed
 reports_from start duties due asked_at old first new before after was is has_failed same by_clock =
     subst (λ (s : Seated). ReportsByAClock start duties due asked_at s new before after was is has_failed) same by_clock

@@ -10,16 +10,6 @@ use Rattle.station_main.specs.Telling.{Told, reopens_rounds_text}
 use Rattle.station_main.specs.declared.words.WordsFault.{WordsFault}
 use Rattle.station_main.specs.declared.words.WordsFault.TheVariants as words_fault
 
-pub shown_or_not : (k : ErrorKind) → (is_shown k ≡ true) ⊎ ((k ≢ kind.DisplayHelp) × (k ≢ kind.DisplayVersion))
-shown_or_not kind.DisplayHelp = inl refl
-shown_or_not kind.DisplayVersion = inl refl
-shown_or_not _ = inr (λ same. absurd (search rules), λ same. absurd (search rules))
-
-pub not_shown : (k : ErrorKind) → k ≢ kind.DisplayHelp → k ≢ kind.DisplayVersion → is_shown k ≡ false
-not_shown kind.DisplayHelp no_help no_version = absurd (no_help refl)
-not_shown kind.DisplayVersion no_help no_version = absurd (no_version refl)
-not_shown _ no_help no_version = refl
-
 -- the fault of an answer of `clap`, by its kinds for the command line as it is made: out of memory, or the answer
 pub words_fault_of : (made app : App) (words : List Text) (error : Error) (fault : WordsFault) → made ≡ app
     → ((kind_of error ≡ kind.OutOfMemory) × (fault ≡ words_fault.NoMemory)) ⊎ ((kind_of error ≢ kind.OutOfMemory) × (fault ≡ words_fault.Clap error))

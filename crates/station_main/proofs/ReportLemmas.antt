@@ -6,7 +6,7 @@ use Rattle.std.specs.Io.KnownBytes.{Appends}
 use Rattle.std.proofs.KnownBytes.{Appends-nil, Appends-trans}
 use Rattle.station_journal.specs.declared.entry.Entry.TheVariants.{Tick}
 use Rattle.station_journal.specs.declared.refusal.Refusal.{Refusal}
-use Rattle.station_report.specs.Sink.{counted}
+use Rattle.station_report.specs.Sink.{SinkState, counted}
 use Rattle.station_report.specs.declared.formats.Format.{Format}
 use Rattle.station_report.specs.declared.sinks.WriteFault.{WriteFault}
 use Rattle.station_desk.specs.Start.{Start}
@@ -14,7 +14,6 @@ use mathlib.Core.List.{IsPrefix}
 use Rattle.station_journal.specs.declared.entry.Entry.{Entry}
 use Rattle.station_shared.specs.Seats.{Seated, Accepted, Refused, Looks}
 use Rattle.station_desk.specs.History.{Known}
-use Rattle.station_main.specs.Output.{Printed}
 use Rattle.station_main.specs.Reporter.{Acting, IsShowing, IsLater, Reports, Showing, Showings, Ticks, after_table, after_tick, due_after, due_moments, has_come, looks_of, seat_after}
 use Rattle.station_main.specs.Recorded.{IfRecording, PrintsAndRecords, Recording, Records, seen_by}
 use Rattle.station_main.specs.declared.schedule.Due.{Due}
@@ -22,6 +21,7 @@ use Rattle.station_main.specs.declared.schedule.Pace.{Pace}
 use Rattle.station_main.specs.declared.schedule.Tables.{Tables}
 use Rattle.station_main.specs.Tables.{Prints, PassesOver, TakesTexts, shown, texts, failures_after}
 use Rattle.station_main.proofs.RecordedLemmas.{no-more-records, no-records, one-more-look}
+use Rattle.station_main.proofs.LookLemmas.{begins-trans}
 
 -- ---- times
 
@@ -109,14 +109,14 @@ texts_snoc format station [] look = append-nil (shown format station look)
 texts_snoc format station (l ∷ ls) look = ap (λ t. shown format station l ++ t) (texts_snoc format station ls look) ∙ sym (append_assoc (shown format station l) (texts format station ls) (shown format station look))
 
 -- one more table, by what its printing ensures
-pub record PrintsOne (format : Format) (station : Start) (looks : List (Option Seated)) (old new : Seated) (before after : Printed) (failed_before : ℕ) (was is : Option Recording) (result : Result (Unit {0}) WriteFault) : Type 0 where
+pub record PrintsOne (format : Format) (station : Start) (looks : List (Option Seated)) (old new : Seated) (before after : SinkState) (failed_before : ℕ) (was is : Option Recording) (result : Result (Unit {0}) WriteFault) : Type 0 where
   pub look : Option Seated
   pub looked : (look ≡ None) × (new ≡ old) ⊎ (look ≡ Some new) × Looks station old new
   pub takes : TakesTexts format station (looks ++ look ∷ []) before.taken after.taken (is_err result)
   pub failures : after.failures ≡ failures_after (is_err result) failed_before
   pub records : IfRecording (Records (seen_by (look ∷ []))) was is
 
-printed : (format : Format) (station : Start) (looks : List (Option Seated)) (old new : Seated) (start before after : Printed) (was is : Option Recording) (result : Result (Unit {0}) WriteFault)
+printed : (format : Format) (station : Start) (looks : List (Option Seated)) (old new : Seated) (start before after : SinkState) (was is : Option Recording) (result : Result (Unit {0}) WriteFault)
     → Appends start.taken before.taken (texts format station looks) → before.failures ≡ start.failures → Prints format station old new before after result → IfRecording (Records (new.seen ∷ [])) was is
     → PrintsOne format station looks old new start after start.failures was is result
 printed format station looks old new start before after was is (Ok done) so_far same prints records = record {
@@ -142,20 +142,20 @@ printed format station looks old new start before after was is (Err fault) so_fa
   records = records;
 }
 
-passed : (format : Format) (station : Start) (looks : List (Option Seated)) (old new : Seated) (start before after : Printed) (was is : Option Recording) (result : Result (Unit {0}) WriteFault)
+passed : (format : Format) (station : Start) (looks : List (Option Seated)) (old new : Seated) (start before after : SinkState) (was is : Option Recording) (result : Result (Unit {0}) WriteFault)
     → Appends start.taken before.taken (texts format station looks) → before.failures ≡ start.failures → PassesOver old new before after result → is ≡ was
     → PrintsOne format station looks old new start after start.failures was is result
 passed format station looks old new start before after was is (Ok done) so_far same passes unchanged = record {
   look = None;
   looked = inl (refl, passes.same_seat);
-  takes = subst (λ (p : Printed). Appends start.taken p.taken (texts format station (looks ++ None ∷ []))) (sym passes.same_sink)
+  takes = subst (λ (p : SinkState). Appends start.taken p.taken (texts format station (looks ++ None ∷ []))) (sym passes.same_sink)
       (subst (Appends start.taken before.taken) (sym (texts_snoc format station looks None ∙ append-nil (texts format station looks))) so_far);
-  failures = ap (λ (p : Printed). p.failures) passes.same_sink ∙ same;
+  failures = ap (λ (p : SinkState). p.failures) passes.same_sink ∙ same;
   records = no-more-records was is unchanged;
 }
 passed format station looks old new start before after was is (Err fault) so_far same passes unchanged = absurd (search rules)
 
-pub printed_at_most : (format : Format) (station : Start) (looks : List (Option Seated)) (old new : Seated) (start before after : Printed) (was is : Option Recording) (result : Result (Unit {0}) WriteFault)
+pub printed_at_most : (format : Format) (station : Start) (looks : List (Option Seated)) (old new : Seated) (start before after : SinkState) (was is : Option Recording) (result : Result (Unit {0}) WriteFault)
     → Appends start.taken before.taken (texts format station looks) → before.failures ≡ start.failures → PrintsAndRecords format station old new before after was is result
     → PrintsOne format station looks old new start after start.failures was is result
 printed_at_most format station looks old new start before after was is result so_far same (inl prints) = printed format station looks old new start before after was is result so_far same prints.0 prints.1
@@ -163,11 +163,8 @@ printed_at_most format station looks old new start before after was is result so
 
 -- ---- looks that show nothing
 
-prefix_trans : (a b c : List Entry) → IsPrefix a b → IsPrefix b c → IsPrefix a c
-prefix_trans a b c p q = (p.0 ++ q.0, sym (append_assoc a p.0 q.0) ∙ ap (λ (es : List Entry). es ++ q.0) p.1 ∙ q.1)
-
 looks_both : (station : Start) (a b c : Seated) → Looks station a b → Looks station b c → Looks station a c
-looks_both station a b c l m = record { later = prefix_trans a.seen b.seen c.seen l.later m.later; legal = m.legal; accepted = m.accepted ∙ l.accepted; number = m.number ∙ l.number; had_place = l.had_place; has_place = m.has_place }
+looks_both station a b c l m = record { later = begins-trans a.seen b.seen c.seen l.later m.later; legal = m.legal; accepted = m.accepted ∙ l.accepted; number = m.number ∙ l.number; had_place = l.had_place; has_place = m.has_place }
 
 pub later_later : (station : Start) (a b c : Seated) → IsLater station a b → IsLater station b c → IsLater station a c
 later_later station a b c (inl p) q = subst (λ (s : Seated). IsLater station s c) p q
@@ -178,18 +175,18 @@ pub ticks_later : (station : Start) (a b c : Seated) (at : ℕ) → IsLater stat
 ticks_later station a b c at (inl p) t = subst (λ (s : Seated). Ticks station s at c) p t
 ticks_later station a b c at (inr l) (inl t) =
     let is = subst (λ (n : ℕ). Accepted station b c (Tick n at) t.0) l.number t.1 in
-    inl (t.0, record { mid = is.mid; seen = is.seen; legal = is.legal; later = prefix_trans a.seen b.seen is.mid l.later is.later; verdict = is.verdict; list = is.list; accepted = is.accepted ∙ ap (λ (n : ℕ). n + 1) l.accepted; number = is.number ∙ l.number; place = is.place ∙ (l.has_place ∙ sym l.had_place) })
+    inl (t.0, record { mid = is.mid; seen = is.seen; legal = is.legal; later = begins-trans a.seen b.seen is.mid l.later is.later; verdict = is.verdict; list = is.list; accepted = is.accepted ∙ ap (λ (n : ℕ). n + 1) l.accepted; number = is.number ∙ l.number; place = is.place ∙ (l.has_place ∙ sym l.had_place) })
 ticks_later station a b c at (inr l) (inr t) =
     let is = subst (λ (n : ℕ). Refused station b c (Tick n at) t.0) l.number t.1 in
-    inr (t.0, record { later = prefix_trans a.seen b.seen c.seen l.later is.later; legal = is.legal; verdict = is.verdict; accepted = is.accepted ∙ l.accepted; number = is.number ∙ l.number; place = is.place ∙ (l.has_place ∙ sym l.had_place) })
+    inr (t.0, record { later = begins-trans a.seen b.seen c.seen l.later is.later; legal = is.legal; verdict = is.verdict; accepted = is.accepted ∙ l.accepted; number = is.number ∙ l.number; place = is.place ∙ (l.has_place ∙ sym l.had_place) })
 
 -- the showings so far, by the times that a clock gave after the first ones, and what is due next
-pub record ReportsTo (station : Start) (tables : Tables) (first : Due) (due : Due) (given given_now : Option (List ℕ)) (old new : Seated) (before after : Printed) (was is : Option Recording) (has_failed : Bool) : Type 0 where
+pub record ReportsTo (station : Start) (tables : Tables) (first : Due) (due : Due) (given given_now : Option (List ℕ)) (old new : Seated) (before after : SinkState) (was is : Option Recording) (has_failed : Bool) : Type 0 where
   pub moments : List ℕ
   pub are_given : Appends given given_now moments
   pub reports : Reports station tables first due moments old new before after was is has_failed
 
-pub no_moment : (station : Start) (tables : Tables) (first : Due) (seat : Seated) (sink : Printed) (was : Option Recording) → Reports station tables first first [] seat seat sink sink was was false
+pub no_moment : (station : Start) (tables : Tables) (first : Due) (seat : Seated) (sink : SinkState) (was : Option Recording) → Reports station tables first first [] seat seat sink sink was was false
 no_moment station tables first seat sink was = record { showings = []; shown = seat; keeps = record { acts = refl; walk = refl }; later = inl refl; next_is = refl; takes = Appends-nil sink.taken; failures = refl; records = no-records was }
 
 -- the acts up to one more time
@@ -205,7 +202,7 @@ due-then pace first due next now moments acts is more =
     sym (due_after-append pace first moments (now ∷ []) ∙ ap (λ (d : Due). due_after pace d (now ∷ [])) (sym is) ∙ more.after)
 
 -- nothing is done at a time at which nothing is due
-pub one_more_sleep : (station : Start) (tables : Tables) (first : Due) (due : Due) (now : ℕ) (given given_before given_now : Option (List ℕ)) (old new : Seated) (before after : Printed) (was is : Option Recording) (has_failed : Bool)
+pub one_more_sleep : (station : Start) (tables : Tables) (first : Due) (due : Due) (now : ℕ) (given given_before given_now : Option (List ℕ)) (old new : Seated) (before after : SinkState) (was is : Option Recording) (has_failed : Bool)
     → ReportsTo station tables first due given given_before old new before after was is has_failed → Appends given_before given_now (now ∷ []) → now < due.table → has_come due.tick now ≡ false
     → ReportsTo station tables first due given given_now old new before after was is has_failed
 one_more_sleep station tables first due now given given_before given_now old new before after was is has_failed so_far gives early none =
@@ -229,7 +226,7 @@ one_more_sleep station tables first due now given given_before given_now old new
     }
 
 -- a tick alone, at a time at which only that is due
-pub one_more_tick : (station : Start) (tables : Tables) (first : Due) (due : Due) (now : ℕ) (given given_before given_now : Option (List ℕ)) (old mid new : Seated) (start before : Printed) (from was : Option Recording)
+pub one_more_tick : (station : Start) (tables : Tables) (first : Due) (due : Due) (now : ℕ) (given given_before given_now : Option (List ℕ)) (old mid new : Seated) (start before : SinkState) (from was : Option Recording)
     → ReportsTo station tables first due given given_before old mid start before from was false → Appends given_before given_now (now ∷ []) → now < due.table → has_come due.tick now ≡ true
     → Ticks station mid now new
     → ReportsTo station tables first (after_tick tables.pace due now) given given_now old new start before from was false
@@ -277,7 +274,7 @@ pub ticks_of : {N : Type 0} (station : Start) (old new : Seated) (at : ℕ) (nam
 ticks_of station old new at name n (Ok receipt) accepted refused = inl (receipt, accepted.1)
 ticks_of station old new at name n (Err refusal) accepted refused = inr (refusal, refused)
 
-pub one_more_showing : (station : Start) (tables : Tables) (first : Due) (due : Due) (now : ℕ) (given given_before given_now : Option (List ℕ)) (old mid ticked new : Seated) (start before after : Printed) (from was is : Option Recording) (result : Result (Unit {0}) WriteFault)
+pub one_more_showing : (station : Start) (tables : Tables) (first : Due) (due : Due) (now : ℕ) (given given_before given_now : Option (List ℕ)) (old mid ticked new : Seated) (start before after : SinkState) (from was is : Option Recording) (result : Result (Unit {0}) WriteFault)
     → ReportsTo station tables first due given given_before old mid start before from was false → Appends given_before given_now (now ∷ []) → due.table ≤ now
     → Ticks station mid now ticked → PrintsAndRecords tables.format station ticked new before after was is result
     → ReportsTo station tables first (after_table tables.pace now) given given_now old new start after from is (is_err result)
@@ -309,7 +306,7 @@ one_more_showing station tables first due now given given_before given_now old m
     }
 
 -- a look that shows nothing
-pub one_more_look : (station : Start) (tables : Tables) (first : Due) (due : Due) (given given_now : Option (List ℕ)) (old mid new : Seated) (before after : Printed) (was is : Option Recording) (has_failed : Bool)
+pub one_more_look : (station : Start) (tables : Tables) (first : Due) (due : Due) (given given_now : Option (List ℕ)) (old mid new : Seated) (before after : SinkState) (was is : Option Recording) (has_failed : Bool)
     → ReportsTo station tables first due given given_now old mid before after was is has_failed → IsLater station mid new → ReportsTo station tables first due given given_now old new before after was is has_failed
 one_more_look station tables first due given given_now old mid new before after was is has_failed so_far later = record {
   moments = so_far.moments;

@@ -1,11 +1,12 @@
 -- Rounds of the job `run`, one after another.
 use Rattle.std.proofs.Common.{◌≡◌, ◌∙◌, inl, inr, ℕ, zero, suc, ◌+◌, ◌-◌, ◌<◌, ◌≤◌, Bool, true, false, List, [], ◌∷◌, ◌++◌, Option, Some, None, Result, length, length-append, refl, sym, ap, subst, take, reverse, arith, rules}
 use Rattle.std.proofs.lemmas.List.{length-reverse, length-take-le}
+use Rattle.station_report.specs.Sink.{SinkState}
 use Rattle.station_journal.specs.declared.entry.Entry.{Entry}
 use Rattle.station_journal.specs.declared.limits.Limits.{Limits}
 use Rattle.station_journal.specs.declared.recent.ResumeFault.{ResumeFault}
 use Rattle.station_journal.specs.declared.recent.ResumeFault.TheVariants.{TooManyEntries, Unsound, NoMemory}
-use Rattle.station_journal.specs.Resume.{IsSound, Refuses, recent_base, recent_of}
+use Rattle.station_journal.specs.Resume.{IsSound, Refuses, recent_base}
 use Rattle.station_journal.proofs.SoundLemmas.{sound_by_fits}
 use Rattle.station_journal.proofs.StandsLemmas.{length_sound, recent_stands, sound_from_legal}
 use Rattle.station_desk.specs.History.{base_of}
@@ -19,7 +20,6 @@ use Rattle.station_desk.proofs.StartLemmas.{sound_at, sound_front}
 use Rattle.station_main.specs.Limits.{program_limits}
 use Rattle.station_main.specs.Recorded.{Recording}
 use Rattle.station_main.specs.Rounds.{Asked, Begun, Given, HandsOn, IsCutShort, IsHandOver, IsOver, KeepsRecent, Runs, Stations}
-use Rattle.station_main.specs.Output.{Printed}
 use Rattle.station_main.specs.Run.{Closing, EndsEarly}
 use Rattle.station_main.specs.Sums.{AddsEach}
 use Rattle.station_main.specs.Telling.{Told}
@@ -44,7 +44,7 @@ kept_sound start journal kept was recorded limits legal is =
     subst (λ under. IsSound under kept.base (reverse kept.entries)) limits (subst (λ from. IsSound start.limits from (reverse kept.entries)) (sym is.base) (subst (λ entries. IsSound start.limits (recent_base base past) entries) (sym is.entries) stands.sound))
 
 -- the same of a station that hands over
-pub hand_over_sound : (begun next : Begun) (before after : Printed) (was is : Option Recording) → IsHandOver begun next before after was is → IsSound program_limits next.given.base (reverse next.given.entries)
+pub hand_over_sound : (begun next : Begun) (before after : SinkState) (was is : Option Recording) → IsHandOver begun next before after was is → IsSound program_limits next.given.base (reverse next.given.entries)
 hand_over_sound begun next before after was is hands = kept_sound hands.start hands.closing.journal next.given hands.shown is hands.serves.goes_on.limits hands.serves.closed.closes.legal hands.is_kept
 
 adds_length : (before since sums : List (Result Tally PumpFault)) → AddsEach before since sums → length sums ≡ length before
@@ -55,11 +55,11 @@ adds_length (b ∷ before) [] sums adds = absurd adds
 adds_length (b ∷ before) (x ∷ since) [] adds = absurd adds
 adds_length (b ∷ before) (x ∷ since) (s ∷ sums) adds = omega (arith, adds_length before since sums adds.1)
 
-pub hand_over_answers : (begun next : Begun) (before after : Printed) (was is : Option Recording) → IsHandOver begun next before after was is → length next.answers ≡ length begun.answers
+pub hand_over_answers : (begun next : Begun) (before after : SinkState) (was is : Option Recording) → IsHandOver begun next before after was is → length next.answers ≡ length begun.answers
 hand_over_answers begun next before after was is hands = adds_length begun.answers hands.serves.counted next.answers hands.serves.sums
 
 -- and of the last station of a round
-pub round_sound : (more : ℕ) (begun : Begun) (start : Start) (closing : Closing) (before : Printed) (after : Option (List ℕ)) (was shown recorded : Option Recording) (err_old err_new : Told) (status : ℕ) (kept : Given)
+pub round_sound : (more : ℕ) (begun : Begun) (start : Start) (closing : Closing) (before : SinkState) (after : Option (List ℕ)) (was shown recorded : Option Recording) (err_old err_new : Told) (status : ℕ) (kept : Given)
     → Stations more begun start closing before after was shown err_old err_new status → KeepsRecent start closing.journal kept shown recorded → IsSound program_limits kept.base (reverse kept.entries)
 round_sound zero begun start closing before after was shown recorded err_old err_new status kept last is = kept_sound start closing.journal kept shown recorded last.serves.goes_on.limits last.serves.closed.closes.legal is
 round_sound (suc more) begun start closing before after was shown recorded err_old err_new status kept (next, mid, mid_recorded, hands, rest) is =

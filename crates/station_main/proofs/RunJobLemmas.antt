@@ -3,11 +3,11 @@ use Rattle.std.proofs.Common.{rules, ◌≡◌, ◌∙◌, ◌⊎◌, inl, inr, 
 use Rattle.std.specs.Prelude.{is_err, nat_lt, not}
 use Rattle.std.specs.Io.KnownBytes.{Keeps, append_known}
 use Rattle.std.proofs.Math.Seq.{take-append_seam}
+use Rattle.station_report.specs.Sink.{SinkState}
 use Rattle.station_journal.specs.declared.entry.Entry.{Entry}
 use Rattle.station_report.specs.declared.sinks.WriteFault.{WriteFault}
 use Rattle.station_desk.specs.Start.{Start}
 use Rattle.station_shared.specs.Seats.{Seated, Looks, new_seat, new_seats}
-use Rattle.station_main.specs.Output.{Printed}
 use Rattle.station_main.specs.Recorded.{IfRecording, Recording, Records, seen_by}
 use Rattle.station_main.specs.Reporter.{MayHandOver, ReportsByAClock, looks_of}
 use Rattle.station_main.specs.Run.{LastLook, Leaves, PrintsLast}
@@ -23,11 +23,6 @@ whole_list len ws old same is = ap (λ n. take n (ws ++ drop (length ws) old)) (
 
 -- ---- the output out of its buffer
 
-pub kept_nil : (a b : Option (List ℕ)) → Keeps a b → Keeps a (append_known b [])
-kept_nil None b k = tt
-kept_nil (Some x) None k = absurd k
-kept_nil (Some x) (Some y) k = append-nil y ∙ k
-
 -- ---- the whole run
 
 one_look : (station : Start) (mid new : Seated) (look : Option Seated) → (look ≡ None) × (new ≡ mid) ⊎ (look ≡ Some new) × Looks station mid new → LastLook station mid new false (look ∷ [])
@@ -36,7 +31,7 @@ one_look station mid new None (inr p) = absurd (search rules)
 one_look station mid new (Some l) (inl p) = absurd (search rules)
 one_look station mid new (Some l) (inr p) = let same : new ≡ l = cc in (Some l, refl, sym same, subst (λ s. Looks station mid s) same p.1)
 
-pub leaves : (station : Start) (duties : Duties) (next : Due) (asked_at : Option ℕ) (first mid closing : Seated) (start before : Printed) (after : Option (List ℕ)) (was shown is : Option Recording) (failed_before has_failed : Bool)
+pub leaves : (station : Start) (duties : Duties) (next : Due) (asked_at : Option ℕ) (first mid closing : Seated) (start before : SinkState) (after : Option (List ℕ)) (was shown is : Option Recording) (failed_before has_failed : Bool)
     → ReportsByAClock station duties next asked_at first mid start before was shown failed_before → PrintsLast duties.tables.format station mid closing before failed_before after shown is has_failed
     → Leaves station duties first closing start.taken after was is has_failed
 leaves station duties next asked_at first mid closing start before after was shown is true has_failed by_clock prints =

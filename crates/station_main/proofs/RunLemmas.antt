@@ -107,31 +107,10 @@ accepted : (b : Bool) (k : ErrorKind) → (if b then [] else k ∷ []) ≡ [] �
 accepted true k e = refl
 accepted false k e = absurd (not_none _ _ e)
 
-abbrev pub every_rule : Rule
-every_rule = with_index 1 (filled every)
+abbrev option : Rule → Rule
+option rule = with_index 1 (filled rule)
 
-abbrev pub tick_rule : Rule
-tick_rule = with_index 1 (filled tick)
-
-abbrev pub rounds_rule : Rule
-rounds_rule = with_index 1 (filled rounds)
-
-abbrev pub reopen_rule : Rule
-reopen_rule = with_index 1 (filled reopen)
-
-abbrev pub record_rule : Rule
-record_rule = with_index 1 (filled record_file)
-
-abbrev pub format_rule : FormatNames → Rule
-format_rule names = with_index 1 (filled (format names))
-
-abbrev pub json_rule : Rule
-json_rule = with_index 1 (filled json_folder)
-
-abbrev pub path_rule : Rule
-path_rule = with_index 1 (filled path)
-
-abbrev pub help_flag : Rule
+abbrev help_flag : Rule
 help_flag = with_index 2 (filled help_rule)
 
 exactly_by : (k : ℕ) (b : Bool) (n : ℕ) → (k == n) ≡ b → (if b then [] else kind.WrongNumberOfValues ∷ []) ≡ [] → k ≡ n
@@ -162,15 +141,15 @@ keeps_number id most good v (w ∷ vs) rows e f =
     let one = exactly_one (length (v ∷ w ∷ vs)) counted.0 in
     absurd (omega (arith, one))
 
-keeps_every : (values : List Text) (rows : List Row) → use_fault false every_rule values rows ≡ [] → Fine rows → Fine (used every_rule values rows)
+keeps_every : (values : List Text) (rows : List Row) → use_fault false (option every) values rows ≡ [] → Fine rows → Fine (used (option every) values rows)
 keeps_every [] rows e f = absurd (not_none _ _ e)
 keeps_every (v ∷ vs) rows e f = keeps_number (codes "every") 3600000 (λ r number. inl number) v vs rows e f
 
-keeps_tick : (values : List Text) (rows : List Row) → use_fault false tick_rule values rows ≡ [] → Fine rows → Fine (used tick_rule values rows)
+keeps_tick : (values : List Text) (rows : List Row) → use_fault false (option tick) values rows ≡ [] → Fine rows → Fine (used (option tick) values rows)
 keeps_tick [] rows e f = absurd (not_none _ _ e)
 keeps_tick (v ∷ vs) rows e f = keeps_number (codes "tick") 60000 (λ r number. inr (inl number)) v vs rows e f
 
-keeps_rounds : (values : List Text) (rows : List Row) → use_fault false rounds_rule values rows ≡ [] → Fine rows → Fine (used rounds_rule values rows)
+keeps_rounds : (values : List Text) (rows : List Row) → use_fault false (option rounds) values rows ≡ [] → Fine rows → Fine (used (option rounds) values rows)
 keeps_rounds [] rows e f = absurd (not_none _ _ e)
 keeps_rounds (v ∷ vs) rows e f = keeps_number (codes "rounds") 1000 (λ r number. inr (inr (inl number))) v vs rows e f
 
@@ -187,52 +166,50 @@ at_most_eight n e =
     let many = if nat_lt 8 n then kind.TooManyValues ∷ [] else [] in
     at_most (nat_lt 8 n) n refl (enough (nat_lt n 1) many (none_given (n == 0) (if nat_lt n 1 then kind.TooFewValues ∷ [] else many) e))
 
-keeps_path : (values : List Text) (rows : List Row) → use_fault false path_rule values rows ≡ [] → Fine rows → Fine (used path_rule values rows)
+-- a first use of an option whose values are kept as they are written
+adds : (id : Text) (values : List Text) (rows : List Row) → repeat_fault false id rows ≡ [] → Good (row_for CommandLine id AsWritten values) → Fine rows → Fine (used_as Set id AsWritten values rows)
+adds id values rows first good f =
+    subst Fine (sym (set_adds id AsWritten values rows (not_repeated (has_row id rows) first))) (fine_snoc rows (row_for CommandLine id AsWritten values) f good)
+
+keeps_path : (values : List Text) (rows : List Row) → use_fault false (option path) values rows ≡ [] → Fine rows → Fine (used (option path) values rows)
 unfolding row_for
 keeps_path [] rows e f = absurd (not_none _ _ e)
 keeps_path (v ∷ vs) rows e f =
-    let counted = both_none (range_kinds 1 8 (length (v ∷ vs))) (set_fault false path_rule (v ∷ vs) rows) e in
+    let counted = both_none (range_kinds 1 8 (length (v ∷ vs))) (set_fault false (option path) (v ∷ vs) rows) e in
     let few = at_most_eight (length (v ∷ vs)) counted.0 in
-    let parts = both_none (repeat_fault false (codes "path") rows) (values_fault path_rule (v ∷ vs)) counted.1 in
-    let none = not_repeated (has_row (codes "path") rows) parts.0 in
-    subst Fine (sym (set_adds (codes "path") AsWritten (v ∷ vs) rows none)) (fine_snoc rows (row_for CommandLine (codes "path") AsWritten (v ∷ vs)) f (inr (inr (inr (inl (refl, omega arith, few))))))
+    let parts = both_none (repeat_fault false (codes "path") rows) (values_fault (option path) (v ∷ vs)) counted.1 in
+    adds (codes "path") (v ∷ vs) rows parts.0 (inr (inr (inr (inl (refl, omega arith, few))))) f
 
-keeps_record : (values : List Text) (rows : List Row) → use_fault false record_rule values rows ≡ [] → Fine rows → Fine (used record_rule values rows)
+keeps_record : (values : List Text) (rows : List Row) → use_fault false (option record_file) values rows ≡ [] → Fine rows → Fine (used (option record_file) values rows)
 unfolding row_for
 keeps_record [] rows e f = absurd (not_none _ _ e)
 keeps_record (v ∷ vs) rows e f =
-    let counted = both_none (range_kinds 1 1 (length (v ∷ vs))) (set_fault false record_rule (v ∷ vs) rows) e in
-    let parts = both_none (repeat_fault false (codes "record") rows) (values_fault record_rule (v ∷ vs)) counted.1 in
-    let none = not_repeated (has_row (codes "record") rows) parts.0 in
-    subst Fine (sym (set_adds (codes "record") AsWritten (v ∷ vs) rows none)) (fine_snoc rows (row_for CommandLine (codes "record") AsWritten (v ∷ vs)) f (inr (inr (inr (inr (inl refl))))))
+    let counted = both_none (range_kinds 1 1 (length (v ∷ vs))) (set_fault false (option record_file) (v ∷ vs) rows) e in
+    let parts = both_none (repeat_fault false (codes "record") rows) (values_fault (option record_file) (v ∷ vs)) counted.1 in
+    adds (codes "record") (v ∷ vs) rows parts.0 (inr (inr (inr (inr (inl refl))))) f
 
-keeps_format : (names : FormatNames) (values : List Text) (rows : List Row) → use_fault false (format_rule names) values rows ≡ [] → Fine rows → Fine (used (format_rule names) values rows)
+keeps_format : (names : FormatNames) (values : List Text) (rows : List Row) → use_fault false (option (format names)) values rows ≡ [] → Fine rows → Fine (used (option (format names)) values rows)
 unfolding row_for
 keeps_format names [] rows e f = absurd (not_none _ _ e)
 keeps_format names (v ∷ vs) rows e f =
-    let counted = both_none (range_kinds 1 1 (length (v ∷ vs))) (set_fault false (format_rule names) (v ∷ vs) rows) e in
-    let parts = both_none (repeat_fault false (codes "format") rows) (values_fault (format_rule names) (v ∷ vs)) counted.1 in
-    let none = not_repeated (has_row (codes "format") rows) parts.0 in
-    subst Fine (sym (set_adds (codes "format") AsWritten (v ∷ vs) rows none)) (fine_snoc rows (row_for CommandLine (codes "format") AsWritten (v ∷ vs)) f (inr (inr (inr (inr (inr (inl refl)))))))
+    let counted = both_none (range_kinds 1 1 (length (v ∷ vs))) (set_fault false (option (format names)) (v ∷ vs) rows) e in
+    let parts = both_none (repeat_fault false (codes "format") rows) (values_fault (option (format names)) (v ∷ vs)) counted.1 in
+    adds (codes "format") (v ∷ vs) rows parts.0 (inr (inr (inr (inr (inr (inl refl)))))) f
 
-keeps_json : (values : List Text) (rows : List Row) → use_fault false json_rule values rows ≡ [] → Fine rows → Fine (used json_rule values rows)
+keeps_json : (values : List Text) (rows : List Row) → use_fault false (option json_folder) values rows ≡ [] → Fine rows → Fine (used (option json_folder) values rows)
 unfolding row_for
 keeps_json [] rows e f = absurd (not_none _ _ e)
 keeps_json (v ∷ vs) rows e f =
-    let counted = both_none (range_kinds 1 1 (length (v ∷ vs))) (set_fault false json_rule (v ∷ vs) rows) e in
-    let parts = both_none (repeat_fault false (codes "json") rows) (values_fault json_rule (v ∷ vs)) counted.1 in
-    let none = not_repeated (has_row (codes "json") rows) parts.0 in
-    subst Fine (sym (set_adds (codes "json") AsWritten (v ∷ vs) rows none)) (fine_snoc rows (row_for CommandLine (codes "json") AsWritten (v ∷ vs)) f (inr (inr (inr (inr (inr (inr (inl refl))))))))
+    let counted = both_none (range_kinds 1 1 (length (v ∷ vs))) (set_fault false (option json_folder) (v ∷ vs) rows) e in
+    let parts = both_none (repeat_fault false (codes "json") rows) (values_fault (option json_folder) (v ∷ vs)) counted.1 in
+    adds (codes "json") (v ∷ vs) rows parts.0 (inr (inr (inr (inr (inr (inr (inl refl))))))) f
 
-keeps_reopen : (values : List Text) (rows : List Row) → use_fault false reopen_rule values rows ≡ [] → Fine rows → Fine (used reopen_rule values rows)
+keeps_reopen : (values : List Text) (rows : List Row) → use_fault false (option reopen) values rows ≡ [] → Fine rows → Fine (used (option reopen) values rows)
 unfolding row_for
 keeps_reopen [] rows e f =
-    let parts = both_none (repeat_fault false (codes "reopen") rows) (values_fault reopen_rule (codes "true" ∷ [])) e in
-    let none = not_repeated (has_row (codes "reopen") rows) parts.0 in
-    let row = row_for CommandLine (codes "reopen") AsWritten (codes "true" ∷ []) in
-    subst Fine (sym (set_adds (codes "reopen") AsWritten (codes "true" ∷ []) rows none)) (fine_snoc rows row f (inr (inr (inr (inr (inr (inr (inr (refl, refl, inl refl)))))))))
+    adds (codes "reopen") (codes "true" ∷ []) rows (both_none (repeat_fault false (codes "reopen") rows) (values_fault (option reopen) (codes "true" ∷ [])) e).0 (inr (inr (inr (inr (inr (inr (inr (refl, refl, inl refl)))))))) f
 keeps_reopen (v ∷ vs) rows e f =
-    let none = no_value (length (v ∷ vs)) (both_none (range_kinds 0 0 (length (v ∷ vs))) (set_fault false reopen_rule (v ∷ vs) rows) e).0 in
+    let none = no_value (length (v ∷ vs)) (both_none (range_kinds 0 0 (length (v ∷ vs))) (set_fault false (option reopen) (v ∷ vs) rows) e).0 in
     absurd (omega (arith, none))
 
 keeps_help : (values : List Text) (rows : List Row) → use_fault false help_flag values rows ≡ [] → Fine rows → Fine (used help_flag values rows)
@@ -251,7 +228,7 @@ among test [] a e = absurd (none_some a e)
 among test (x ∷ xs) a e = among_step (test x) x (find test xs) xs a e (among test xs a)
 
 abbrev run_rules : FormatNames → List Rule
-run_rules names = every_rule ∷ tick_rule ∷ format_rule names ∷ json_rule ∷ rounds_rule ∷ reopen_rule ∷ record_rule ∷ path_rule ∷ help_flag ∷ []
+run_rules names = (option every) ∷ (option tick) ∷ option (format names) ∷ (option json_folder) ∷ (option rounds) ∷ (option reopen) ∷ (option record_file) ∷ (option path) ∷ help_flag ∷ []
 
 keeps_among : (names : FormatNames) (a : Rule) (values : List Text) (rows : List Row) → Among a (run_rules names) → use_fault false a values rows ≡ [] → Fine rows → Fine (used a values rows)
 keeps_among names a values rows (inl same) e f = subst (λ b. Fine (used b values rows)) same (keeps_every values rows (subst (λ b. use_fault false b values rows ≡ []) (sym same) e) f)
@@ -296,9 +273,9 @@ reopen_default false rows is f =
     let added = absent (codes "reopen") (more_values DefaultValue (codes "false" ∷ [])) (row ∷ []) rows is in
     (subst Fine (sym added) (fine_snoc rows row f (inr (inr (inr (inr (inr (inr (inr (refl, refl, inr refl))))))))), ap (has_row (codes "reopen")) added ∙ has_last (codes "reopen") rows row refl)
 
-finished_is : (names : FormatNames) (rows : List Row) → fold with_default rows (run_rules names) ≡ with_default rows reopen_rule
+finished_is : (names : FormatNames) (rows : List Row) → fold with_default rows (run_rules names) ≡ with_default rows (option reopen)
 finished_is names rows =
-    let after = with_default rows reopen_rule in
+    let after = with_default rows (option reopen) in
     let of_every = either_way (has_row (codes "every") rows) rows in
     let of_tick = either_way (has_row (codes "tick") rows) rows in
     let of_format = either_way (has_row (codes "format") rows) rows in
@@ -307,12 +284,12 @@ finished_is names rows =
     let of_record = either_way (has_row (codes "record") after) after in
     let of_path = either_way (has_row (codes "path") after) after in
     let of_help = either_way (has_row (codes "help") after) after in
-    ap (λ t. fold with_default t (tick_rule ∷ format_rule names ∷ json_rule ∷ rounds_rule ∷ reopen_rule ∷ record_rule ∷ path_rule ∷ help_flag ∷ [])) of_every
-    ∙ ap (λ t. fold with_default t (format_rule names ∷ json_rule ∷ rounds_rule ∷ reopen_rule ∷ record_rule ∷ path_rule ∷ help_flag ∷ [])) of_tick
-    ∙ ap (λ t. fold with_default t (json_rule ∷ rounds_rule ∷ reopen_rule ∷ record_rule ∷ path_rule ∷ help_flag ∷ [])) of_format
-    ∙ ap (λ t. fold with_default t (rounds_rule ∷ reopen_rule ∷ record_rule ∷ path_rule ∷ help_flag ∷ [])) of_json
-    ∙ ap (λ t. fold with_default t (reopen_rule ∷ record_rule ∷ path_rule ∷ help_flag ∷ [])) of_rounds
-    ∙ ap (λ t. fold with_default t (path_rule ∷ help_flag ∷ [])) of_record
+    ap (λ t. fold with_default t ((option tick) ∷ option (format names) ∷ (option json_folder) ∷ (option rounds) ∷ (option reopen) ∷ (option record_file) ∷ (option path) ∷ help_flag ∷ [])) of_every
+    ∙ ap (λ t. fold with_default t (option (format names) ∷ (option json_folder) ∷ (option rounds) ∷ (option reopen) ∷ (option record_file) ∷ (option path) ∷ help_flag ∷ [])) of_tick
+    ∙ ap (λ t. fold with_default t ((option json_folder) ∷ (option rounds) ∷ (option reopen) ∷ (option record_file) ∷ (option path) ∷ help_flag ∷ [])) of_format
+    ∙ ap (λ t. fold with_default t ((option rounds) ∷ (option reopen) ∷ (option record_file) ∷ (option path) ∷ help_flag ∷ [])) of_json
+    ∙ ap (λ t. fold with_default t ((option reopen) ∷ (option record_file) ∷ (option path) ∷ help_flag ∷ [])) of_rounds
+    ∙ ap (λ t. fold with_default t ((option path) ∷ help_flag ∷ [])) of_record
     ∙ ap (λ t. fold with_default t (help_flag ∷ [])) of_path ∙ of_help
 
 both_given : (b c : Bool) (k : ErrorKind) → (if not b || (not c || false) then k ∷ [] else []) ≡ [] → (b ≡ true) × (c ≡ true)
@@ -419,55 +396,43 @@ row_of : (id : Text) (rows : List Row) → has_row id rows ≡ true → (r : Row
 row_of id [] e = absurd (search rules)
 row_of id (x ∷ xs) e = row_step (bytes_eq x.id id) (has_row id xs) x (find (λ r. bytes_eq r.id id) xs) e (row_of id xs)
 
+-- what is known of the row of an option, by its id
+by_id : {P : Type 0} (id : Text) (r : Row) → bytes_eq r.id id ≡ true
+    → (IsNumber (codes "every") 3600000 r → bytes_eq (codes "every") id ≡ true → P)
+    → (IsNumber (codes "tick") 60000 r → bytes_eq (codes "tick") id ≡ true → P)
+    → (IsNumber (codes "rounds") 1000 r → bytes_eq (codes "rounds") id ≡ true → P)
+    → (((r.id ≡ codes "path") × (1 ≤ length r.values) × (length r.values ≤ 8)) → bytes_eq (codes "path") id ≡ true → P)
+    → (r.id ≡ codes "record" → bytes_eq (codes "record") id ≡ true → P)
+    → (r.id ≡ codes "format" → bytes_eq (codes "format") id ≡ true → P)
+    → (r.id ≡ codes "json" → bytes_eq (codes "json") id ≡ true → P)
+    → (IsFlag (codes "reopen") r → bytes_eq (codes "reopen") id ≡ true → P)
+    → Good r → P
+by_id id r e of_every _ _ _ _ _ _ _ (inl h) = of_every h (ap (λ t. bytes_eq t id) (sym h.0) ∙ e)
+by_id id r e _ of_tick _ _ _ _ _ _ (inr (inl h)) = of_tick h (ap (λ t. bytes_eq t id) (sym h.0) ∙ e)
+by_id id r e _ _ of_rounds _ _ _ _ _ (inr (inr (inl h))) = of_rounds h (ap (λ t. bytes_eq t id) (sym h.0) ∙ e)
+by_id id r e _ _ _ of_path _ _ _ _ (inr (inr (inr (inl h)))) = of_path h (ap (λ t. bytes_eq t id) (sym h.0) ∙ e)
+by_id id r e _ _ _ _ of_record _ _ _ (inr (inr (inr (inr (inl h))))) = of_record h (ap (λ t. bytes_eq t id) (sym h) ∙ e)
+by_id id r e _ _ _ _ _ of_format _ _ (inr (inr (inr (inr (inr (inl h)))))) = of_format h (ap (λ t. bytes_eq t id) (sym h) ∙ e)
+by_id id r e _ _ _ _ _ _ of_json _ (inr (inr (inr (inr (inr (inr (inl h))))))) = of_json h (ap (λ t. bytes_eq t id) (sym h) ∙ e)
+by_id id r e _ _ _ _ _ _ _ of_reopen (inr (inr (inr (inr (inr (inr (inr h))))))) = of_reopen h (ap (λ t. bytes_eq t id) (sym h.0) ∙ e)
+
+other : {X P : Type 0} → X → false ≡ true → P
+other h e = cc
+
 every_row : (r : Row) → Good r → bytes_eq r.id (codes "every") ≡ true → IsNumber (codes "every") 3600000 r
-every_row r (inl h) e = h
-every_row r (inr (inl h)) e = let bad : false ≡ true = ap (λ t. bytes_eq t (codes "every")) (sym h.0) ∙ e in absurd (search rules)
-every_row r (inr (inr (inl h))) e = let bad : false ≡ true = ap (λ t. bytes_eq t (codes "every")) (sym h.0) ∙ e in absurd (search rules)
-every_row r (inr (inr (inr (inl h)))) e = let bad : false ≡ true = ap (λ t. bytes_eq t (codes "every")) (sym h.0) ∙ e in absurd (search rules)
-every_row r (inr (inr (inr (inr (inl h))))) e = let bad : false ≡ true = ap (λ t. bytes_eq t (codes "every")) (sym h) ∙ e in absurd (search rules)
-every_row r (inr (inr (inr (inr (inr (inl h)))))) e = let bad : false ≡ true = ap (λ t. bytes_eq t (codes "every")) (sym h) ∙ e in absurd (search rules)
-every_row r (inr (inr (inr (inr (inr (inr (inl h))))))) e = let bad : false ≡ true = ap (λ t. bytes_eq t (codes "every")) (sym h) ∙ e in absurd (search rules)
-every_row r (inr (inr (inr (inr (inr (inr (inr h))))))) e = let bad : false ≡ true = ap (λ t. bytes_eq t (codes "every")) (sym h.0) ∙ e in absurd (search rules)
+every_row r good e = by_id (codes "every") r e (λ h e. h) other other other other other other other good
 
 tick_row : (r : Row) → Good r → bytes_eq r.id (codes "tick") ≡ true → IsNumber (codes "tick") 60000 r
-tick_row r (inl h) e = let bad : false ≡ true = ap (λ t. bytes_eq t (codes "tick")) (sym h.0) ∙ e in absurd (search rules)
-tick_row r (inr (inl h)) e = h
-tick_row r (inr (inr (inl h))) e = let bad : false ≡ true = ap (λ t. bytes_eq t (codes "tick")) (sym h.0) ∙ e in absurd (search rules)
-tick_row r (inr (inr (inr (inl h)))) e = let bad : false ≡ true = ap (λ t. bytes_eq t (codes "tick")) (sym h.0) ∙ e in absurd (search rules)
-tick_row r (inr (inr (inr (inr (inl h))))) e = let bad : false ≡ true = ap (λ t. bytes_eq t (codes "tick")) (sym h) ∙ e in absurd (search rules)
-tick_row r (inr (inr (inr (inr (inr (inl h)))))) e = let bad : false ≡ true = ap (λ t. bytes_eq t (codes "tick")) (sym h) ∙ e in absurd (search rules)
-tick_row r (inr (inr (inr (inr (inr (inr (inl h))))))) e = let bad : false ≡ true = ap (λ t. bytes_eq t (codes "tick")) (sym h) ∙ e in absurd (search rules)
-tick_row r (inr (inr (inr (inr (inr (inr (inr h))))))) e = let bad : false ≡ true = ap (λ t. bytes_eq t (codes "tick")) (sym h.0) ∙ e in absurd (search rules)
+tick_row r good e = by_id (codes "tick") r e other (λ h e. h) other other other other other other good
 
 rounds_row : (r : Row) → Good r → bytes_eq r.id (codes "rounds") ≡ true → IsNumber (codes "rounds") 1000 r
-rounds_row r (inl h) e = let bad : false ≡ true = ap (λ t. bytes_eq t (codes "rounds")) (sym h.0) ∙ e in absurd (search rules)
-rounds_row r (inr (inl h)) e = let bad : false ≡ true = ap (λ t. bytes_eq t (codes "rounds")) (sym h.0) ∙ e in absurd (search rules)
-rounds_row r (inr (inr (inl h))) e = h
-rounds_row r (inr (inr (inr (inl h)))) e = let bad : false ≡ true = ap (λ t. bytes_eq t (codes "rounds")) (sym h.0) ∙ e in absurd (search rules)
-rounds_row r (inr (inr (inr (inr (inl h))))) e = let bad : false ≡ true = ap (λ t. bytes_eq t (codes "rounds")) (sym h) ∙ e in absurd (search rules)
-rounds_row r (inr (inr (inr (inr (inr (inl h)))))) e = let bad : false ≡ true = ap (λ t. bytes_eq t (codes "rounds")) (sym h) ∙ e in absurd (search rules)
-rounds_row r (inr (inr (inr (inr (inr (inr (inl h))))))) e = let bad : false ≡ true = ap (λ t. bytes_eq t (codes "rounds")) (sym h) ∙ e in absurd (search rules)
-rounds_row r (inr (inr (inr (inr (inr (inr (inr h))))))) e = let bad : false ≡ true = ap (λ t. bytes_eq t (codes "rounds")) (sym h.0) ∙ e in absurd (search rules)
+rounds_row r good e = by_id (codes "rounds") r e other other (λ h e. h) other other other other other good
 
 reopen_row : (r : Row) → Good r → bytes_eq r.id (codes "reopen") ≡ true → IsFlag (codes "reopen") r
-reopen_row r (inl h) e = let bad : false ≡ true = ap (λ t. bytes_eq t (codes "reopen")) (sym h.0) ∙ e in absurd (search rules)
-reopen_row r (inr (inl h)) e = let bad : false ≡ true = ap (λ t. bytes_eq t (codes "reopen")) (sym h.0) ∙ e in absurd (search rules)
-reopen_row r (inr (inr (inl h))) e = let bad : false ≡ true = ap (λ t. bytes_eq t (codes "reopen")) (sym h.0) ∙ e in absurd (search rules)
-reopen_row r (inr (inr (inr (inl h)))) e = let bad : false ≡ true = ap (λ t. bytes_eq t (codes "reopen")) (sym h.0) ∙ e in absurd (search rules)
-reopen_row r (inr (inr (inr (inr (inl h))))) e = let bad : false ≡ true = ap (λ t. bytes_eq t (codes "reopen")) (sym h) ∙ e in absurd (search rules)
-reopen_row r (inr (inr (inr (inr (inr (inl h)))))) e = let bad : false ≡ true = ap (λ t. bytes_eq t (codes "reopen")) (sym h) ∙ e in absurd (search rules)
-reopen_row r (inr (inr (inr (inr (inr (inr (inl h))))))) e = let bad : false ≡ true = ap (λ t. bytes_eq t (codes "reopen")) (sym h) ∙ e in absurd (search rules)
-reopen_row r (inr (inr (inr (inr (inr (inr (inr h))))))) e = h
+reopen_row r good e = by_id (codes "reopen") r e other other other other other other other (λ h e. h) good
 
 path_values : (r : Row) → Good r → bytes_eq r.id (codes "path") ≡ true → (1 ≤ length r.values) × (length r.values ≤ 8)
-path_values r (inl h) e = let bad : false ≡ true = ap (λ t. bytes_eq t (codes "path")) (sym h.0) ∙ e in absurd (search rules)
-path_values r (inr (inl h)) e = let bad : false ≡ true = ap (λ t. bytes_eq t (codes "path")) (sym h.0) ∙ e in absurd (search rules)
-path_values r (inr (inr (inl h))) e = let bad : false ≡ true = ap (λ t. bytes_eq t (codes "path")) (sym h.0) ∙ e in absurd (search rules)
-path_values r (inr (inr (inr (inl h)))) e = (h.1, h.2)
-path_values r (inr (inr (inr (inr (inl h))))) e = let bad : false ≡ true = ap (λ t. bytes_eq t (codes "path")) (sym h) ∙ e in absurd (search rules)
-path_values r (inr (inr (inr (inr (inr (inl h)))))) e = let bad : false ≡ true = ap (λ t. bytes_eq t (codes "path")) (sym h) ∙ e in absurd (search rules)
-path_values r (inr (inr (inr (inr (inr (inr (inl h))))))) e = let bad : false ≡ true = ap (λ t. bytes_eq t (codes "path")) (sym h) ∙ e in absurd (search rules)
-path_values r (inr (inr (inr (inr (inr (inr (inr h))))))) e = let bad : false ≡ true = ap (λ t. bytes_eq t (codes "path")) (sym h.0) ∙ e in absurd (search rules)
+path_values r good e = by_id (codes "path") r e other other other (λ h e. (h.1, h.2)) other other other other good
 
 abbrev GivesNumber : Text → ℕ → List Row → Type 0
 GivesNumber id most rows = (v : Text) × (one_of id rows ≡ Some v) × IsNumberUpTo most v

@@ -1,5 +1,5 @@
 -- What is printed, one line after another.
-use Rattle.std.proofs.Common.{◌≡◌, ◌∙◌, ◌⊎◌, inl, inr, Bor, ℕ, ◌+◌, ◌<◌, List, [], ◌∷◌, ◌++◌, Result, length, take, get_or, refl, sym, ap, subst}
+use Rattle.std.proofs.Common.{◌≡◌, ◌∙◌, ◌⊎◌, inl, inr, Bor, ℕ, ◌+◌, ◌<◌, List, [], ◌++◌, Result, length, take, get_or, sym, ap, subst}
 use Rattle.std.specs.Prelude.{fold, max}
 use Rattle.std.specs.List.{flat_map}
 use Rattle.std.proofs.KnownBytes.{Appends-nil, Appends-trans}
@@ -11,9 +11,6 @@ use Rattle.station_main.specs.Status.{status_of}
 use Rattle.station_main.specs.Telling.{Tells, Told, cannot_record, fault_line, line_of, pump_lines}
 use Rattle.station_main.specs.declared.faults.Fault.{Fault}
 use Rattle.station_main.specs.declared.faults.Fault.TheVariants as fault
-
-pub tells_nothing : (a : Told) → Tells a a []
-tells_nothing a = record { told = λ well. (well, Appends-nil a.taken) }
 
 pub tells_both : (a b c : Told) (first second : List ℕ) → Tells a b first → Tells b c second → Tells a c (first ++ second)
 tells_both a b c first second p q = record {

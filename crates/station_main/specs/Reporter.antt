@@ -2,12 +2,12 @@
 use Rattle.std.specs.Prelude.{◌≡◌, ℕ, ◌+◌, ◌-◌, ◌*◌, ◌/◌, ◌^◌, ◌≤◌, ◌<◌, ◌⊎◌, ◌&&◌, Bool, true, false, List, [], ◌∷◌, Option, Some, None, IfSome, cond, length, map, min, nat_le, nat_lt, unwrap_or, if◌then◌else◌}
 use Rattle.std.specs.Option.{option_map_or}
 use Rattle.std.specs.Duration.{as_nanos}
+use Rattle.station_report.specs.Sink.{SinkState}
 use Rattle.station_journal.specs.declared.entry.Entry.TheVariants.{Tick}
 use Rattle.station_journal.specs.declared.refusal.Refusal.{Refusal}
 use Rattle.station_desk.specs.History.{Known}
 use Rattle.station_desk.specs.Start.{Start}
 use Rattle.station_shared.specs.Seats.{Seated, Accepted, Refused, Looks}
-use Rattle.station_main.specs.Output.{Printed}
 use Rattle.station_main.specs.Recorded.{IfRecording, Recording, Records, seen_by}
 use Rattle.station_main.specs.Tables.{TakesTexts, failures_after}
 use Rattle.station_main.specs.declared.schedule.Act.{Act}
@@ -113,7 +113,7 @@ pub record KeepsTime (start : Start) (pace : Pace) (due : Due) (moments : List �
 
 -- a reporter whose clock gave these times, from one seat to another, and what is due next; the record goes on with what its
 -- looks have seen
-pub record Reports (start : Start) (tables : Tables) (due next : Due) (moments : List ℕ) (old new : Seated) (before after : Printed) (was is : Option Recording) (has_failed : Bool) : Type 0 where
+pub record Reports (start : Start) (tables : Tables) (due next : Due) (moments : List ℕ) (old new : Seated) (before after : SinkState) (was is : Option Recording) (has_failed : Bool) : Type 0 where
   pub showings : List Showing
   pub shown : Seated
   pub keeps : KeepsTime start tables.pace due moments old showings shown
@@ -147,7 +147,7 @@ MayHandOver start duties None due next old new has_failed = (new ≡ old) × (ne
 MayHandOver start duties (Some at) due next old new has_failed = HandsOver start duties at due next old new has_failed
 
 -- a reporter by some clock, which may ask for a hand-over at its end
-pub record ReportsByAClock (start : Start) (duties : Duties) (next : Due) (asked_at : Option ℕ) (old new : Seated) (before after : Printed) (was is : Option Recording) (has_failed : Bool) : Type 0 where
+pub record ReportsByAClock (start : Start) (duties : Duties) (next : Due) (asked_at : Option ℕ) (old new : Seated) (before after : SinkState) (was is : Option Recording) (has_failed : Bool) : Type 0 where
   pub moments : List ℕ
   pub due : Due
   pub mid : Seated

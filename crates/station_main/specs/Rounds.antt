@@ -1,12 +1,14 @@
 -- What the job `run` leaves: its rounds, one after another.
 use Rattle.std.specs.Prelude.{◌≡◌, ◌≤◌, ◌⊎◌, ℕ, zero, suc, Bool, true, false, List, [], All, length, map, max, reverse, Option, Some, None, Result, Ok, option_map}
+use Rattle.station_portions.specs.Giving.{state_of}
+use Rattle.station_lines.specs.Source.{SourceState}
+use Rattle.station_report.specs.Sink.{SinkState}
 use Rattle.clap.specs.Words.{Text}
 use Rattle.station_journal.specs.declared.entry.Entry.{Entry}
 use Rattle.station_journal.specs.Log.{clock_of}
 use Rattle.station_journal.specs.Resume.{recent_base, recent_of}
 use Rattle.station_desk.specs.History.{base_of}
 use Rattle.station_desk.specs.Start.{Start, log_of}
-use Rattle.station_lines.specs.Drawing.{Drawn}
 use Rattle.station_lines.specs.declared.pumping.PumpFault.{PumpFault}
 use Rattle.station_lines.specs.declared.tally.Tally.{Tally}
 use Rattle.station_shared.specs.Seats.{Seated, newcomer}
@@ -14,9 +16,9 @@ use Rattle.station_main.specs.Inputs.{AreFed}
 use Rattle.station_main.specs.Limits.{program_limits}
 use Rattle.station_main.specs.Recorded.{IfRecording, IsBlank, Recording, RecordsRest}
 use Rattle.station_main.specs.Status.{fault_status, record_status}
-use Rattle.station_main.specs.Output.{Printed, buffered_of}
+use Rattle.station_main.specs.Output.{buffered_of}
 use Rattle.station_main.specs.Reporter.{ReportsByAClock, after_table, not_before}
-use Rattle.station_main.specs.Run.{Closing, Ends, EndsEarly, HavePumped, IsClosed, Leaves, drawn_from}
+use Rattle.station_main.specs.Run.{Closing, Ends, EndsEarly, HavePumped, IsClosed, Leaves}
 use Rattle.station_main.specs.Sums.{AddsEach}
 use Rattle.station_main.specs.Telling.{OutOfMemory, Tells, Told, cannot_record, fault_line, line_of}
 use Rattle.station_main.specs.declared.faults.Fault.TheVariants as fault
@@ -59,7 +61,7 @@ pub record Asked : Type 0 where
 pub record Begun : Type 0 where
   pub given : Given
   pub duties : Duties
-  pub sources : List Drawn
+  pub sources : List SourceState
   pub answers : List (Result Tally PumpFault)
 
 -- an answer that counted nothing
@@ -80,7 +82,7 @@ pub record IsFirst (asked : Asked) (given : Given) (begun : Begun) : Type 0 wher
 
 -- the work of a station: its receivers have pumped the sources, what they counted is added to what was counted before, and it is
 -- closed with all its seats
-pub record Serves (begun : Begun) (start : Start) (closing : Closing) (sources : List Drawn) (answers : List (Result Tally PumpFault)) : Type 0 where
+pub record Serves (begun : Begun) (start : Start) (closing : Closing) (sources : List SourceState) (answers : List (Result Tally PumpFault)) : Type 0 where
   pub goes_on : GoesOnFrom begun.given start
   pub counted : List (Result Tally PumpFault)
   pub pumped : HavePumped start begun.given.entries begun.sources sources closing.receivers counted
@@ -88,7 +90,7 @@ pub record Serves (begun : Begun) (start : Start) (closing : Closing) (sources :
   pub closed : IsClosed start closing
 
 -- the same before the station is closed, with all answers there
-pub record IsServedBy (begun : Begun) (start : Start) (seats : List Seated) (sources : List Drawn) (answers : List (Option (Result Tally PumpFault))) : Type 0 where
+pub record IsServedBy (begun : Begun) (start : Start) (seats : List Seated) (sources : List SourceState) (answers : List (Option (Result Tally PumpFault))) : Type 0 where
   pub goes_on : GoesOnFrom begun.given start
   pub counted : List (Result Tally PumpFault)
   pub answers_are : answers ≡ map Some counted
@@ -103,7 +105,7 @@ pub record KeepsRecent (start : Start) (journal : List Entry) (kept : Given) (wa
 
 -- a station hands over: its reporter asks for it, and prints no further table; the next station is begun with what is recent in its
 -- journal and with the sources as they are, and the next table is due where it was
-pub record IsHandOver (begun next : Begun) (before after : Printed) (was is : Option Recording) : Type 0 where
+pub record IsHandOver (begun next : Begun) (before after : SinkState) (was is : Option Recording) : Type 0 where
   pub start : Start
   pub closing : Closing
   pub serves : Serves begun start closing next.sources next.answers
@@ -117,16 +119,16 @@ pub record IsHandOver (begun next : Begun) (before after : Printed) (was is : Op
 
 -- the last station of a round
 pub record IsLastStation (begun : Begun) (start : Start) (closing : Closing) (before after : Option (List ℕ)) (was is : Option Recording) (err_old err_new : Told) (status : ℕ) : Type 0 where
-  pub sources : List Drawn
+  pub sources : List SourceState
   pub answers : List (Result Tally PumpFault)
   pub serves : Serves begun start closing sources answers
   pub ends : Ends start begun.duties answers (newcomer begun.given.entries (length begun.sources)) closing.reporter before after was is err_old err_new status
 
 -- a station and those after it in its round, the number is that of the hand-overs
-abbrev pub Stations : ℕ → Begun → Start → Closing → Printed → Option (List ℕ) → Option Recording → Option Recording → Told → Told → ℕ → Type 0
+abbrev pub Stations : ℕ → Begun → Start → Closing → SinkState → Option (List ℕ) → Option Recording → Option Recording → Told → Told → ℕ → Type 0
 Stations zero begun start closing before after was is err_old err_new status = IsLastStation begun start closing before.taken after was is err_old err_new status
 Stations (suc more) begun start closing before after was is err_old err_new status =
-    (next : Begun) × (mid : Printed) × (recorded : Option Recording)
+    (next : Begun) × (mid : SinkState) × (recorded : Option Recording)
     × IsHandOver begun next before mid was recorded × Stations more next start closing mid after recorded is err_old err_new status
 
 -- a round, whose last station is this one
@@ -186,7 +188,7 @@ abbrev pub begun_of : {R O : Type 0} → Shift R O → Begun
 begun_of shift = record {
   given = given_of shift.kept;
   duties = shift.duties;
-  sources = map drawn_from shift.inputs.items;
+  sources = map state_of shift.inputs.items;
   answers = shift.answers.items;
 }
 
@@ -194,11 +196,11 @@ begun_of shift = record {
 pub record IsServed {R O : Type 0} (contents : O → Option (List ℕ)) (begun : Begun) (start : Start) (closing : Closing) (before : Option (List ℕ)) (was is : Option Recording) (finished : Finished R O) : Type 0 where
   pub journal : closing.journal ≡ finished.journal.log.entries
   pub log : finished.journal.log ≡ log_of start finished.journal.log.entries
-  pub serves : Serves begun start closing (map drawn_from finished.inputs.items) finished.answers.items
+  pub serves : Serves begun start closing (map state_of finished.inputs.items) finished.answers.items
   pub leaves : Leaves start begun.duties (newcomer begun.given.entries (length begun.sources)) closing.reporter before (contents finished.written.out) was is finished.written.has_failed
 
 -- a station by its answer: it hands over, or its round is over
-abbrev pub EndsStation : {R O : Type 0} → (O → Option (List ℕ)) → Begun → Printed → Option Recording → Option Recording → Ended R O → Type 0
+abbrev pub EndsStation : {R O : Type 0} → (O → Option (List ℕ)) → Begun → SinkState → Option Recording → Option Recording → Ended R O → Type 0
 EndsStation contents begun before was is (HandsOver next) = IsHandOver begun (begun_of next) before (buffered_of contents next.out) was is
 EndsStation contents begun before was is (Finishes finished) =
     (start : Start) × (closing : Closing) × IsServed contents begun start closing before.taken was is finished

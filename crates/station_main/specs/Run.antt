@@ -1,12 +1,13 @@
 -- What a round of the job `run` leaves.
-use Rattle.std.specs.Prelude.{◌≡◌, ◌⊎◌, ℕ, ◌+◌, ◌<◌, Bool, true, false, List, [], ◌∷◌, ◌++◌, Option, Some, None, IfSome, Result, length, slice_index_or, is_err, fold, map, max, unwrap_or, Contains, ⊤}
+use Rattle.std.specs.Prelude.{◌≡◌, ◌⊎◌, ℕ, ◌+◌, ◌<◌, Bool, true, false, List, [], ◌∷◌, ◌++◌, Option, IfSome, Result, length, slice_index_or, is_err, fold, max, unwrap_or, Contains, ⊤}
 use Rattle.std.specs.List.{flat_map}
+use Rattle.station_lines.specs.Source.{SourceState}
+use Rattle.station_report.specs.Sink.{SinkState}
 use Rattle.clap.specs.Words.{Text}
 use Rattle.station_journal.specs.declared.entry.Entry.{Entry}
 use Rattle.station_report.specs.declared.formats.Format.{Format}
 use Rattle.station_report.specs.declared.sinks.WriteFault.{WriteFault}
-use Rattle.station_lines.specs.Drawing.{Drawn}
-use Rattle.station_portions.specs.Giving.{given}
+use Rattle.station_portions.specs.Giving.{state_of}
 use Rattle.station_portions.specs.declared.portions.Portions.{Portions}
 use Rattle.station_desk.specs.Start.{Start}
 use Rattle.station_shared.specs.Seats.{Seated, Looks, new_seat}
@@ -15,7 +16,7 @@ use Rattle.station_shared.specs.Workers.{Worked, Works}
 use Rattle.station_lines.specs.declared.pumping.PumpFault.{PumpFault}
 use Rattle.station_lines.specs.declared.tally.Tally.{Tally}
 use Rattle.station_main.specs.Limits.{most_reads}
-use Rattle.station_main.specs.Output.{GivesBack, Printed}
+use Rattle.station_main.specs.Output.{GivesBack}
 use Rattle.station_main.specs.Recorded.{IfRecording, PrintsAndRecords, Recording, Records, seen_by}
 use Rattle.station_main.specs.Reporter.{IsLater, KeepsTime, MayHandOver, Showing, due_after, looks_of}
 use Rattle.station_main.specs.Status.{fault_status, status_of}
@@ -28,23 +29,19 @@ use Rattle.station_main.specs.declared.schedule.Due.{Due}
 
 -- ---- the receivers
 
--- the view of the source of a path: the bytes given so far, and what it has counted
-abbrev pub drawn_from : {R : Type 0} → Portions R → Drawn
-drawn_from source = record { bytes = record { left = None; given = Some (given source) }; reads = source.reads; ends = source.ends; failures = source.failures }
-
 -- each receiver has pumped its source through its seat to an answer
 pub record HaveWorked {W R : Type 0} (start : Start) (seat : W → Seated) (source : W → Portions R) (answer : W → Option (Result Tally PumpFault)) (old new : List W) : Type 0 where
   pub many : length new ≡ length old
   pub each : (i : ℕ) (d : W) → i < length old → let was = slice_index_or old i d in let is = slice_index_or new i d in
-      Worked start (seat was) (seat is) (drawn_from (source was)) (drawn_from (source is)) most_reads (answer is)
+      Worked start (seat was) (seat is) (state_of (source was)) (state_of (source is)) most_reads (answer is)
 
 -- receivers of these sources, one each in their order, each with a seat of its own that had seen these entries: the sources and
 -- the seats afterwards, and the answers
-pub record HavePumped (start : Start) (entries : List Entry) (old new : List Drawn) (seats : List Seated) (answers : List (Result Tally PumpFault)) : Type 0 where
+pub record HavePumped (start : Start) (entries : List Entry) (old new : List SourceState) (seats : List Seated) (answers : List (Result Tally PumpFault)) : Type 0 where
   pub many_sources : length new ≡ length old
   pub many_seats : length seats ≡ length old
   pub many_answers : length answers ≡ length old
-  pub each : (i : ℕ) (source : Drawn) (seat : Seated) (answer : Result Tally PumpFault) → i < length old
+  pub each : (i : ℕ) (source : SourceState) (seat : Seated) (answer : Result Tally PumpFault) → i < length old
       → Works start (new_seat entries false i) (slice_index_or seats i seat) (slice_index_or old i source) (slice_index_or new i source) most_reads (slice_index_or answers i answer)
 
 -- ---- a closed station
@@ -69,15 +66,15 @@ pub record IsClosed (start : Start) (closing : Closing) : Type 0 where
 -- ---- the last table
 
 -- the last table, if no write failed before
-pub record PrintsMore (format : Format) (start : Start) (old new : Seated) (before : Printed) (after : Option (List ℕ)) (was is : Option Recording) (has_failed : Bool) : Type 0 where
-  pub sink : Printed
+pub record PrintsMore (format : Format) (start : Start) (old new : Seated) (before : SinkState) (after : Option (List ℕ)) (was is : Option Recording) (has_failed : Bool) : Type 0 where
+  pub sink : SinkState
   pub result : Result (Unit {0}) WriteFault
   pub prints : PrintsAndRecords format start old new before sink was is result
   pub gives : GivesBack sink.taken after has_failed
   pub told : is_err result ≡ true → has_failed ≡ true
 
 -- the last table, as a seat sees it, and the output out of its buffer
-abbrev pub PrintsLast : Format → Start → Seated → Seated → Printed → Bool → Option (List ℕ) → Option Recording → Option Recording → Bool → Type 0
+abbrev pub PrintsLast : Format → Start → Seated → Seated → SinkState → Bool → Option (List ℕ) → Option Recording → Option Recording → Bool → Type 0
 PrintsLast format start old new before false after was is has_failed = PrintsMore format start old new before after was is has_failed
 PrintsLast format start old new before true after was is has_failed = (new ≡ old) × (is ≡ was) × GivesBack before.taken after has_failed × (has_failed ≡ true)
 

@@ -1,5 +1,5 @@
 -- What is counted of a path over several stations.
-use Rattle.std.specs.Prelude.{◌≡◌, ℕ, ◌+◌, ◌^◌, ◌≤◌, ◌⊎◌, ⊤, List, [], ◌∷◌, Option, Some, Result, Ok, Err}
+use Rattle.std.specs.Prelude.{◌≡◌, ◌+◌, ◌^◌, ◌≤◌, ◌⊎◌, ⊤, List, [], ◌∷◌, Option, Some, Result, Ok, Err}
 use Rattle.station_lines.specs.Pump.{tally_of_pump}
 use Rattle.station_lines.specs.declared.pumping.PumpFault.{PumpFault}
 use Rattle.station_lines.specs.declared.pumping.PumpFault.TheVariants as pump

@@ -2,13 +2,12 @@
 use Rattle.std.specs.Prelude.{◌≡◌, ℕ, Bool, true, false, List, [], ◌∷◌, ◌++◌, Option, Some, None, Result, Ok}
 use Rattle.std.specs.Io.KnownBytes.{Appends}
 use Rattle.station_journal.specs.declared.entry.Entry.{Entry}
-use Rattle.station_report.specs.Sink.{TakesAll, counted}
+use Rattle.station_report.specs.Sink.{SinkState, TakesAll, counted}
 use Rattle.station_report.specs.declared.formats.Format.{Format}
 use Rattle.station_report.specs.declared.sinks.WriteFault.{WriteFault}
 use Rattle.station_desk.specs.Replay.{table_in}
 use Rattle.station_desk.specs.Start.{Start, log_of}
 use Rattle.station_shared.specs.Seats.{Seated, Looks}
-use Rattle.station_main.specs.Output.{Printed}
 
 -- the table of these entries, in a format
 abbrev pub text_of : Format → Start → List Entry → List ℕ
@@ -17,12 +16,12 @@ text_of format start seen = table_in format (log_of start seen)
 -- ---- one table
 
 -- the seat looks, and the table of all that it has seen by then is written
-pub record Prints (format : Format) (start : Start) (old new : Seated) (before after : Printed) (result : Result (Unit {0}) WriteFault) : Type 0 where
+pub record Prints (format : Format) (start : Start) (old new : Seated) (before after : SinkState) (result : Result (Unit {0}) WriteFault) : Type 0 where
   pub looks : Looks start old new
-  pub takes : TakesAll before.taken after.taken before.failures after.failures (text_of format start new.seen) result
+  pub takes : TakesAll before after (text_of format start new.seen) result
 
 -- the look is refused, and nothing is written
-pub record PassesOver (old new : Seated) (before after : Printed) (result : Result (Unit {0}) WriteFault) : Type 0 where
+pub record PassesOver (old new : Seated) (before after : SinkState) (result : Result (Unit {0}) WriteFault) : Type 0 where
   pub same_seat : new ≡ old
   pub same_sink : after ≡ before
   pub well : result ≡ Ok tt

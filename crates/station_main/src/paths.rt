@@ -1,10 +1,11 @@
 //! The paths of a round, each read by a thread of its own.
 ghost use Rattle.std.specs.Prelude.{◌≡◌, ◌≤◌, List, All, Contains, IfErr, IfOk, length, map};
 ghost use Rattle.std.specs.String.{string_bytes};
+ghost use Rattle.station_portions.specs.Giving.{state_of};
 ghost use Rattle.clap.specs.Words.{Text};
 ghost use Rattle.station_main.specs.Inputs.{AreFed, IsFedBy, path_of};
 ghost use Rattle.station_main.specs.Rounds.{HasNoLines};
-ghost use Rattle.station_main.specs.Run.{IsUnopened, IsUnstarted, drawn_from};
+ghost use Rattle.station_main.specs.Run.{IsUnopened, IsUnstarted};
 
 use crate::faults::Fault;
 use crate::opened::Opened;
@@ -108,7 +109,7 @@ pub fn start_all<'a, R: Threads, W: Wait + Clock + PathHost + Copy + Send + 'sta
 ) -> Result<Started<'a, R>, Fault<'static>>
     ensures inputs { IfOk result (λ started. length started.inputs.items ≡ length files.items) }
     ensures fed { IfOk result (λ started.
-        AreFed (map path_of files.items) (map drawn_from started.inputs.items)) }
+        AreFed (map path_of files.items) (map state_of started.inputs.items)) }
     ensures answers { IfOk result (λ started. length started.answers.items ≡ length files.items) }
     ensures none { IfOk result (λ started. All HasNoLines started.answers.items) }
     ensures unstarted { IfErr result IsUnstarted }
@@ -143,7 +144,7 @@ fn start<'a, R: Threads, W: Wait + Clock + PathHost + Copy + Send + 'static>(
     alloc: Global,
     file: Opened,
 ) -> Result<(PathThread, Input<'a, R>, Arc<HandOver, Global>), Fault<'static>>
-    ensures fed { IfOk result (λ started. IsFedBy (path_of file) (drawn_from started.1)) }
+    ensures fed { IfOk result (λ started. IsFedBy (path_of file) (state_of started.1)) }
     ensures unstarted { IfErr result IsUnstarted }
 {
     let Ok((reader, input, hand_over)) = connect(rt, alloc) else {

@@ -44,55 +44,18 @@ pub fn exit_code<
     ensures memory { IfErr owned (λ kind. kind ≡ ErrorKind.OutOfMemory → exit_status result ≡ 1) }
     ensures text { IfErr owned (λ kind. kind ≢ ErrorKind.OutOfMemory → exit_status result ≡ 2) }
 {
-    let status = answer(rt, own, alloc, owned, input, out, alarms, err);
-    ExitCode::from(status)
-}
-
-// Runs the program on its arguments, and answers the exit status. Of arguments that can't be had, only that is printed.
-fn answer<
-    R: Threads + Wait + Clock + Files<File = File, Dir: Send> + Sync,
-    W: Wait + Clock + PathHost + Copy + Send + 'static,
-    I: Read + Drop,
-    O: Write + Send + Drop,
-    A: Write + Send + Drop,
-    E: Write + Drop,
->(
-    rt: &R,
-    own: W,
-    alloc: Global,
-    owned: Result<Vec<String>, ErrorKind>,
-    input: I,
-    out: O,
-    alarms: Alarms<A>,
-    err: E,
-) -> u8
-    ensures given { IfOk owned (λ words. GivesStatus (map string_bytes words.items) (I.remaining input)
-        (O.Write.contents out) (A.Write.contents alarms.record) (E.Write.contents err) result) }
-    ensures memory { IfErr owned (λ kind. kind ≡ ErrorKind.OutOfMemory → result ≡ 1) }
-    ensures text { IfErr owned (λ kind. kind ≢ ErrorKind.OutOfMemory → result ≡ 2) }
-{
     let mut err = StandardError::new(err);
     let owned = match owned {
         Ok(owned) => owned,
-        Err(ErrorKind::OutOfMemory) => return tell(&mut err, Fault::NoMemory),
-        Err(_) => return not_text(&mut err),
+        Err(ErrorKind::OutOfMemory) => return ExitCode::from(tell(&mut err, Fault::NoMemory)),
+        Err(_) => return ExitCode::from(not_text(&mut err)),
     };
     let Ok(words) = borrowed(alloc, &owned) else {
-        return tell(&mut err, Fault::NoMemory);
+        return ExitCode::from(tell(&mut err, Fault::NoMemory));
     };
-    let origin = milliseconds_since_1970(rt);
-    obey(
-        rt,
-        own,
-        alloc,
-        words.as_slice(),
-        origin,
-        input,
-        out,
-        alarms,
-        &mut err,
-    )
-    .status
+    let (words, origin) = (words.as_slice(), milliseconds_since_1970(rt));
+    let ran = obey(rt, own, alloc, words, origin, input, out, alarms, &mut err);
+    ExitCode::from(ran.status)
 }
 
 fn not_text<E: Write>(err: &mut StandardError<E>) -> u8

@@ -1,7 +1,6 @@
 //! The reporter, which prints the table as its own seat sees it.
 ghost use Rattle.std.specs.Prelude.{◌≡◌, ◌≤◌, ℕ, List, None, false, length, true};
 ghost use Rattle.std.specs.Io.KnownBytes.{Appends};
-ghost use Rattle.station_main.specs.Output.{sink_of};
 ghost use Rattle.station_main.specs.Recorded.{PrintsAndRecords};
 ghost use Rattle.station_main.specs.Reporter.{IsLater, Reports, ReportsByAClock};
 ghost use Rattle.station_main.specs.Tables.{text_of};
@@ -51,14 +50,11 @@ pub struct Given<S, O, K> {
 impl<const N: usize, L: StationName, S: Sink, T: Sink, A: Write> Promise<
     Reported<Seat<N, L>, S, Beside<T, A>>,
 > for Given<Seat<N, L>, S, Beside<T, A>> {
-    ghost use Rattle.station_main.specs.Output.{sink_of};
     ghost use Rattle.station_main.specs.Reporter.{ReportsByAClock};
 
     ghost kept_by = { λ given reported. ReportsByAClock L.start given.duties reported.due reported.asked_at
-        given.seat.value reported.seat
-        (sink_of S.taken S.failures given.out.value) (sink_of S.taken S.failures reported.out)
-        given.beside.value.record reported.beside.record
-        reported.has_failed };
+        given.seat.value reported.seat (S.state given.out.value) (S.state reported.out) given.beside.value.record
+        reported.beside.record reported.has_failed };
 }
 
 /// Ticks, prints the table and records it each time that it is due, in milliseconds since `start`.
@@ -84,9 +80,8 @@ pub fn report<
     out: S,
     beside: Beside<T, A>,
 ) -> Reported<Seat<N, L>, S, Beside<T, A>>
-    ensures { ReportsByAClock L.start duties result.due result.asked_at seat result.seat (sink_of S.taken S.failures out)
-        (sink_of S.taken S.failures result.out) beside.record
-        result.beside.record result.has_failed }
+    ensures { ReportsByAClock L.start duties result.due result.asked_at seat result.seat (S.state out)
+        (S.state result.out) beside.record result.beside.record result.has_failed }
 {
     let mut moments = Since { rt, start };
     let (mut reported, is_full) = report_at(
@@ -146,9 +141,8 @@ fn report_at<
     moments: &mut M,
 ) -> (Reported<Seat<N, L>, S, Beside<T, A>>, bool)
     ensures reports { (given : List ℕ) × Appends (M.given moments.old) (M.given moments.new) given
-        × Reports L.start duties.tables duties.due result.0.due given seat result.0.seat (sink_of S.taken S.failures out)
-        (sink_of S.taken S.failures result.0.out) beside.record
-        result.0.beside.record result.0.has_failed }
+        × Reports L.start duties.tables duties.due result.0.due given seat result.0.seat (S.state out)
+        (S.state result.0.out) beside.record result.0.beside.record result.0.has_failed }
     ensures full { result.1 ≡ true → duties.hand_over_at ≤ length result.0.seat.seen }
     ensures well { result.1 ≡ true → result.0.has_failed ≡ false }
     ensures asked { result.0.asked_at ≡ None }
@@ -242,9 +236,8 @@ pub fn print_and_record<
     out: &mut S,
     beside: &mut Beside<T, A>,
 ) -> (Seat<N, L>, Result<(), WriteFault>)
-    ensures { PrintsAndRecords format L.start seat result.0 (sink_of S.taken S.failures out.old)
-        (sink_of S.taken S.failures out.new) beside.old.record
-        beside.new.record result.1 }
+    ensures { PrintsAndRecords format L.start seat result.0 (S.state out.old)
+        (S.state out.new) beside.old.record beside.new.record result.1 }
 {
     match seat.look() {
         Ok(look) => {
@@ -267,8 +260,7 @@ fn write_table<const N: usize, L: StationName, S: Sink>(
     out: &mut S,
 ) -> (Seat<N, L>, Result<(), WriteFault>)
     ensures seat { result.0 ≡ look }
-    ensures takes { TakesAll (S.taken out.old) (S.taken out.new) (S.failures out.old) (S.failures out.new)
-        (text_of format L.start look.seen) result.1 }
+    ensures takes { TakesAll (S.state out.old) (S.state out.new) (text_of format L.start look.seen) result.1 }
 {
     let written = table_as(format, &look, look.now(), look.entries(), out);
     let seat = look.done();

@@ -1,13 +1,14 @@
 //! The job `run`: its rounds, one after another.
 ghost use Rattle.std.specs.Prelude.{◌≡◌, ◌⊎◌, ◌-◌, ◌≤◌, None, All, IfErr, IfOk, length, map, option_map, reverse};
 ghost use Rattle.std.specs.String.{string_bytes};
+ghost use Rattle.station_portions.specs.Giving.{state_of};
 ghost use Rattle.station_journal.specs.Resume.{IsSound};
 ghost use Rattle.station_main.specs.Inputs.{AreFed};
 ghost use Rattle.station_main.specs.Limits.{program_limits};
 ghost use Rattle.station_main.specs.Output.{buffered_of};
 ghost use Rattle.station_main.specs.Reporter.{after_table};
 ghost use Rattle.station_main.specs.Rounds.{EndsRound, HasNoLines, Runs, RunsAsked, given_of, nothing};
-ghost use Rattle.station_main.specs.Run.{IsEarly, drawn_from};
+ghost use Rattle.station_main.specs.Run.{IsEarly};
 ghost use Rattle.station_main.specs.Telling.{told_of};
 
 use crate::beside::Beside;
@@ -208,7 +209,7 @@ fn prepare<
     ensures kept { IfOk result (λ made. made.1.kept ≡ kept) }
     ensures inputs { IfOk result (λ made. length made.1.inputs.items ≡ length asked.entry.paths.now.items) }
     ensures fed { IfOk result (λ made.
-        AreFed (map string_bytes asked.entry.paths.now.items) (map drawn_from made.1.inputs.items)) }
+        AreFed (map string_bytes asked.entry.paths.now.items) (map state_of made.1.inputs.items)) }
     ensures answers { IfOk result (λ made. length made.1.answers.items ≡ length asked.entry.paths.now.items) }
     ensures none { IfOk result (λ made. All HasNoLines made.1.answers.items) }
     ensures out { IfOk result (λ made. buffered_of O.contents made.1.out

@@ -1,6 +1,6 @@
 //! The threads of a station of the job `run`, and the last table.
 ghost use Rattle.std.specs.Prelude.{◌≡◌, All, IfSome, is_some, true};
-ghost use Rattle.station_main.specs.Output.{buffered_of, sink_of};
+ghost use Rattle.station_main.specs.Output.{buffered_of};
 ghost use Rattle.station_main.specs.Reporter.{ReportsByAClock};
 ghost use Rattle.station_main.specs.Run.{HaveWorked, PrintsLast};
 
@@ -63,11 +63,8 @@ pub fn run_threads<
     ensures answered { IfSome result (λ ended. All (λ r. is_some r.answer ≡ true) ended.0.items) }
     ensures receivers { IfSome result (λ ended. HaveWorked L.start (λ r. r.seat) (λ r. r.source) (λ r. r.answer)
         receivers.entry.items ended.0.items) }
-    ensures reporter { IfSome result (λ ended. ReportsByAClock L.start duties ended.1.due ended.1.asked_at
-        seat ended.1.seat
-        (sink_of S.taken S.failures out) (sink_of S.taken S.failures ended.1.out)
-        beside.record ended.1.beside.record
-        ended.1.has_failed) }
+    ensures reporter { IfSome result (λ ended. ReportsByAClock L.start duties ended.1.due ended.1.asked_at seat
+        ended.1.seat (S.state out) (S.state ended.1.out) beside.record ended.1.beside.record ended.1.has_failed) }
 {
     let bell = Bell::new();
     let ended = &bell;
@@ -84,9 +81,7 @@ pub fn run_threads<
             ensures receivers { IfSome result (λ ended. HaveWorked L.start (λ r. r.seat) (λ r. r.source) (λ r. r.answer)
                 receivers.entry.items ended.0.items) }
             ensures reporter { IfSome result (λ ended. ReportsByAClock L.start duties ended.1.due ended.1.asked_at
-                seat ended.1.seat
-                (sink_of S.taken S.failures out) (sink_of S.taken S.failures ended.1.out)
-                beside.record ended.1.beside.record
+                seat ended.1.seat (S.state out) (S.state ended.1.out) beside.record ended.1.beside.record
                 ended.1.has_failed) }
         {
             let given = Given {

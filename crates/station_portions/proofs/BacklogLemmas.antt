@@ -29,7 +29,3 @@ none_after bytes at none k less is =
 pub copied_front : (copied bytes rest : List ℕ) (m : ℕ) → copied ≡ bytes → length bytes ≤ m → take (length bytes) (take m (copied ++ rest)) ≡ bytes
 copied_front copied bytes rest m is within =
     take-take (length bytes) m (copied ++ rest) within ∙ take_at copied rest (length bytes) (ap length is) ∙ is
-
--- the same of bytes that are equal to them
-pub filled_front : (given copied bytes rest : List ℕ) (m : ℕ) → given ≡ copied → copied ≡ bytes → length bytes ≤ m → take (length bytes) (take m (given ++ rest)) ≡ bytes
-filled_front given copied bytes rest m same is within = copied_front given bytes rest m (same ∙ is) within

@@ -8,6 +8,7 @@ use Rattle.modes_frame.specs.declared.cutter.Cut.{Cut}
 use Rattle.modes_frame.specs.declared.cutter.Cut.TheVariants.{Whole, TooLong}
 use Rattle.modes_frame.specs.Lines.{pieces, cut, cuts, ended_cuts, last_line, pending, after, told}
 use Rattle.modes_frame.proofs.LineLemmas.{none-before, pieces-line_feed, pending-push, ended-push, pending-lengthened, ended-lengthened}
+use Rattle.station_lines.proofs.DrawingLemmas.{cuts-ended}
 use Rattle.station_portions.specs.Batches.{HasNoLineFeed, IsBorder, longest_kept}
 use Rattle.std.specs.Prelude.{Option}
 use Rattle.std.specs.Io.KnownBytes.{Keeps}
@@ -118,10 +119,6 @@ cuts_border xs (inr (front, is)) =
     let e : (pieces xs).rest ≡ [] = ap (λ l. (pieces l).rest) is ∙ ap (λ p. p.rest) (pieces-line_feed front) in
     ap (λ l. map cut ((pieces xs).ended ++ last_line l)) e ∙ ap (map cut) (append-nil (pieces xs).ended)
 
--- the last line is the one that is pending
-last_told : (bytes : List ℕ) → cuts bytes ≡ ended_cuts bytes ++ map cut (last_line (pieces bytes).rest)
-last_told bytes = map-append cut (pieces bytes).ended (last_line (pieces bytes).rest)
-
 -- a line with a byte is not the empty one
 some_cut : (c : ℕ) (cs : List ℕ) → cut [] ≡ cut (c ∷ cs) → ⊥
 some_cut c cs is = elim (cases_Bool (nat_le (length (c ∷ cs)) 64)) [
@@ -142,7 +139,7 @@ pub line_ended : (read sent held : List ℕ) → IsBorder sent → HasNoLineFeed
 line_ended read sent [] border none f =
     ap cuts (append-nil sent) ∙ cuts_border sent border ∙ sym (append-nil (ended_cuts sent)) ∙ sym f.lines
     ∙ sym (append-nil (ended_cuts read)) ∙ ap (λ l. ended_cuts read ++ l) (sym (none_told (pieces read).rest f.begun))
-    ∙ sym (last_told read)
+    ∙ sym (cuts-ended read)
 line_ended read sent (c ∷ cs) border none f =
     let held = c ∷ cs in
     let last = held ++ 10 ∷ [] in
@@ -154,7 +151,7 @@ line_ended read sent (c ∷ cs) border none f =
     ∙ ap (λ l. l ++ pending held ∷ []) (sym f.lines)
     ∙ ap (λ k. ended_cuts read ++ k ∷ []) (none_pending held none)
     ∙ ap (λ l. ended_cuts read ++ l) (sym (some_told c cs (pieces read).rest begun))
-    ∙ sym (last_told read)
+    ∙ sym (cuts-ended read)
 
 -- ---- what was sent
 
@@ -163,14 +160,6 @@ bytes_in-append [] ys = refl
 bytes_in-append (Lines batch ∷ xs) ys =
     ap (λ l. bytes_of batch ++ l) (bytes_in-append xs ys) ∙ sym (append_assoc (bytes_of batch) (bytes_in xs) (bytes_in ys))
 bytes_in-append (Over end ∷ xs) ys = bytes_in-append xs ys
-
--- nothing was sent
-pub sends_nothing : (before : List Message) (held : List ℕ) → SendsOn before before held held
-sends_nothing before held = record {
-  more = [];
-  after_is = sym (append-nil before);
-  keeps = λ read sent border f. subst (λ l. KeepsLines read l held) (sym (append-nil sent)) f;
-}
 
 -- a batch was sent
 pub sends_batch : (before after : List Message) (batch : Batch) (held rest : List ℕ) (border : ℕ) → after ≡ before ++ Lines batch ∷ []
@@ -236,22 +225,6 @@ so_far_sent left new before mid after held now so_far on = record {
       (on.keeps so_far.read (bytes_in so_far.more) (ends_border so_far.more) so_far.keeps);
 }
 
--- a read that failed gave nothing
-pub so_far_failed : (left mid new : Option (List ℕ)) (before after : List Message) (held now : List ℕ) → SentSoFar left mid before after held
-    → Keeps mid new → now ≡ held → SentSoFar left new before after now
-so_far_failed left mid new before after held now so_far keeps same = record {
-  read = so_far.read;
-  more = so_far.more;
-  given = Consumes-kept left mid new so_far.read so_far.given keeps;
-  after_is = so_far.after_is;
-  keeps = subst (KeepsLines so_far.read (bytes_in so_far.more)) (sym same) so_far.keeps;
-}
-
--- a read that gave nothing
-pub held_still : (left new : Option (List ℕ)) (held now : List ℕ) (n : ℕ) → ReadsOn left new held now n → n ≡ 0 → held ≡ now
-held_still left new held now n on zero =
-    let none : on.bytes ≡ [] = nil_from_length on.bytes (on.many ∙ zero) in sym (on.held ∙ ap (λ l. held ++ l) none ∙ append-nil held)
-
 -- the path has ended: its last line was ended and sent
 pub path_sent : (left new : Option (List ℕ)) (before mid after : List Message) (held rest : List ℕ) → SentSoFar left new before mid held → HasNoLineFeed held
     → SendsOn mid after (ended_line held) rest → HasNoLineFeed rest → SendsPath left new before after AtEnd
@@ -301,11 +274,11 @@ same_last (c ∷ cs) other is = sym (some_told c cs other is)
 -- portions that end at a border have the lines of the whole
 pub cuts_portions : (front rest : List ℕ) → IsBorder front → cuts (front ++ rest) ≡ cuts front ++ cuts rest
 cuts_portions front rest border =
-    last_told (front ++ rest)
+    cuts-ended (front ++ rest)
     ∙ ap (λ l. l ++ map cut (last_line (pieces (front ++ rest)).rest)) (ended_border front rest border)
     ∙ append_assoc (ended_cuts front) (ended_cuts rest) (map cut (last_line (pieces (front ++ rest)).rest))
     ∙ ap (λ l. ended_cuts front ++ (ended_cuts rest ++ l)) (sym (same_last (pieces rest).rest (pieces (front ++ rest)).rest (pending_border front rest border)))
-    ∙ ap (λ l. ended_cuts front ++ l) (sym (last_told rest))
+    ∙ ap (λ l. ended_cuts front ++ l) (sym (cuts-ended rest))
     ∙ ap (λ l. l ++ cuts rest) (sym (cuts_border front border))
 
 pub none_in_nothing : (held : List ℕ) → held ≡ [] → HasNoLineFeed held

@@ -85,7 +85,7 @@ impl<R: Wait> Portions<'_, R> {
     ghost use Rattle.std.specs.Prelude.{◌≡◌, [], IfSome, Some};
     ghost use mathlib.Core.List.{IsPrefix};
     ghost use Rattle.rtrb.specs.Ring.{SameConsumer};
-    ghost use Rattle.station_portions.specs.Giving.{given, taken, ungiven};
+    ghost use Rattle.station_portions.specs.Giving.{given, state_of, taken, ungiven};
 
     // Takes the next message, unless a hand-over is requested.
     fn refill(&mut self)
@@ -119,7 +119,7 @@ impl<'a, R> Portions<'a, R> {
     ghost use Rattle.rtrb.specs.Ring.{IsFinishedOf, SameConsumer, all_sent, received};
     ghost use Rattle.station_portions.specs.Messages.{bytes_in};
     ghost use Rattle.station_portions.specs.Batches.{IsBorder};
-    ghost use Rattle.station_portions.specs.Giving.{given, taken, ungiven};
+    ghost use Rattle.station_portions.specs.Giving.{given, state_of, taken, ungiven};
 
     // Takes the messages from here on.
     pub(crate) fn new(
@@ -212,20 +212,10 @@ impl<R: Wait> Source for Portions<'_, R> {
     ghost use Rattle.station_report.specs.Sink.{counted};
     ghost use Rattle.station_lines.specs.Source.{is_end, one_more};
     ghost use Rattle.station_portions.specs.Batches.{IsBorder};
-    ghost use Rattle.station_portions.specs.Giving.{given, taken, ungiven};
+    ghost use Rattle.station_portions.specs.Giving.{given, state_of, taken, ungiven};
     ghost use Rattle.station_portions.specs.declared.message.PathEnd.TheVariants.{ReadFailed};
 
-    ghost left = { λ _. None };
-
-    ghost given = { λ s. Some (given s) };
-
-    ghost reads = { λ s. s.reads };
-
-    ghost ends = { λ s. s.ends };
-
-    ghost failures = { λ s. s.failures };
-
-    ghost at_hand = { λ s. nat_lt 0 (length (ungiven s)) };
+    ghost state = { state_of };
 
     fn is_at_hand(&self) -> bool {
         self.has_bytes()

@@ -1,9 +1,7 @@
 pub mod CommaLemmas
 pub mod CountLemmas
 pub mod DegreeLemmas
-pub mod LineLemmas
 pub mod MemberLemmas
-pub mod PaddingLemmas
 pub mod RootLemmas
 pub mod RowLemmas
 pub mod TakenLemmas

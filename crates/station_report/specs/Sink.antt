@@ -2,6 +2,11 @@
 use Rattle.std.specs.Prelude.{◌≡◌, ℕ, ◌+◌, ◌-◌, ◌^◌, Bool, true, false, List, ◌++◌, Option, Result, MatchResult, is_ok, min}
 use Rattle.std.specs.Io.KnownBytes.{Appends}
 
+-- the bytes that a sink has taken so far, where they are known, and the writes and flushes that failed
+pub record SinkState : Type 0 where
+  pub taken : Option (List ℕ)
+  pub failures : ℕ
+
 -- a stored count after a call: as before where it went well, else one more, up to 2^64 - 1
 abbrev pub counted : Bool → ℕ → ℕ
 counted true n = n
@@ -15,6 +20,6 @@ pub record AppendsFront (old new : Option (List ℕ)) (text : List ℕ) : Type 0
   pub grown : Appends old new front
 
 -- the whole text was taken and nothing failed, or the sink failed once and took a prefix of the text
-pub record TakesAll {E : Type 0} (old new : Option (List ℕ)) (failed_old failed_new : ℕ) (text : List ℕ) (result : Result (Unit {0}) E) : Type 0 where
-  pub bytes : MatchResult result (λ _. Appends old new text) (λ _. AppendsFront old new text)
-  pub failures : failed_new ≡ counted (is_ok result) failed_old
+pub record TakesAll {E : Type 0} (old new : SinkState) (text : List ℕ) (result : Result (Unit {0}) E) : Type 0 where
+  pub bytes : MatchResult result (λ _. Appends old.taken new.taken text) (λ _. AppendsFront old.taken new.taken text)
+  pub failures : new.failures ≡ counted (is_ok result) old.failures

@@ -36,7 +36,7 @@ pub fn table_as<R: PlacedRows, S: Sink>(
     out: &mut S,
 ) -> Result<(), WriteFault>
     requires rows { All (IsPrintableRow now) (R.rows rows.now) }
-    ensures { TakesAll (S.taken out.old) (S.taken out.new) (S.failures out.old) (S.failures out.new)
+    ensures { TakesAll (S.state out.old) (S.state out.new)
         (table_text format (R.rows rows.now) (R.moments rows.now) now entries) result }
 {
     match format {

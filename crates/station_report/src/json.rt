@@ -30,7 +30,7 @@ pub fn table_json<R: PlacedRows, S: Sink>(
     out: &mut S,
 ) -> Result<(), WriteFault>
     requires rows { All (IsPrintableRow now) (R.rows rows.now) }
-    ensures { TakesAll (S.taken out.old) (S.taken out.new) (S.failures out.old) (S.failures out.new)
+    ensures { TakesAll (S.state out.old) (S.state out.new)
         (json (R.rows rows.now) (R.moments rows.now) now origin entries) result }
 {
     write_all(out, head(origin, now, entries).as_slice())?;

@@ -1,8 +1,8 @@
 //! Sinks of bytes.
 
-ghost use Rattle.std.specs.Prelude.{◌≡◌, ℕ, ◌+◌, ◌-◌, ◌^◌, ◌<◌, ◌≤◌, List, Option, IfOk, OnOk, OnErr, is_ok, min, length, take};
+ghost use Rattle.std.specs.Prelude.{◌≡◌, ℕ, ◌<◌, ◌≤◌, List, IfOk, OnOk, OnErr, is_ok, min, length, take};
 ghost use Rattle.std.specs.Io.KnownBytes.{Appends, Keeps, WriteAppends};
-ghost use Rattle.station_report.specs.Sink.{counted, TakesAll};
+ghost use Rattle.station_report.specs.Sink.{SinkState, counted, TakesAll};
 
 /// A read, a write or a flush failed.
 #[derive(Clone, Copy, Debug, PartialEq, Eq)]
@@ -14,29 +14,26 @@ pub struct WriteFault;
 
 /// Takes bytes. Its contract says which bytes it took, and how often it failed.
 pub trait Sink {
-    /// The bytes taken so far, where they are known.
-    ghost taken: { Self → Option (List ℕ) };
-
-    /// The writes and flushes that failed so far, up to 2^64 - 1.
-    ghost failures: { Self → ℕ };
+    /// The bytes taken so far, where they are known, and the writes and flushes that failed, up to 2^64 - 1.
+    ghost state: { Self → SinkState };
 
     /// Takes bytes from the front of `piece` and answers how many: at least one, unless `piece` is empty.
     /// [`Failed`] where it took none.
     fn write(&mut self, piece: &[u8]) -> Result<usize, Failed>
         ensures within { IfOk result (λ n. n ≤ length piece.now) }
         ensures some { 0 < length piece.now → IfOk result (λ n. 0 < n) }
-        ensures bytes { WriteAppends (taken self.old) (taken self.new) result piece.now }
-        ensures failures { failures self.new ≡ counted (is_ok result) (failures self.old) };
+        ensures bytes { WriteAppends (state self.old).taken (state self.new).taken result piece.now }
+        ensures failures { (state self.new).failures ≡ counted (is_ok result) (state self.old).failures };
 
     /// Passes on the bytes taken so far. [`Failed`] where that failed.
     fn flush(&mut self) -> Result<(), Failed>
-        ensures bytes { Keeps (taken self.old) (taken self.new) }
-        ensures failures { failures self.new ≡ counted (is_ok result) (failures self.old) };
+        ensures bytes { Keeps (state self.old).taken (state self.new).taken }
+        ensures failures { (state self.new).failures ≡ counted (is_ok result) (state self.old).failures };
 }
 
 /// Writes a whole piece, and stops at the first failure. The sink has then taken a front of the piece.
 pub fn write_all<S: Sink>(out: &mut S, piece: &[u8]) -> Result<(), WriteFault>
-    ensures { TakesAll (S.taken out.old) (S.taken out.new) (S.failures out.old) (S.failures out.new) piece.now result }
+    ensures { TakesAll (S.state out.old) (S.state out.new) piece.now result }
 {
     let mut at = 0;
     while at < piece.len() {
@@ -51,9 +48,8 @@ pub fn write_all<S: Sink>(out: &mut S, piece: &[u8]) -> Result<(), WriteFault>
 /// Flushes after a text was written. [`WriteFault`] where the flush fails.
 /// Where the text wasn't written, it answers that fault and doesn't flush.
 pub fn flush_after<S: Sink>(written: Result<(), WriteFault>, out: &mut S) -> Result<(), WriteFault>
-    ensures { (before : Option (List ℕ)) (failed : ℕ) (text : List ℕ) →
-        TakesAll before (S.taken out.old) failed (S.failures out.old) text written →
-        TakesAll before (S.taken out.new) failed (S.failures out.new) text result }
+    ensures { (before : SinkState) (text : List ℕ) → TakesAll before (S.state out.old) text written →
+        TakesAll before (S.state out.new) text result }
 {
     if let Err(fault) = written {
         return Err(fault);

@@ -47,9 +47,7 @@ impl<W> ToWrite<W> {
 impl<W: Write> Sink for ToWrite<W> {
     ghost use Rattle.station_report.specs.ToWrite.{writer_of, failure_count};
 
-    ghost taken = { λ s. W.contents (writer_of s) };
-
-    ghost failures = { λ s. failure_count s };
+    ghost state = { λ s. record { taken = W.contents (writer_of s); failures = failure_count s } };
 
     fn write(&mut self, piece: &[u8]) -> Result<usize, Failed> {
         match self.inner.write(piece) {

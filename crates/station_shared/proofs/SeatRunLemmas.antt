@@ -4,9 +4,9 @@ use Rattle.station_journal.specs.declared.entry.Entry.{Entry}
 use Rattle.station_journal.specs.declared.entry.Entry.TheVariants.{Heard}
 use Rattle.station_journal.specs.declared.refusal.Refusal.{Refusal}
 use Rattle.station_lines.specs.Calls.{frames_of}
-use Rattle.station_lines.specs.Drawing.{Drawn}
 use Rattle.station_lines.specs.Feeds.{Feeds}
 use Rattle.station_lines.specs.Pump.{PumpsAll}
+use Rattle.station_lines.specs.Source.{SourceState}
 use Rattle.station_desk.specs.Start.{Start}
 use Rattle.station_shared.specs.Seats.{Seated}
 use Rattle.station_shared.specs.Workers.{SeatSteps, Within, accepted_frames, heard_by, Fed, Works}
@@ -74,7 +74,7 @@ module _ {F : Type 0} (gives : F → List ℕ → Result (Unit {0}) Refusal → 
   seat_steps x y (f ∷ fs) [] s = absurd s
   seat_steps x y (f ∷ fs) (u ∷ us) s = (seat s.0, tells x s.0 f u s.1, seat_steps s.0 y fs us s.2)
 
-  works : (x y : F) (old new : Drawn) (turns : ℕ) (result : Result Tally PumpFault) → PumpsAll gives x y old new turns result → Works start (seat x) (seat y) old new turns result
+  works : (x y : F) (old new : SourceState) (turns : ℕ) (result : Result Tally PumpFault) → PumpsAll gives x y old new turns result → Works start (seat x) (seat y) old new turns result
   works x y old new turns result all =
       let steps = seat_steps x y (frames_of all.lines) all.answers all.feeds in
       let fed = Fed-steps start (seat x) (seat y) (frames_of all.lines) all.answers steps in
@@ -94,7 +94,7 @@ module _ {F : Type 0} (gives : F → List ℕ → Result (Unit {0}) Refusal → 
         accepted = fed.accepted ∙ ap (λ n. (seat x).accepted + n) (sym all.accepted);
       }
 
-pub Works-all : {F : Type 0} {gives : F → List ℕ → Result (Unit {0}) Refusal → F → Type 0} {x y : F} {old new : Drawn} {turns : ℕ} {result : Result Tally PumpFault} → PumpsAll gives x y old new turns result
+pub Works-all : {F : Type 0} {gives : F → List ℕ → Result (Unit {0}) Refusal → F → Type 0} {x y : F} {old new : SourceState} {turns : ℕ} {result : Result Tally PumpFault} → PumpsAll gives x y old new turns result
     → (seat : F → Seated) (start : Start) → ((x y : F) (frame : List ℕ) (answer : Result (Unit {0}) Refusal) → gives x frame answer y → SeatSteps start (seat x) frame answer (seat y)) → Works start (seat x) (seat y) old new turns result
 Works-all {gives} {x} {y} {old} {new} {turns} {result} all seat start tells = works gives seat start tells x y old new turns result all
 

@@ -4,9 +4,9 @@ use Rattle.station_journal.specs.declared.entry.Entry.{Entry}
 use Rattle.station_journal.specs.declared.entry.Entry.TheVariants.{Heard}
 use Rattle.station_journal.specs.declared.refusal.Refusal.{Refusal}
 use Rattle.station_lines.specs.Calls.{frames_of}
-use Rattle.station_lines.specs.Drawing.{Drawn}
 use Rattle.station_desk.specs.History.{Known}
 use Rattle.station_lines.specs.Pump.{PumpsAll, tally_of_pump}
+use Rattle.station_lines.specs.Source.{SourceState}
 use Rattle.station_desk.specs.Start.{Start}
 use Rattle.station_shared.specs.Seats.{Seated, Accepted, Refused}
 use Rattle.station_lines.specs.declared.pumping.PumpFault.{PumpFault}
@@ -46,13 +46,13 @@ pub record Fed (old new : Seated) (frames : List (List ℕ)) (answers : List (Re
 
 -- a pump fed the seat by its steps, whether the answer is a tally or a fault: what the seat has seen since contains the
 -- accepted frames in their order, and it had as many calls accepted as the tally counts
-pub record Works (start : Start) (old new : Seated) (source_old source_new : Drawn) (turns : ℕ) (result : Result Tally PumpFault) : Type 0 where
+pub record Works (start : Start) (old new : Seated) (source_old source_new : SourceState) (turns : ℕ) (result : Result Tally PumpFault) : Type 0 where
   pub pumps : PumpsAll (SeatSteps start) old new source_old source_new turns result
   pub fed : Fed old new (frames_of pumps.lines) pumps.answers
   pub accepted : new.accepted ≡ old.accepted + (tally_of_pump result).accepted
 
 -- the worker has the answer of its pump
-pub record Worked (start : Start) (old new : Seated) (source_old source_new : Drawn) (turns : ℕ) (answer : Option (Result Tally PumpFault)) : Type 0 where
+pub record Worked (start : Start) (old new : Seated) (source_old source_new : SourceState) (turns : ℕ) (answer : Option (Result Tally PumpFault)) : Type 0 where
   pub result : Result Tally PumpFault
   pub answered : answer ≡ Some result
   pub works : Works start old new source_old source_new turns result

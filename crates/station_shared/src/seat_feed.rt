@@ -1,6 +1,5 @@
 //! A station that takes frames through one seat.
 ghost use Rattle.std.specs.Prelude.{◌≡◌};
-ghost use Rattle.station_lines.specs.Drawing.{drawn_of};
 ghost use Rattle.station_shared.specs.Workers.{Works};
 
 use crate::seat::Seat;
@@ -48,9 +47,8 @@ fn pump_lent<const N: usize, L: StationName, S: Source, R: Wait>(
     turns: u32,
 ) -> Result<Tally, PumpFault>
     ensures same_seat { feed.new.seat.ghost_name ≡ feed.old.seat.ghost_name }
-    ensures works { Works L.start feed.old.seat.now feed.new.seat.now
-        (drawn_of S.left S.given S.reads S.ends S.failures from.old)
-        (drawn_of S.left S.given S.reads S.ends S.failures from.new) turns result }
+    ensures works { Works L.start feed.old.seat.now feed.new.seat.now (S.state from.old)
+        (S.state from.new) turns result }
 {
     pump(rt, feed, from, turns)
 }
@@ -63,9 +61,7 @@ pub fn pump_seat<const N: usize, L: StationName, S: Source, R: Wait>(
     from: &mut S,
     turns: u32,
 ) -> Result<Tally, PumpFault>
-    ensures { Works L.start seat.old seat.new
-        (drawn_of S.left S.given S.reads S.ends S.failures from.old)
-        (drawn_of S.left S.given S.reads S.ends S.failures from.new) turns result }
+    ensures { Works L.start seat.old seat.new (S.state from.old) (S.state from.new) turns result }
 {
     let mut feed = SeatFeed { station, seat };
     pump_lent(rt, &mut feed, from, turns)

@@ -1,6 +1,5 @@
 //! Receivers that feed their lines at the same time.
 ghost use Rattle.std.specs.Prelude.{◌≡◌, ◌<◌, ℕ, length, slice_index_or};
-ghost use Rattle.station_lines.specs.Drawing.{drawn_of};
 ghost use Rattle.station_shared.specs.Workers.{Worked};
 
 use crate::held_pump::pump_held;
@@ -36,9 +35,7 @@ fn run_part<const N: usize, S: Source, L: StationName, R: Wait>(
     ensures { (d : _) →
         let old = slice_index_or part.old 0 d in
         let new = slice_index_or part.new 0 d in
-        Worked L.start old.seat new.seat
-        (drawn_of S.left S.given S.reads S.ends S.failures old.source)
-        (drawn_of S.left S.given S.reads S.ends S.failures new.source) turns new.answer }
+        Worked L.start old.seat new.seat (S.state old.source) (S.state new.source) turns new.answer }
 {
     let worker = &mut part[0];
     let answer = pump_held(rt, station, &mut worker.seat, &mut worker.source, turns);
@@ -58,9 +55,7 @@ pub fn run_receivers<
     ensures { (i : ℕ) (d : _) → i < length workers.old →
         let old = slice_index_or workers.old i d in
         let new = slice_index_or workers.new i d in
-        Worked L.start old.seat new.seat
-        (drawn_of S.left S.given S.reads S.ends S.failures old.source)
-        (drawn_of S.left S.given S.reads S.ends S.failures new.source) turns new.answer }
+        Worked L.start old.seat new.seat (S.state old.source) (S.state new.source) turns new.answer }
 {
     thread::for_each_chunk_mut(
         rt,
@@ -71,9 +66,7 @@ pub fn run_receivers<
             ensures { (d : _) →
                 let old = slice_index_or part.old 0 d in
                 let new = slice_index_or part.new 0 d in
-                Worked L.start old.seat new.seat
-                (drawn_of S.left S.given S.reads S.ends S.failures old.source)
-                (drawn_of S.left S.given S.reads S.ends S.failures new.source) turns new.answer }
+                Worked L.start old.seat new.seat (S.state old.source) (S.state new.source) turns new.answer }
         { run_part(rt, station, part, turns) },
     );
 }

@@ -1,12 +1,14 @@
 //! How a station ends: it is closed with all its seats, and may hand over.
 ghost use Rattle.std.specs.Prelude.{◌≡◌, ◌∷◌, ℕ, Option, Some, All, IfErr, IfOk, false, is_some, length, map, true};
+ghost use Rattle.station_portions.specs.Giving.{state_of};
+ghost use Rattle.station_report.specs.Sink.{SinkState};
 ghost use Rattle.station_desk.specs.Start.{log_of};
 ghost use Rattle.station_shared.specs.Seats.{newcomer};
-ghost use Rattle.station_main.specs.Output.{Printed, buffered_of};
+ghost use Rattle.station_main.specs.Output.{buffered_of};
 ghost use Rattle.station_main.specs.Recorded.{Recording};
 ghost use Rattle.station_main.specs.Reporter.{ReportsByAClock};
 ghost use Rattle.station_main.specs.Rounds.{Begun, EndsStation, IsServedBy};
-ghost use Rattle.station_main.specs.Run.{AreNumbered, IsClosed, IsUnstarted, drawn_from};
+ghost use Rattle.station_main.specs.Run.{AreNumbered, IsClosed, IsUnstarted};
 ghost use Rattle.station_main.specs.Sums.{AddsAll};
 
 use crate::beside::Beside;
@@ -58,10 +60,10 @@ pub(super) fn hand_over<
     requires many { length answers.items ≡ length receivers.items }
     requires numbered { AreNumbered L.seats reported.seat (map (λ r. r.seat) receivers.items) }
     ensures unstarted { IfErr result IsUnstarted }
-    ensures ended { (begun : Begun) (at : ℕ) (before : Printed) (was : Option Recording) →
+    ensures ended { (begun : Begun) (at : ℕ) (before : SinkState) (was : Option Recording) →
         begun.duties ≡ duties → begun.answers ≡ answers.items →
         IsServedBy begun L.start (map (λ r. r.seat) receivers.entry.items)
-        (map drawn_from (map (λ r. r.source) receivers.entry.items))
+        (map state_of (map (λ r. r.source) receivers.entry.items))
         (map (λ r. r.answer) receivers.entry.items) →
         ReportsByAClock L.start duties reported.due (Some at)
         (newcomer begun.given.entries (length begun.sources)) reported.seat
@@ -115,10 +117,10 @@ pub(super) fn finish<
     requires many { length answers.items ≡ length receivers.items }
     requires numbered { AreNumbered L.seats reported.seat (map (λ r. r.seat) receivers.items) }
     ensures unstarted { IfErr result IsUnstarted }
-    ensures ended { (begun : Begun) (before : Printed) (was : Option Recording) →
+    ensures ended { (begun : Begun) (before : SinkState) (was : Option Recording) →
         begun.duties ≡ duties → begun.answers ≡ answers.items →
         IsServedBy begun L.start (map (λ r. r.seat) receivers.entry.items)
-        (map drawn_from (map (λ r. r.source) receivers.entry.items))
+        (map state_of (map (λ r. r.source) receivers.entry.items))
         (map (λ r. r.answer) receivers.entry.items) →
         ReportsByAClock L.start duties reported.due reported.asked_at
         (newcomer begun.given.entries (length begun.sources)) reported.seat
@@ -159,8 +161,8 @@ fn close<'a, L: StationName, R: Wait>(
       receivers = map (λ r. r.seat) receivers.entry.items;
       journal = closed.journal.log.entries;
     })) }
-    ensures inputs { IfOk result (λ closed. map drawn_from closed.inputs.items
-        ≡ map drawn_from (map (λ r. r.source) receivers.entry.items)) }
+    ensures inputs { IfOk result (λ closed. map state_of closed.inputs.items
+        ≡ map state_of (map (λ r. r.source) receivers.entry.items)) }
     ensures sums { IfOk result (λ closed.
         AddsAll before.items (map (λ r. r.answer) receivers.entry.items) closed.answers.items) }
 {
@@ -188,8 +190,8 @@ fn part<'a, L: StationName, R: Wait>(
     requires answered { All (λ r. is_some r.answer ≡ true) receivers.items }
     requires many { length before.items ≡ length receivers.items }
     ensures seats { IfOk result (λ parts. parts.0.items ≡ reporter ∷ map (λ r. r.seat) receivers.entry.items) }
-    ensures inputs { IfOk result (λ parts. map drawn_from parts.1.items
-        ≡ map drawn_from (map (λ r. r.source) receivers.entry.items)) }
+    ensures inputs { IfOk result (λ parts. map state_of parts.1.items
+        ≡ map state_of (map (λ r. r.source) receivers.entry.items)) }
     ensures sums { IfOk result (λ parts.
         AddsAll before.items (map (λ r. r.answer) receivers.entry.items) parts.2.items) }
 {

@@ -1,6 +1,5 @@
-use Rattle.std.proofs.Common.{◌≡◌, ◌*◌, ◌-◌, ◌≤◌}
-use Rattle.station_lines.specs.Source.{counted_up, longest_piece}
-use Rattle.station_lines.specs.Drawing.{bytes_of}
+use Rattle.std.proofs.Common.{◌*◌, ◌-◌, ◌≤◌, false}
+use Rattle.station_lines.specs.Source.{longest_piece}
 use Rattle.station_lines.proofs.DrawingLemmas.{GivenSoFar}
 use Rattle.station_lines.proofs.taking.take_lines.Given as goal
 
@@ -12,10 +11,7 @@ invariant-loop-left g l =
     record {
       within : l.left ≤ l.fn.turns;
       room : T.counted l.taker ≤ longest_piece * (l.fn.turns - l.left);
-      so_far : GivenSoFar T.took (bytes_of S.left S.given l.fn.from) (bytes_of S.left S.given l.from) (l.fn.turns - l.left) l.cutter l.fn.taker l.taker;
-      reads : S.reads l.from ≡ counted_up (l.fn.turns - l.left) (S.reads l.fn.from);
-      ends : S.ends l.from ≡ S.ends l.fn.from;
-      failures : S.failures l.from ≡ S.failures l.fn.from;
+      so_far : GivenSoFar T.took (S.state l.fn.from) (S.state l.from) (l.fn.turns - l.left) false l.cutter l.fn.taker l.taker;
     }
 
 abbrev pub decreases-loop-left : goal.decreases-loop-left

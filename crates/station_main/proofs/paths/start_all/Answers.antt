@@ -3,9 +3,9 @@ use Rattle.std.specs.Prelude.{All}
 use Rattle.std.specs.Vec.Iter.{into_iter_items}
 use Rattle.std.proofs.lemmas.List.{length_push}
 use Rattle.std.proofs.lemmas.List.Elements.{All-push}
+use Rattle.station_portions.specs.Giving.{state_of}
 use Rattle.station_main.specs.Inputs.{AreFed, path_of}
 use Rattle.station_main.specs.Rounds.{HasNoLines}
-use Rattle.station_main.specs.Run.{drawn_from}
 use Rattle.station_main.proofs.PartLemmas.{no_items, one_more_fed}
 use Rattle.station_main.proofs.paths.start_all.Goals as goal
 
@@ -27,5 +27,5 @@ pub returns-clause-fed : goal.returns-clause-fed
 returns-clause-fed g c =
     let none : into_iter_items c.loop-file.file-iterator ≡ [] = no_items _ (omega (arith, c.in-None.ensures.steps.0)) in
     let nothing : AreFed [] [] = tt in
-    subst (AreFed (map path_of c.args.files.items)) (append-nil (map drawn_from c.loop-file.inputs.items))
+    subst (AreFed (map path_of c.args.files.items)) (append-nil (map state_of c.loop-file.inputs.items))
     (c.loop-file.invariant.fed [] (subst (λ fs. AreFed (map path_of fs) []) (sym none) nothing))

@@ -1,6 +1,5 @@
 use Rattle.std.proofs.Common.{subst, []}
 use Rattle.std.proofs.KnownBytes.{Appends-nil}
-use Rattle.station_main.specs.Output.{sink_of}
 use Rattle.station_main.proofs.ReportLemmas.{ReportsTo, no_moment, one_more_look, one_more_showing, one_more_sleep, one_more_tick, ticks_of}
 use Rattle.station_main.proofs.reporter.report_at.Goals as goal
 
@@ -16,8 +15,8 @@ loop-preserved-in-Tick g c =
     let station = g.L.StationName.start in
     let given = g.M.Moments.given in
     let now = c.now-now.result in
-    let start = sink_of S.taken S.failures c.args.out in
-    let before = sink_of S.taken S.failures c.loop.out in
+    let start = S.state c.args.out in
+    let before = S.state c.loop.out in
     let first = c.args.beside.record in
     let was = c.loop.beside.record in
     let so_far = one_more_look _ _ _ _ _ _ _ _ _ _ _ _ _ _ (subst (ReportsTo station c.args.duties.tables c.args.duties.due c.loop.due (given c.args.moments.now) (given c.loop.moments) c.args.seat c.loop.seat start before first was) c.if-has_failed.false c.loop.invariant) c.count-looked.ensures.later in
@@ -34,9 +33,9 @@ loop-preserved g c =
     let station = g.L.StationName.start in
     let given = g.M.Moments.given in
     let now = c.now-now.result in
-    let start = sink_of S.taken S.failures c.args.out in
-    let before = sink_of S.taken S.failures c.loop.out in
-    let after = sink_of S.taken S.failures c.print_and_record-shown.new.out in
+    let start = S.state c.args.out in
+    let before = S.state c.loop.out in
+    let after = S.state c.print_and_record-shown.new.out in
     let first = c.args.beside.record in
     let was = c.loop.beside.record in
     let recorded = c.print_and_record-shown.new.beside.record in

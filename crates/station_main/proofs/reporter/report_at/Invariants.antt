@@ -1,4 +1,3 @@
-use Rattle.station_main.specs.Output.{sink_of}
 use Rattle.station_main.proofs.ReportLemmas.{ReportsTo}
 use Rattle.station_main.proofs.reporter.report_at.Given as goal
 
@@ -6,5 +5,5 @@ use Rattle.station_main.proofs.reporter.report_at.Given as goal
 abbrev pub invariant-loop : goal.invariant-loop
 invariant-loop g l =
     let S = g.S.Sink in
-    ReportsTo g.L.StationName.start l.duties.tables l.duties.due l.due (g.M.Moments.given l.fn.moments) (g.M.Moments.given l.moments) l.fn.seat l.seat (sink_of S.taken S.failures l.fn.out) (sink_of S.taken S.failures l.out)
+    ReportsTo g.L.StationName.start l.duties.tables l.duties.due l.due (g.M.Moments.given l.fn.moments) (g.M.Moments.given l.moments) l.fn.seat l.seat (S.state l.fn.out) (S.state l.out)
     l.fn.beside.record l.beside.record l.has_failed

@@ -1,4 +1,4 @@
-use Rattle.std.proofs.Common.{subst, ap, ◌∙◌, length, List, ℕ}
+use Rattle.std.proofs.Common.{subst, ℕ}
 use Rattle.station_journal.specs.Log.{clock_of, placed_of, table_of}
 use Rattle.station_report.specs.Format.{table_text}
 use Rattle.station_report.specs.Sink.{TakesAll}
@@ -14,6 +14,6 @@ returns-clause-takes g c =
     let log = log_of g.L.StationName.start c.args.look.seen in
     let S = g.S.Sink in
     let texts = λ (now entries : ℕ). table_text c.args.format (table_of log) (placed_of log) now entries in
-    let of_now = subst (λ now. TakesAll (S.taken c.args.out.now) (S.taken c.table_as-written.new.out) (S.failures c.args.out.now) (S.failures c.table_as-written.new.out) (texts now c.entries.result) c.table_as-written.result) c.now.ensures.value c.table_as-written.ensures in
-    let takes = subst (λ entries. TakesAll (S.taken c.args.out.now) (S.taken c.table_as-written.new.out) (S.failures c.args.out.now) (S.failures c.table_as-written.new.out) (texts (clock_of log) entries) c.table_as-written.result) c.entries.ensures of_now in
-    c.flush_after.ensures _ _ _ takes
+    let of_now = subst (λ now. TakesAll (S.state c.args.out.now) (S.state c.table_as-written.new.out) (texts now c.entries.result) c.table_as-written.result) c.now.ensures.value c.table_as-written.ensures in
+    let takes = subst (λ entries. TakesAll (S.state c.args.out.now) (S.state c.table_as-written.new.out) (texts (clock_of log) entries) c.table_as-written.result) c.entries.ensures of_now in
+    c.flush_after.ensures _ _ takes

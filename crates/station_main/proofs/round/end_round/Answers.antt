@@ -1,8 +1,8 @@
 use Rattle.std.proofs.Common.{inl, inr, List, Option, subst, sym, arith, map, ◌≡◌}
+use Rattle.station_portions.specs.Giving.{state_of}
 use Rattle.station_journal.specs.declared.entry.Entry.{Entry}
 use Rattle.station_main.specs.Recorded.{Recording}
 use Rattle.station_main.specs.Rounds.{IsLastStation, IsRound, KeepsRecent, given_of}
-use Rattle.station_main.specs.Run.{drawn_from}
 use Rattle.station_main.specs.Telling.{Tells, fault_line, told_of}
 use Rattle.station_main.proofs.round.end_round.Goals as goal
 
@@ -11,7 +11,7 @@ returns-then-is_last g c = λ asked given begun start closing mid before shown w
     let told = c.tell_end-status.ensures in
     let contents = g.O.Write.contents in
     let last : IsLastStation begun start closing mid (contents c.args.finished.written.out) shown c.args.beside.now.record (told_of g.E.Write.contents c.args.err.now) (told_of g.E.Write.contents c.tell_end-status.new.err) c.tell_end-status.result =
-    record { sources = map drawn_from c.args.finished.inputs.items; answers = c.args.finished.answers.items; serves = served.serves; ends = record { has_failed = c.args.finished.written.has_failed; output = served.leaves; told = told.told; status_is = told.value } } in
+    record { sources = map state_of c.args.finished.inputs.items; answers = c.args.finished.answers.items; serves = served.serves; ends = record { has_failed = c.args.finished.written.has_failed; output = served.leaves; told = told.told; status_is = told.value } } in
     rw (c.if-is_last.true, c.ended.ensures.out, c.ended.ensures.status) (told.most, (start, closing, chain _ _ _ last))
 
 pub returns-then-status-gt0 : goal.returns-then-status-gt0
@@ -19,7 +19,7 @@ returns-then-status-gt0 g c = λ asked given begun start closing mid before show
     let told = c.tell_end-status.ensures in
     let contents = g.O.Write.contents in
     let last : IsLastStation begun start closing mid (contents c.args.finished.written.out) shown c.args.beside.now.record (told_of g.E.Write.contents c.args.err.now) (told_of g.E.Write.contents c.tell_end-status.new.err) c.tell_end-status.result =
-    record { sources = map drawn_from c.args.finished.inputs.items; answers = c.args.finished.answers.items; serves = served.serves; ends = record { has_failed = c.args.finished.written.has_failed; output = served.leaves; told = told.told; status_is = told.value } } in
+    record { sources = map state_of c.args.finished.inputs.items; answers = c.args.finished.answers.items; serves = served.serves; ends = record { has_failed = c.args.finished.written.has_failed; output = served.leaves; told = told.told; status_is = told.value } } in
     let one : c.tell_end-status.result ≡ 1 = omega (arith, told.most, c.if-status-gt0.true) in
     rw (c.if-is_last.false, c.ended-then-status-gt0.ensures.out, c.ended-then-status-gt0.ensures.status) (told.most, inl (start, closing, one, chain _ _ _ last))
 
@@ -28,7 +28,7 @@ returns-in-Ok g c = λ asked given begun start closing mid before shown was serv
     let told = c.tell_end-status.ensures in
     let contents = g.O.Write.contents in
     let last : IsLastStation begun start closing mid (contents c.args.finished.written.out) shown c.args.beside.now.record (told_of g.E.Write.contents c.args.err.now) (told_of g.E.Write.contents c.tell_end-status.new.err) c.tell_end-status.result =
-    record { sources = map drawn_from c.args.finished.inputs.items; answers = c.args.finished.answers.items; serves = served.serves; ends = record { has_failed = c.args.finished.written.has_failed; output = served.leaves; told = told.told; status_is = told.value } } in
+    record { sources = map state_of c.args.finished.inputs.items; answers = c.args.finished.answers.items; serves = served.serves; ends = record { has_failed = c.args.finished.written.has_failed; output = served.leaves; told = told.told; status_is = told.value } } in
     let none : c.tell_end-status.result ≡ 0 = omega (arith, c.if-status-gt0.false) in (
       c.if-is_last.false,
       record {
@@ -45,7 +45,7 @@ returns g c = λ asked given begun start closing mid before shown was served cha
     let told = c.tell_end-status.ensures in
     let contents = g.O.Write.contents in
     let last : IsLastStation begun start closing mid (contents c.args.finished.written.out) shown c.args.beside.now.record (told_of g.E.Write.contents c.args.err.now) (told_of g.E.Write.contents c.tell_end-status.new.err) c.tell_end-status.result =
-    record { sources = map drawn_from c.args.finished.inputs.items; answers = c.args.finished.answers.items; serves = served.serves; ends = record { has_failed = c.args.finished.written.has_failed; output = served.leaves; told = told.told; status_is = told.value } } in
+    record { sources = map state_of c.args.finished.inputs.items; answers = c.args.finished.answers.items; serves = served.serves; ends = record { has_failed = c.args.finished.written.has_failed; output = served.leaves; told = told.told; status_is = told.value } } in
     let none : c.tell_end-status.result ≡ 0 = omega (arith, c.if-status-gt0.false) in
     let round = subst (λ status. IsRound asked given start closing before (contents c.args.finished.written.out) was c.args.beside.now.record (told_of g.E.Write.contents c.args.err.now) (told_of g.E.Write.contents c.tell_end-status.new.err) status) none (chain _ _ _ last) in
     rw (c.if-is_last.false, c.ended-in-Err.ensures.out, c.ended-in-Err.ensures.status) (

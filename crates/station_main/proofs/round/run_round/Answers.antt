@@ -1,11 +1,11 @@
 use Rattle.std.proofs.Common.{refl, zero, suc, inr, arith, ap, length, subst, sym, ◌∙◌, ◌≡◌}
 use Rattle.std.specs.Prelude.{option_map}
 use Rattle.std.proofs.lemmas.List.{length-map}
+use Rattle.station_portions.specs.Giving.{state_of}
 use Rattle.station_main.specs.Output.{buffered_of}
-use Rattle.station_main.specs.Rounds.{EndsRound, EndsStation, IsHandOver, IsRound, begun_of}
-use Rattle.station_main.specs.Run.{EndsEarly, drawn_from}
+use Rattle.station_main.specs.Rounds.{EndsRound, IsRound, begun_of}
+use Rattle.station_main.specs.Run.{EndsEarly}
 use Rattle.station_main.specs.Telling.{told_of}
-use Rattle.station_main.specs.declared.shift.Ended.TheVariants.{Finishes, HandsOver}
 use Rattle.station_main.proofs.RoundLemmas.{hand_over_answers, hand_over_sound, over_early}
 use Rattle.station_main.proofs.round.run_round.Goals as goal
 
@@ -22,7 +22,7 @@ loop-init g c = record {
 pub loop-preserved : goal.loop-preserved
 loop-preserved g c =
     let hands = rw c.in-HandsOver.is at c.in-Ok.ensures.ended in
-    let sources : length c.in-HandsOver.next.inputs.items ≡ length c.loop.shift.inputs.items = sym (length-map c.in-HandsOver.next.inputs.items drawn_from) ∙ hands.serves.pumped.many_sources ∙ length-map c.loop.shift.inputs.items drawn_from in
+    let sources : length c.in-HandsOver.next.inputs.items ≡ length c.loop.shift.inputs.items = sym (length-map c.in-HandsOver.next.inputs.items state_of) ∙ hands.serves.pumped.many_sources ∙ length-map c.loop.shift.inputs.items state_of in
     record {
       few = omega (arith, sources, c.loop.invariant.few);
       many = hand_over_answers _ _ _ _ _ _ hands ∙ c.loop.invariant.many ∙ sym sources;

@@ -1,14 +1,13 @@
 use Rattle.std.proofs.Common.{◌-◌, nat_eq}
-use Rattle.station_lines.specs.Drawing.{Gathers, drawn_of}
+use Rattle.station_lines.specs.Drawing.{Gathers}
 use Rattle.station_lines.specs.Piece.{held}
 use Rattle.station_lines.proofs.piece.Piece.gather.Given as goal
 
 -- what the reads so far gave
 abbrev pub invariant-loop-count : goal.invariant-loop-count
 invariant-loop-count g l =
-    let S = g.S.Source in
     record {
-      so_far : Gathers (drawn_of S.left S.given S.reads S.ends S.failures l.fn.from) (drawn_of S.left S.given S.reads S.ends S.failures l.from) l.fn.turns (held l.self) l.reads (nat_eq l.count 0);
+      so_far : Gathers (g.S.Source.state l.fn.from) (g.S.Source.state l.from) l.fn.turns (held l.self) l.reads (nat_eq l.count 0);
     }
 
 abbrev pub decreases-loop-count : goal.decreases-loop-count

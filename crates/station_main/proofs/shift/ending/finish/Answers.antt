@@ -1,6 +1,6 @@
 use Rattle.std.proofs.Common.{map, refl, subst, sym, ◌∙◌}
-use Rattle.station_main.specs.Output.{buffered_of}
-use Rattle.station_main.specs.Run.{Closing, drawn_from}
+use Rattle.station_portions.specs.Giving.{state_of}
+use Rattle.station_main.specs.Run.{Closing}
 use Rattle.station_main.specs.Sums.{AddsAll}
 use Rattle.station_main.proofs.ReceiverLemmas.{last_numbered, serves_by}
 use Rattle.station_main.proofs.RunJobLemmas.{leaves}
@@ -22,7 +22,7 @@ returns-clause-ended g c = λ begun before was duties_are answers_are served rep
       record {
         journal = refl;
         log = c.in_ok-closed.ensures.log;
-        serves = serves_by begun g.L.StationName.start closing (map drawn_from (map (λ r. r.source) receivers)) (map drawn_from c.in_ok-closed.closed.inputs.items) (map (λ r. r.answer) receivers) c.in_ok-closed.closed.answers.items served
+        serves = serves_by begun g.L.StationName.start closing (map state_of (map (λ r. r.source) receivers)) (map state_of c.in_ok-closed.closed.inputs.items) (map (λ r. r.answer) receivers) c.in_ok-closed.closed.answers.items served
             c.in_ok-closed.ensures.inputs (subst (λ before. AddsAll before (map (λ r. r.answer) receivers) c.in_ok-closed.closed.answers.items) (sym answers_are) c.in_ok-closed.ensures.sums) c.in_ok-closed.ensures.closed;
         leaves = rw duties_are (leaves _ _ _ _ _ _ _ _ _ _ _ _ _ _ _ reports c.print_last-reporter.ensures);
       },

@@ -1,7 +1,7 @@
 use Rattle.std.proofs.Common.{◌∙◌, ℕ, ap, length, map, subst, sym}
-use Rattle.station_main.specs.Rounds.{Begun}
+use Rattle.station_portions.specs.Giving.{state_of}
 use Rattle.station_main.specs.Reporter.{not_before}
-use Rattle.station_main.specs.Run.{Closing, drawn_from}
+use Rattle.station_main.specs.Run.{Closing}
 use Rattle.station_main.specs.Sums.{AddsAll}
 use Rattle.station_main.specs.declared.duties.Duties.{Duties}
 use Rattle.station_main.proofs.ReceiverLemmas.{reports_by, serves_by}
@@ -14,7 +14,7 @@ returns-clause-ended g c = λ begun at before was duties_are answers_are served 
     record {
       start = g.L.StationName.start;
       closing = closing;
-      serves = serves_by begun g.L.StationName.start closing (map drawn_from (map (λ r. r.source) receivers)) (map drawn_from c.in_ok-closed.closed.inputs.items) (map (λ r. r.answer) receivers) c.in_ok-closed.closed.answers.items served
+      serves = serves_by begun g.L.StationName.start closing (map state_of (map (λ r. r.source) receivers)) (map state_of c.in_ok-closed.closed.inputs.items) (map (λ r. r.answer) receivers) c.in_ok-closed.closed.answers.items served
           c.in_ok-closed.ensures.inputs (subst (λ before. AddsAll before (map (λ r. r.answer) receivers) c.in_ok-closed.closed.answers.items) (sym answers_are) c.in_ok-closed.ensures.sums) c.in_ok-closed.ensures.closed;
       at = at;
       shown = c.args.reported.beside.record;

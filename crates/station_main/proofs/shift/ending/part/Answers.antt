@@ -1,7 +1,6 @@
-use Rattle.std.proofs.Common.{rules, ◌≡◌, ◌∙◌, ◌∷◌, [], ◌++◌, ⊎_elim, ap, arith, length, map, sym}
-use Rattle.std.specs.Prelude.{All, is_some, true}
+use Rattle.std.proofs.Common.{rules, ◌≡◌, ◌∷◌, [], ◌++◌, ⊎_elim, ap, arith, length, map, sym}
 use Rattle.std.specs.Vec.Iter.{into_iter_items}
-use Rattle.station_main.specs.Run.{drawn_from}
+use Rattle.station_portions.specs.Giving.{state_of}
 use Rattle.station_main.proofs.PartLemmas.{all_done, all_sums, no_items, one_more, one_more_sum, rest_answered}
 use Rattle.station_main.proofs.shift.ending.part.Goals as goal
 
@@ -39,7 +38,7 @@ returns-clause-inputs g c =
     ⊎_elim (λ p. no_items a (omega (arith, p.1.0)))
     (λ p. no_items a (omega (arith, c.loop-receiver.invariant.many, p.1.0)))
     c.in-None.ensures.steps in
-    ap (map drawn_from) (all_done (λ r. r.source) _ _ (into_iter_items c.loop-receiver.receiver-iterator.a) none c.loop-receiver.invariant.inputs)
+    ap (map state_of) (all_done (λ r. r.source) _ _ (into_iter_items c.loop-receiver.receiver-iterator.a) none c.loop-receiver.invariant.inputs)
 
 pub returns-clause-sums : goal.returns-clause-sums
 returns-clause-sums g c =

@@ -1,5 +1,5 @@
 use Rattle.std.proofs.Common.{◌≡◌, ◌++◌, replicate}
-use Rattle.station_report.proofs.lines.push_left.Given as goal
+use Rattle.station_report.proofs.lines.push_spaces.Given as goal
 
 -- the spaces so far
 abbrev pub invariant-loop : goal.invariant-loop

@@ -2,7 +2,7 @@ use Rattle.std.proofs.Common.{length, take, drop, ap, ◌∙◌, arith, nat_eq, 
 use Rattle.std.proofs.lemmas.List.{take_at}
 use Rattle.std.specs.Io.Buffered.{reader_buffer, reader_capacity, reader_inner}
 use Rattle.station_lines.proofs.PieceLemmas.{held_first}
-use Rattle.station_lines.proofs.from_buffer.take_held.Goals as goal
+use Rattle.station_lines.proofs.from_read.take_held.Goals as goal
 
 pub returns-clause-bytes : goal.returns-clause-bytes
 returns-clause-bytes g c =
