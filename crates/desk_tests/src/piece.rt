@@ -1,6 +1,6 @@
 //! Reads gathered to pieces while bytes are at hand.
 use arrayvec::ArrayVec;
-use modes_frame::{Cut, Cutter, Frame, LineReader};
+use modes_frame::{Cut, Cutter, Frame};
 use station_lines::{
     Ended, FrameTaker, FromBuffer, FromRead, LineTaker, PieceTaker, Source, take_each, take_lines,
 };
@@ -22,7 +22,7 @@ impl LineTaker for Lengths {
 
     ghost counted = { λ _. 0 };
 
-    fn take_line(&mut self, _lines: &LineReader, _cut: &Cut) -> Result<(), ()> {
+    fn take_line(&mut self, _cut: &Cut) -> Result<(), ()> {
         Ok(())
     }
 
@@ -38,13 +38,8 @@ impl FrameTaker for Lengths {
 }
 
 impl PieceTaker for Lengths {
-    fn take_piece(
-        &mut self,
-        cutter: &mut Cutter,
-        lines: &LineReader,
-        bytes: &[u8],
-    ) -> Result<(), ()> {
-        let taken = take_each(self, cutter, lines, bytes);
+    fn take_piece(&mut self, cutter: &mut Cutter, bytes: &[u8]) -> Result<(), ()> {
+        let taken = take_each(self, cutter, bytes);
         let _fits = self.lengths.try_push(bytes.len());
         taken
     }

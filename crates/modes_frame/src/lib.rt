@@ -18,6 +18,6 @@ pub use checked_frame::CheckedFrame;
 pub use claims::{CheckFault, Claim};
 pub use cutter::{Cut, Cutter, LineBuf, MAX_LINE};
 pub use frame::Frame;
-pub use line::{Line, LineFault, LineReader, read_line};
+pub use line::{Line, LineFault, read_cut, read_line, read_trimmed};
 pub use parity::remainder;
 pub use plain::PlainLine;

@@ -4,7 +4,7 @@ ghost use Rattle.modes_frame.specs.Plain.{EndsFrame};
 
 use crate::cutter::Cutter;
 use crate::frame::Frame;
-use crate::line::LineReader;
+use crate::line::plain_line;
 
 /// A plain line: `*`, the 14 or 28 digits of a frame, `;` and a line feed, with no blank.
 #[derive(Clone, Copy, Debug, PartialEq, Eq)]
@@ -23,13 +23,13 @@ impl Cutter {
     /// - to any other line,
     /// - to a line that goes on behind the bytes.
     #[inline(always)]
-    pub fn plain_line(&self, lines: &LineReader, bytes: &[u8]) -> Option<PlainLine>
+    pub fn plain_line(&self, bytes: &[u8]) -> Option<PlainLine>
         ensures some { IfSome result (λ line. 0 < line.length) }
         ensures within { IfSome result (λ line. line.length ≤ length bytes.now) }
         ensures ends { IfSome result (λ line. EndsFrame self.now (take line.length bytes.now) line.frame) }
     {
         if self.is_between_lines() {
-            lines.plain_line(bytes)
+            plain_line(bytes)
         } else {
             None
         }

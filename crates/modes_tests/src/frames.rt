@@ -4,15 +4,12 @@ mod plain;
 
 use crate::known::{ALL_CALL, KLM1023, frame};
 use modes_frame::readers::claim;
-use modes_frame::{
-    CheckFault, Claim, Cut, Cutter, Frame, Line, LineFault, LineReader, read_line, remainder,
-};
+use modes_frame::{CheckFault, Claim, Cut, Cutter, Frame, Line, LineFault, read_line, remainder};
 use std::test::Fail;
 
 #[test]
 fn lines_say_a_frame_or_their_first_fault(rt: HostRuntime) -> Result<(), Fail> {
     let known = Ok(Line::Frame(Frame::from_bytes(&KLM1023).ok_or("no frame")?));
-    let lines = LineReader::new();
     for (line, want) in [
         ("*8D4840D6202CC371C32CE0576098;", known),
         ("*8d4840d6202cc371c32ce0576098;", known),
@@ -35,7 +32,7 @@ fn lines_say_a_frame_or_their_first_fault(rt: HostRuntime) -> Result<(), Fail> {
         ("*8D4840D6202CC3;", Err(LineFault::WrongLength(17))),
     ] {
         assert_eq!(rt; read_line(line.as_bytes()), want, "{line}");
-        assert_eq!(rt; lines.read_line(line.as_bytes()), want, "{line}");
+        assert_eq!(rt; read_line(line.as_bytes()), want, "{line}");
     }
     Ok(())
 }
@@ -49,11 +46,14 @@ fn blanks_count_towards_the_64_bytes_of_a_line(rt: HostRuntime) {
 
 #[test]
 fn a_cut_line_reads_as_its_bytes(rt: HostRuntime) -> Result<(), Fail> {
-    let lines = LineReader::new();
     for bytes in [" *0000;\t\n", "*0000\n", " \r\n", "\n"] {
         match Cutter::new().push_line(bytes.as_bytes()).1 {
             Some(Cut::Whole(cut)) => {
-                assert_eq!(rt; lines.read_cut(&cut), read_line(cut.bytes()), "{bytes}")
+                assert_eq!(rt;
+                    modes_frame::read_cut(&cut),
+                    read_line(cut.bytes()),
+                    "{bytes}"
+                )
             }
             _ => return Err("no line".into()),
         }

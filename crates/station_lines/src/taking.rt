@@ -5,7 +5,7 @@ ghost use Rattle.station_lines.specs.Drawing.{TakesBytes, TakesLast, Taken, ende
 
 use crate::piece::Piece;
 use crate::source::Source;
-use modes_frame::{Cut, Cutter, Frame, LineReader};
+use modes_frame::{Cut, Cutter, Frame};
 
 /// Takes lines one after another, and counts them.
 pub trait LineTaker {
@@ -22,7 +22,7 @@ pub trait LineTaker {
     ghost counted: { Self → ℕ };
 
     /// Takes one line.
-    fn take_line(&mut self, lines: &LineReader, cut: &Cut) -> Result<(), Self::Stop>
+    fn take_line(&mut self, cut: &Cut) -> Result<(), Self::Stop>
         requires room { counted self.old + 1 < 2 ^ 64 }
         ensures counted { counted self.new ≤ counted self.old + 1 }
         ensures taken { took self.old (cut.now ∷ []) result self.new };
@@ -57,12 +57,7 @@ pub trait PieceTaker: LineTaker {
     ghost use Rattle.station_lines.specs.Drawing.{TakesBytes};
 
     /// Takes the lines that end in `bytes`. The cutter has the bytes of the first that came before these.
-    fn take_piece(
-        &mut self,
-        cutter: &mut Cutter,
-        lines: &LineReader,
-        bytes: &[u8],
-    ) -> Result<(), Self::Stop>
+    fn take_piece(&mut self, cutter: &mut Cutter, bytes: &[u8]) -> Result<(), Self::Stop>
         requires room { Self.counted self.old + length bytes.now < 2 ^ 64 }
         requires begun { (before : List ℕ) × (cutter.old ≡ pending before) }
         ensures counted { Self.counted self.new ≤ Self.counted self.old + length bytes.now }
@@ -87,7 +82,6 @@ pub enum Ended<E> {
 pub fn take_each<T: FrameTaker>(
     taker: &mut T,
     cutter: &mut Cutter,
-    lines: &LineReader,
     bytes: &[u8],
 ) -> Result<(), T::Stop>
     requires room { T.counted taker.old + length bytes.now < 2 ^ 64 }
@@ -97,7 +91,7 @@ pub fn take_each<T: FrameTaker>(
 {
     let mut at = 0;
     while at < bytes.len() {
-        if let Some(plain) = cutter.plain_line(lines, &bytes[at..]) {
+        if let Some(plain) = cutter.plain_line(&bytes[at..]) {
             at += plain.length;
             taker.take_frame(plain.frame)?;
             continue;
@@ -105,7 +99,7 @@ pub fn take_each<T: FrameTaker>(
         let (taken, cut) = cutter.push_line(&bytes[at..]);
         at += taken;
         match cut {
-            Some(cut) => taker.take_line(lines, &cut)?,
+            Some(cut) => taker.take_line(&cut)?,
             None => {}
         }
     }
@@ -113,17 +107,13 @@ pub fn take_each<T: FrameTaker>(
 }
 
 // Takes a last line without its line feed, unless it is empty.
-fn take_last<T: LineTaker>(
-    taker: &mut T,
-    cutter: &mut Cutter,
-    lines: &LineReader,
-) -> Result<(), T::Stop>
+fn take_last<T: LineTaker>(taker: &mut T, cutter: &mut Cutter) -> Result<(), T::Stop>
     requires room { T.counted taker.old + 1 < 2 ^ 64 }
     ensures taken { (before : List ℕ) → cutter.old ≡ pending before →
         TakesLast T.took before taker.old taker.new result }
 {
     match cutter.finish() {
-        Some(cut) => taker.take_line(lines, &cut),
+        Some(cut) => taker.take_line(&cut),
         None => Ok(()),
     }
 }
@@ -152,7 +142,6 @@ pub fn take_lines<T: PieceTaker, S: Source>(
         taker.old taker.new (stopped_as result) }
 {
     let mut cutter = Cutter::new();
-    let lines = LineReader::new();
     let mut piece = Piece::new();
     let mut left = turns;
     while left > 0 {
@@ -161,12 +150,12 @@ pub fn take_lines<T: PieceTaker, S: Source>(
             Err(_) => return Ended::ReadFailed,
         };
         left -= read.reads;
-        match taker.take_piece(&mut cutter, &lines, piece.as_slice()) {
+        match taker.take_piece(&mut cutter, piece.as_slice()) {
             Ok(()) => {}
             Err(stop) => return Ended::Stopped(stop),
         }
         if read.is_over {
-            return after_the_last(take_last(taker, &mut cutter, &lines));
+            return after_the_last(take_last(taker, &mut cutter));
         }
     }
     Ended::TurnsOver

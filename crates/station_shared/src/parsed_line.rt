@@ -5,7 +5,7 @@ ghost use Rattle.station_shared.specs.ParsedLines.{Parses, parsed_of};
 ghost use Rattle.station_lines.specs.Calls.{heard};
 ghost use Rattle.station_lines.specs.Drawing.{TakesBytes};
 
-use modes_frame::{CheckedFrame, Cut, Cutter, Line, LineReader};
+use modes_frame::{CheckedFrame, Cut, Cutter, Line};
 use station_lines::pumping::read_cut;
 use std::mem::size_of;
 
@@ -25,10 +25,10 @@ pub(crate) enum ParsedLine {
 const _: () = prove!(size_of::<ParsedLine>() <= 40);
 
 /// What a cut line says.
-pub(crate) fn parse(lines: &LineReader, cut: &Cut) -> ParsedLine
+pub(crate) fn parse(cut: &Cut) -> ParsedLine
     ensures { result ≡ parsed_of (heard cut.now) }
 {
-    let line = match read_cut(lines, cut) {
+    let line = match read_cut(cut) {
         Ok(line) => line,
         Err(_) => return ParsedLine::Fault,
     };
@@ -43,7 +43,6 @@ pub(crate) fn parse(lines: &LineReader, cut: &Cut) -> ParsedLine
 /// the place after the last line.
 pub(crate) fn parse_lines(
     cutter: &mut Cutter,
-    lines: &LineReader,
     bytes: &[u8],
     ahead: &mut [ParsedLine],
     from: usize,
@@ -61,7 +60,7 @@ pub(crate) fn parse_lines(
     let mut at = 0;
     let mut count = from;
     while at < bytes.len() && count < to {
-        if let Some(plain) = cutter.plain_line(lines, &bytes[at..]) {
+        if let Some(plain) = cutter.plain_line(&bytes[at..]) {
             at += plain.length;
             let heard = CheckedFrame::of(plain.frame);
             ahead[count] = ParsedLine::Frame(heard);
@@ -72,7 +71,7 @@ pub(crate) fn parse_lines(
         at += taken;
         match cut {
             Some(cut) => {
-                ahead[count] = parse(lines, &cut);
+                ahead[count] = parse(&cut);
                 count += 1;
             }
             None => {}

@@ -2,7 +2,7 @@
 ghost use Rattle.std.specs.Prelude.{◌<◌, ◌≤◌, IfSome};
 
 use crate::known::{KLM1023, KLM1023_LINE};
-use modes_frame::{Cutter, Frame, Line, LineFault, LineReader, PlainLine, read_line};
+use modes_frame::{Cutter, Frame, Line, LineFault, PlainLine, read_line};
 
 #[test]
 fn a_line_of_one_byte_is_blank_or_faulty(rt: HostRuntime) {
@@ -18,20 +18,15 @@ fn a_line_of_one_byte_is_blank_or_faulty(rt: HostRuntime) {
 
 #[test]
 fn all_readers_agree_on_a_line_with_a_byte_replaced(rt: HostRuntime) {
-    let lines = LineReader::new();
     for place in 0..30 {
         for byte in 0..=u8::MAX {
             let mut line = KLM1023_LINE;
             line[place] = byte;
             let want = with_byte(place, byte);
             assert_eq!(rt; read_line(&line[..30]), want, "byte {byte} at {place}");
+            assert_eq!(rt; read_line(&line[..30]), want, "byte {byte} at {place}");
             assert_eq!(rt;
-                lines.read_line(&line[..30]),
-                want,
-                "byte {byte} at {place}"
-            );
-            assert_eq!(rt;
-                Cutter::new().plain_line(&lines, &line),
+                Cutter::new().plain_line(&line),
                 plain(want),
                 "byte {byte} at {place}"
             );
@@ -41,11 +36,10 @@ fn all_readers_agree_on_a_line_with_a_byte_replaced(rt: HostRuntime) {
 
 #[test]
 fn a_plain_line_ends_with_a_line_feed(rt: HostRuntime) {
-    let lines = LineReader::new();
     for byte in 0..=u8::MAX {
         let mut line = KLM1023_LINE;
         line[30] = byte;
-        let seen = Cutter::new().plain_line(&lines, &line);
+        let seen = Cutter::new().plain_line(&line);
         assert_eq!(rt; seen.is_some(), byte == b'\n', "byte {byte}");
     }
 }

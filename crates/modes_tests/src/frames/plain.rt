@@ -1,6 +1,6 @@
 //! Plain lines, and what they are not.
 use crate::known::{ALL_CALL, KLM1023, KLM1023_LINE};
-use modes_frame::{Cut, Cutter, Frame, LineReader, PlainLine};
+use modes_frame::{Cut, Cutter, Frame, PlainLine};
 use std::test::Fail;
 
 #[test]
@@ -13,7 +13,6 @@ fn plain_lines_are_of_17_or_31_bytes(rt: HostRuntime) -> Result<(), Fail> {
         length: 17,
         frame: Frame::from_bytes(&ALL_CALL).ok_or("no frame")?,
     };
-    let lines = LineReader::new();
     for (bytes, want) in [
         ("*8D4840D6202CC371C32CE0576098;\n", Some(long)),
         ("*8d4840d6202cc371c32ce0576098;\n", Some(long)),
@@ -35,21 +34,16 @@ fn plain_lines_are_of_17_or_31_bytes(rt: HostRuntime) -> Result<(), Fail> {
         ("*8D4840D6202CC3;\n", None),
         ("*5D484FDEA248E371C32CE0576098;\n", None),
     ] {
-        assert_eq!(rt;
-            Cutter::new().plain_line(&lines, bytes.as_bytes()),
-            want,
-            "{bytes}"
-        );
+        assert_eq!(rt; Cutter::new().plain_line(bytes.as_bytes()), want, "{bytes}");
     }
     Ok(())
 }
 
 #[test]
 fn a_plain_line_that_goes_on_behind_the_bytes_is_not_seen(rt: HostRuntime) {
-    let lines = LineReader::new();
     for line in [KLM1023_LINE.as_slice(), b"*5D484FDEA248E3;\n"] {
         for count in 0..line.len() {
-            let seen = Cutter::new().plain_line(&lines, &line[..count]);
+            let seen = Cutter::new().plain_line(&line[..count]);
             assert_eq!(rt; seen, None, "{count} of {} bytes", line.len());
         }
     }
@@ -57,7 +51,6 @@ fn a_plain_line_that_goes_on_behind_the_bytes_is_not_seen(rt: HostRuntime) {
 
 #[test]
 fn a_plain_line_behind_a_line_without_its_end_is_not_seen(rt: HostRuntime) {
-    let lines = LineReader::new();
     let mut cutter = Cutter::new();
     for (bytes, cut, is_seen) in [
         (b"*".as_slice(), None, false),
@@ -65,6 +58,6 @@ fn a_plain_line_behind_a_line_without_its_end_is_not_seen(rt: HostRuntime) {
         (b"\n", Some(Cut::TooLong), true),
     ] {
         assert_eq!(rt; cutter.push_line(bytes), (bytes.len(), cut));
-        assert_eq!(rt; cutter.plain_line(&lines, &KLM1023_LINE).is_some(), is_seen);
+        assert_eq!(rt; cutter.plain_line(&KLM1023_LINE).is_some(), is_seen);
     }
 }

@@ -4,7 +4,7 @@ use Rattle.modes_frame.specs.Reading.{line_of}
 use Rattle.modes_frame.specs.declared.line.Line.{Line}
 use Rattle.modes_frame.specs.declared.line.LineFault.{LineFault}
 use Rattle.modes_frame.proofs.RuleLemmas.{reads-short}
-use Rattle.modes_frame.proofs.line.LineReader.read_short.Goals as goal
+use Rattle.modes_frame.proofs.line.read_short.Goals as goal
 
 pub returns-clause-rules : goal.returns-clause-rules
 returns-clause-rules c =

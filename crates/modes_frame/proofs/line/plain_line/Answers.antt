@@ -3,7 +3,7 @@ use Rattle.std.proofs.lemmas.List.{drop-take, take-take}
 use Rattle.hex.specs.Hex.{decode_pairs}
 use Rattle.modes_frame.proofs.LaneLemmas.{zero_or_one}
 use Rattle.modes_frame.proofs.PlainLemmas.{frame-line}
-use Rattle.modes_frame.proofs.line.LineReader.plain_line.Goals as goal
+use Rattle.modes_frame.proofs.line.plain_line.Goals as goal
 
 pub returns-clause-line : goal.returns-clause-line
 returns-clause-line c =
