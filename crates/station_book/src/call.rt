@@ -36,6 +36,7 @@ impl Call {
     }
 
     /// The entry of this call by the seat.
+    #[inline(always)]
     pub fn entry(&self, seat: u8) -> Entry
         ensures { result ≡ entry_of seat self.now }
     {

@@ -9,6 +9,8 @@ use station_book::{Book, Call};
 use station_journal::{Journal, Refusal};
 
 /// Answers why a desk refuses a call, by whatever seat, if it does. `NoMemory` is never the answer.
+// Inlined with what it calls, so that a desk never writes the call to memory.
+#[inline(always)]
 pub(crate) fn verdict<const N: usize>(
     journal: &Journal,
     book: &Book<N>,

@@ -82,6 +82,7 @@ impl<const N: usize> Book<N> {
     }
 
     /// As `offer`, of a call.
+    #[inline(always)]
     pub fn offer_call(&mut self, call: &Call)
         ensures { self.new ≡ offered N self.old call.now }
     {
