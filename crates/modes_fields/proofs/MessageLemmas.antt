@@ -1,12 +1,12 @@
 -- Words of a frame's bytes and of ME against the numbered bits.
 use Rattle.std.proofs.Common.{◌≡◌, ℕ, zero, suc, ◌+◌, ◌-◌, ◌*◌, ◌/◌, ◌%◌, ◌^◌, ◌<◌, ◌≤◌, ◌==◌, Bool, true, false, List, [], ◌∷◌, ◌++◌, length, take, drop, get_or, bit_and, if◌then◌else◌, refl, ap, sym, subst, ◌∙◌, arith, length-drop}
-use Rattle.std.proofs.lemmas.List.{length-take-le, drop-drop, drop-take, take-take}
+use Rattle.std.proofs.lemmas.List.{length-take-le, drop-take, take-take}
 use Rattle.std.proofs.lemmas.Nat.{and_mask, one_shl}
 use Rattle.std.proofs.lemmas.Nat.Bits.{shr_and_one}
 use Rattle.modes_frame.specs.Frames.{byte_bits, bits_of, bit_of}
 use Rattle.modes_fields.specs.Bits.{number, field, code_bits, me_of}
 use Rattle.modes_frame.proofs.BitLemmas.{length-bits_of}
-use Rattle.modes_fields.proofs.NumberLemmas.{number-lt, number-part, field-part, field_of_code, code_bits-number}
+use Rattle.modes_fields.proofs.NumberLemmas.{number-lt, field-part, field_of_code, code_bits-number}
 
 -- ---- the bits of some of the bytes
 
@@ -63,23 +63,6 @@ unfolding me_bytes
 length-bits_of-me_bytes frame long =
     let rest_long : 7 ≤ length (drop 4 frame) = omega (arith, length-drop 4 frame, long) in
     length-bits_of (take 7 (drop 4 frame)) ∙ ap (λ n. 8 * n) (length-take-le 7 (drop 4 frame) rest_long)
-
--- the word of a byte more, without that byte
-pub me_word : (frame : List ℕ) (word : ℕ) → length frame ≡ 14 → word ≡ number (bits_of (take 8 (drop 3 frame)))
-    → bit_and word 0xFFFFFFFFFFFFFF ≡ number (bits_of (take 7 (drop 4 frame)))
-me_word frame word long is =
-    let wide = take 8 (drop 3 frame) in
-    let rest_long : 8 ≤ length (drop 3 frame) = omega (arith, length-drop 3 frame, long) in
-    let wide_len : 8 + 56 + 0 ≡ length (bits_of wide) = sym (length-bits_of wide ∙ ap (λ n. 8 * n) (length-take-le 8 (drop 3 frame) rest_long)) in
-    let inner : take 7 (drop 1 wide) ≡ take 7 (drop 4 frame) =
-    ap (take 7) (drop-take 1 7 (drop 3 frame)) ∙ take-take 7 7 (drop 1 (drop 3 frame)) (omega arith) ∙ ap (take 7) (drop-drop 1 3 frame) in
-    let whole : word / 1 ≡ word = omega arith in
-    and_mask word 56
-    ∙ ap (λ n. n % 2 ^ 56) (sym whole ∙ ap (λ n. n / 1) is)
-    ∙ sym (number-part (bits_of wide) 8 56 0 wide_len)
-    ∙ ap (λ bits. number (take 56 bits)) (drop-bits_of 1 wide)
-    ∙ ap number (take-bits_of 7 (drop 1 wide))
-    ∙ ap (λ bytes. number (bits_of bytes)) inner
 
 pub me_word-lt : (frame : List ℕ) (word : ℕ) → length frame ≡ 14 → word ≡ number (bits_of (take 7 (drop 4 frame))) → word < 2 ^ 56
 unfolding me_bytes

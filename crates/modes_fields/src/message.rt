@@ -51,9 +51,8 @@ impl Message {
         requires { length frame.now ≡ 14 }
         ensures { result ≡ me_of frame.now }
     {
-        // With a byte more it is one load.
         Message {
-            word: word(&frame.bytes()[3..11]) & 0xFF_FFFF_FFFF_FFFF,
+            word: word(&frame.bytes()[4..11]),
         }
     }
 
