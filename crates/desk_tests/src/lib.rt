@@ -10,7 +10,6 @@ mod desk_pump;
 #[cfg(test)]
 mod fakes;
 #[cfg(test)]
-mod from_buffer;
 #[cfg(test)]
 mod from_read;
 #[cfg(test)]

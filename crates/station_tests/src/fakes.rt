@@ -4,6 +4,7 @@ ghost use Rattle.station_desk.specs.History.{base_of};
 ghost use Rattle.station_desk.specs.Desk.{most_aircraft};
 
 use station_desk::Places;
+use station_shared::LimitsMet;
 use std::alloc::Global;
 use std::process::Abort;
 use std::sync::Wait;
@@ -37,6 +38,11 @@ pub fn places_at<const N: usize, R: Wait + Abort>(
         Ok(places) => places,
         Err(_) => Places::new(rt, alloc, base, seats).expect(rt, "the second call has memory"),
     }
+}
+
+/// Whether the journal's limit and the table's have been met.
+pub fn limits_met(journal: bool, table: bool) -> LimitsMet {
+    LimitsMet { journal, table }
 }
 
 /// Pushes an item, for which there is memory.

@@ -1,7 +1,6 @@
 //! Known frames, given to a journal and to a book. Both answer and show the same after each.
 
 mod lists;
-mod placed;
 mod positions;
 mod repeats;
 

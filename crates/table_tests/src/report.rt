@@ -10,7 +10,7 @@ use modes_cpr::{Degrees, Position};
 use modes_fields::Velocity;
 use modes_fields::readers::{callsign, squawk};
 use station_journal::{Aircraft, Rows};
-use station_report::{ToWrite, table};
+use station_report::{PlacedRows, ToWrite, table};
 use std::alloc::Global;
 use std::process::Abort;
 use std::test::Fail;
@@ -29,9 +29,9 @@ const BARE: Aircraft = Aircraft {
     heard: 0,
 };
 
-// A table of one row.
+// A table of one row, and the time of its position.
 #[derive(Drop)]
-struct One(Aircraft);
+struct One(Aircraft, Option<u64>);
 
 impl Rows for One {
     ghost use Rattle.std.specs.Prelude.{[], ◌∷◌};
@@ -44,6 +44,16 @@ impl Rows for One {
 
     fn row(&self, _i: usize) -> Aircraft {
         self.0
+    }
+}
+
+impl PlacedRows for One {
+    ghost use Rattle.std.specs.Prelude.{[], ◌∷◌};
+
+    ghost moments = { λ r. r.1 ∷ [] };
+
+    fn placed(&self, _i: usize) -> Option<u64> {
+        self.1
     }
 }
 
@@ -118,7 +128,11 @@ fn have_their_lines(rt: &impl Abort, alloc: Global, rows: &[Row<'_>]) -> Result<
     for (aircraft, now, line) in rows {
         assert!(rt; is_printable(*now, *aircraft), "{line}");
         let mut sink = ToWrite::new(Vec::new(alloc));
-        assert_eq!(rt; table(&One(*aircraft), *now, &mut sink), Ok(()), "{line}");
+        assert_eq!(rt;
+            table(&One(*aircraft, None), *now, &mut sink),
+            Ok(()),
+            "{line}"
+        );
         let text = format!(in alloc; "now {now} aircraft 1\n{HEADER}{line}\n")?;
         assert_eq!(rt; sink.into_inner().as_slice(), text.as_bytes(), "{line}");
     }

@@ -41,11 +41,9 @@ pub(super) const STREAM: &str = concat!(
     "?",
 );
 
-const AT_THE_END: &str = concat!(
-    "now 320000 aircraft 1\n",
-    "  ADDR CALLSIGN    ALT SQWK     VELOCITY   VERT        LAT        LON AGE\n",
-    "4840D6 KLM1023       -    -            -      -          -          -   0\n",
-);
+const AT_THE_END: &str = tables!("now 320000 aircraft 1" => [
+    "4840D6 KLM1023       -    -            -      -          -          -   0",
+]);
 
 // A desk of three entries takes them all where it forgets, and else three.
 #[test]

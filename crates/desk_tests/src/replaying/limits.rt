@@ -150,9 +150,7 @@ struct Watching<'a> {
 }
 
 impl<'a> Sink for Watching<'a> {
-    ghost taken = { λ _. None };
-
-    ghost failures = { λ _. 0 };
+    ghost state = { λ _. record { taken = None; failures = 0 } };
 
     fn write(&mut self, piece: &[u8]) -> Result<usize, Failed> {
         Ok(piece.len())

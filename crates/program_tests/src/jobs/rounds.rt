@@ -197,22 +197,12 @@ const MOMENTS: [u64; 7] = [
     1_000_000, 1_000_050, 1_004_999, 1_005_000, 1_007_000, 1_009_999, 1_010_000,
 ];
 
-const TABLES_OF_THREE_ROUNDS: &str = concat!(
-    "now 0 aircraft 1\n",
-    "  ADDR CALLSIGN    ALT SQWK     VELOCITY   VERT        LAT        LON AGE\n",
-    "4840D6 KLM1023       -    -            -      -          -          -   0\n",
-    "now 5000 aircraft 1\n",
-    "  ADDR CALLSIGN    ALT SQWK     VELOCITY   VERT        LAT        LON AGE\n",
-    "4840D6 KLM1023       -    -            -      -          -          -   5\n",
-    "now 5000 aircraft 1\n",
-    "  ADDR CALLSIGN    ALT SQWK     VELOCITY   VERT        LAT        LON AGE\n",
-    "4840D6 KLM1023       -    -            -      -          -          -   5\n",
-    "now 10000 aircraft 1\n",
-    "  ADDR CALLSIGN    ALT SQWK     VELOCITY   VERT        LAT        LON AGE\n",
-    "4840D6 KLM1023       -    -            -      -          -          -  10\n",
-    "now 10000 aircraft 1\n",
-    "  ADDR CALLSIGN    ALT SQWK     VELOCITY   VERT        LAT        LON AGE\n",
-    "4840D6 KLM1023       -    -            -      -          -          -  10\n",
+const TABLES_OF_THREE_ROUNDS: &str = tables!(
+    "now 0 aircraft 1" => ["4840D6 KLM1023       -    -            -      -          -          -   0"],
+    "now 5000 aircraft 1" => ["4840D6 KLM1023       -    -            -      -          -          -   5"],
+    "now 5000 aircraft 1" => ["4840D6 KLM1023       -    -            -      -          -          -   5"],
+    "now 10000 aircraft 1" => ["4840D6 KLM1023       -    -            -      -          -          -  10"],
+    "now 10000 aircraft 1" => ["4840D6 KLM1023       -    -            -      -          -          -  10"],
 );
 
 const TALLIES_OF_THREE_ROUNDS: &str = concat!(

@@ -16,12 +16,10 @@ pub const IDENTIFICATION: &str = "*8D4840D6202CC371C32CE0576098;\n";
 
 pub const VELOCITY: &str = "*8D485020994409940838175B284F;\n";
 
-pub const TABLE_OF_BOTH: &str = concat!(
-    "now 0 aircraft 2\n",
-    "  ADDR CALLSIGN    ALT SQWK     VELOCITY   VERT        LAT        LON AGE\n",
-    "4840D6 KLM1023       -    -            -      -          -          -   0\n",
-    "485020 -             -    -      -8/-159   -832          -          -   0\n",
-);
+pub const TABLE_OF_BOTH: &str = tables!("now 0 aircraft 2" => [
+    "4840D6 KLM1023       -    -            -      -          -          -   0",
+    "485020 -             -    -      -8/-159   -832          -          -   0",
+]);
 
 pub const ONE_FRAME_EACH: &str = concat!(
     "lines 1 frames 1 ticks 0 shows 0 blank 0 modeac 0 faults 0 accepted 1 refused 0\n",
@@ -52,17 +50,13 @@ const SECOND_WITHOUT_MEMORY: &str = concat!(
     "groundstation: no memory\n",
 );
 
-pub const TABLE_OF_FIRST: &str = concat!(
-    "now 0 aircraft 1\n",
-    "  ADDR CALLSIGN    ALT SQWK     VELOCITY   VERT        LAT        LON AGE\n",
-    "4840D6 KLM1023       -    -            -      -          -          -   0\n",
-);
+pub const TABLE_OF_FIRST: &str = tables!("now 0 aircraft 1" => [
+    "4840D6 KLM1023       -    -            -      -          -          -   0",
+]);
 
-pub const TABLE_OF_SECOND: &str = concat!(
-    "now 0 aircraft 1\n",
-    "  ADDR CALLSIGN    ALT SQWK     VELOCITY   VERT        LAT        LON AGE\n",
-    "485020 -             -    -      -8/-159   -832          -          -   0\n",
-);
+pub const TABLE_OF_SECOND: &str = tables!("now 0 aircraft 1" => [
+    "485020 -             -    -      -8/-159   -832          -          -   0",
+]);
 
 /// Two files in a folder of their own.
 #[derive(Drop)]

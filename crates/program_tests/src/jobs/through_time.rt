@@ -9,17 +9,12 @@ use std::thread::join;
 
 const HEADER: &str = "  ADDR CALLSIGN    ALT SQWK     VELOCITY   VERT        LAT        LON AGE\n";
 
-const TABLES_OF_NOBODY: &str = concat!(
-    "now 100 aircraft 0\n",
-    "  ADDR CALLSIGN    ALT SQWK     VELOCITY   VERT        LAT        LON AGE\n",
-    "now 200 aircraft 0\n",
-    "  ADDR CALLSIGN    ALT SQWK     VELOCITY   VERT        LAT        LON AGE\n",
-    "now 60205 aircraft 0\n",
-    "  ADDR CALLSIGN    ALT SQWK     VELOCITY   VERT        LAT        LON AGE\n",
-    "now 60305 aircraft 0\n",
-    "  ADDR CALLSIGN    ALT SQWK     VELOCITY   VERT        LAT        LON AGE\n",
-    "now 60305 aircraft 0\n",
-    "  ADDR CALLSIGN    ALT SQWK     VELOCITY   VERT        LAT        LON AGE\n",
+const TABLES_OF_NOBODY: &str = tables!(
+    "now 100 aircraft 0" => [],
+    "now 200 aircraft 0" => [],
+    "now 60205 aircraft 0" => [],
+    "now 60305 aircraft 0" => [],
+    "now 60305 aircraft 0" => [],
 );
 
 // The clock starts at 1,000,000 ms. It shows the millisecond before each table is due and the one when it is, and skips

@@ -6,11 +6,9 @@ use std::alloc::{AllocError, Global};
 use std::sync::atomic::AtomicBool;
 use std::test::*;
 
-const TABLE: &str = concat!(
-    "now 70000 aircraft 1\n",
-    "  ADDR CALLSIGN    ALT SQWK     VELOCITY   VERT        LAT        LON AGE\n",
-    "4840D6 KLM1023       -    -            -      -          -          -   0\n",
-);
+const TABLE: &str = tables!("now 70000 aircraft 1" => [
+    "4840D6 KLM1023       -    -            -      -          -          -   0",
+]);
 
 // A clock of 71 seconds, which starts at 1,000,000 ms.
 fn seconds(alloc: Global) -> Result<Vec<u64>, AllocError> {

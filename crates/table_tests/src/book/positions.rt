@@ -1,11 +1,11 @@
-//! Positions of pairs of places.
+//! Positions of pairs of places, and their times: that of the newest place that gave one.
 
 use crate::book::compare;
 use crate::calls::Call::{self, Hear, Tick};
-use crate::known::{EVEN, FAR, ODD};
+use crate::known::{EVEN, FAR, IDENTIFICATION, ODD};
 use modes_cpr::{Degrees, Position};
 use station_book::Book;
-use station_journal::{Aircraft, Rows};
+use station_journal::{Aircraft, PlacedRows, Rows};
 use std::test::Fail;
 
 fn hundred_thousandths(degrees: Degrees) -> i128 {
@@ -28,26 +28,39 @@ fn position(row: &Aircraft) -> Option<(i128, i128)> {
     Some(shown(row.position?))
 }
 
-const NEWEST_ODD: Option<(i128, i128)> = Some((5_226_578, 393_891));
+const NEWEST_ODD: (i128, i128) = (5_226_578, 393_891);
 
-const NEWEST_EVEN: Option<(i128, i128)> = Some((5_225_720, 391_937));
+const NEWEST_EVEN: (i128, i128) = (5_225_720, 391_937);
 
-// Calls, and of 40621D then the time of its newest frame in milliseconds and its position. Each place is at 38,000 feet.
-const STORIES: &[(&[Call], u64, Option<(i128, i128)>)] = &[
-    (&[Hear(EVEN), Hear(ODD)], 0, NEWEST_ODD),
-    (&[Hear(ODD), Hear(EVEN)], 0, NEWEST_EVEN),
+// An all-call reply of 40621D, which carries no place.
+const REPLY: &[u8] = &[0x5D, 0x40, 0x62, 0x1D, 0x4F, 0x94, 0xD0];
+
+const PLACED_AT_3000: [Call; 4] = [Tick(1000), Hear(EVEN), Tick(3000), Hear(ODD)];
+
+// Calls, and of 40621D then the time of its newest frame in milliseconds and its position with its time. Each place is at
+// 38,000 feet.
+const STORIES: &[(&[Call], u64, Option<((i128, i128), u64)>)] = &[
+    (&[Hear(EVEN), Hear(ODD)], 0, Some((NEWEST_ODD, 0))),
+    (&[Hear(ODD), Hear(EVEN)], 0, Some((NEWEST_EVEN, 0))),
     (&[Hear(EVEN)], 0, None),
+    (&PLACED_AT_3000, 3000, Some((NEWEST_ODD, 3000))),
+    (
+        &[Tick(1000), Hear(ODD), Tick(3000), Hear(EVEN)],
+        3000,
+        Some((NEWEST_EVEN, 3000)),
+    ),
     // The places of a pair are at most 10,000 ms apart.
     (
         &[Tick(1), Hear(EVEN), Tick(10_001), Hear(ODD)],
         10_001,
-        NEWEST_ODD,
+        Some((NEWEST_ODD, 10_001)),
     ),
     (
         &[Tick(1), Hear(EVEN), Tick(10_002), Hear(ODD)],
         10_002,
         None,
     ),
+    // A later pair gives a later time.
     (
         &[
             Tick(1),
@@ -58,7 +71,7 @@ const STORIES: &[(&[Call], u64, Option<(i128, i128)>)] = &[
             Hear(EVEN),
         ],
         9000,
-        NEWEST_EVEN,
+        Some((NEWEST_EVEN, 9000)),
     ),
     // An aircraft that was swept begins anew.
     (
@@ -74,33 +87,24 @@ const STORIES: &[(&[Call], u64, Option<(i128, i128)>)] = &[
     (
         &[Tick(1), Hear(EVEN), Tick(5000), Hear(ODD), Tick(65_000)],
         5000,
-        NEWEST_ODD,
+        Some((NEWEST_ODD, 5000)),
     ),
-    // A pair that gives no position leaves the one before to age.
+];
+
+// How a position ages: the calls after a pair, and then the times of the newest frame and of the position.
+const AGES: &[(&[Call], u64, Option<u64>)] = &[
+    // Frames without a place keep the time.
+    (&[Tick(20_000), Hear(REPLY)], 20_000, Some(3000)),
     (
-        &[
-            Tick(1000),
-            Hear(EVEN),
-            Hear(ODD),
-            Tick(2000),
-            Hear(FAR),
-            Tick(61_000),
-        ],
-        2000,
-        NEWEST_ODD,
+        &[Tick(20_000), Hear(REPLY), Tick(63_000)],
+        20_000,
+        Some(3000),
     ),
-    (
-        &[
-            Tick(1000),
-            Hear(EVEN),
-            Hear(ODD),
-            Tick(2000),
-            Hear(FAR),
-            Tick(61_001),
-        ],
-        2000,
-        None,
-    ),
+    (&[Tick(20_000), Hear(REPLY), Tick(63_001)], 20_000, None),
+    // So does a pair that gives no position.
+    (&[Tick(4000), Hear(FAR)], 4000, Some(3000)),
+    (&[Tick(4000), Hear(FAR), Tick(63_000)], 4000, Some(3000)),
+    (&[Tick(4000), Hear(FAR), Tick(63_001)], 4000, None),
 ];
 
 #[test]
@@ -109,10 +113,45 @@ fn pairs_of_places(rt: HostRuntime) -> Result<(), Fail> {
         let book: Book<4> = compare(&rt, rt.alloc(), *calls)?;
         let row = book.get(0x40621D).ok_or("no aircraft")?;
         assert_eq!(rt; (row.heard, row.altitude), (*heard, Some(38_000)));
-        assert_eq!(rt; position(&row), *wanted);
+        assert_eq!(rt; position(&row), wanted.map(|w| w.0));
+        assert_eq!(rt; book.placed(0), wanted.map(|w| w.1));
     }
     let calls = [Tick(1), Hear(EVEN), Tick(5000), Hear(ODD), Tick(65_001)];
     let book: Book<4> = compare(&rt, rt.alloc(), &calls)?;
     assert_eq!(rt; book.len(), 0);
+    Ok(())
+}
+
+#[test]
+fn positions_age(rt: HostRuntime) -> Result<(), Fail> {
+    for (later, heard, placed) in AGES {
+        let mut calls = Vec::new(rt.alloc());
+        calls.extend_from_slice(&PLACED_AT_3000)?;
+        calls.extend_from_slice(*later)?;
+        let book: Book<4> = compare(&rt, rt.alloc(), calls.as_slice())?;
+        let row = book.get(0x40621D).ok_or("no aircraft")?;
+        assert_eq!(rt; row.heard, *heard);
+        assert_eq!(rt; position(&row), placed.map(|_| NEWEST_ODD));
+        assert_eq!(rt; book.placed(0), *placed);
+    }
+    Ok(())
+}
+
+#[test]
+fn each_row_has_its_own_time(rt: HostRuntime) -> Result<(), Fail> {
+    let calls = [
+        Hear(IDENTIFICATION),
+        Hear(EVEN),
+        Tick(4000),
+        Hear(ODD),
+        Hear(IDENTIFICATION),
+    ];
+    let book: Book<4> = compare(&rt, rt.alloc(), &calls)?;
+    assert_eq!(rt; book.len(), 2);
+    assert_eq!(rt;
+        (book.row(0).address, book.placed(0)),
+        (0x40621D, Some(4000))
+    );
+    assert_eq!(rt; (book.row(1).address, book.placed(1)), (0x4840D6, None));
     Ok(())
 }

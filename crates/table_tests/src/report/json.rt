@@ -1,39 +1,11 @@
 //! Tables as JSON, with known texts.
 
-use super::{BARE, identified, is_printable, over_ground, placed, squawking, through_air};
+use super::{BARE, One, identified, is_printable, over_ground, placed, squawking, through_air};
 use station_journal::{Aircraft, Rows};
 use station_report::{PlacedRows, ToWrite, table_json};
 use std::alloc::Global;
 use std::process::Abort;
 use std::test::Fail;
-
-// A table of one row, and the time of its position.
-#[derive(Drop)]
-struct OnePlaced(Aircraft, Option<u64>);
-
-impl Rows for OnePlaced {
-    ghost use Rattle.std.specs.Prelude.{[], ◌∷◌};
-
-    ghost rows = { λ r. r.0 ∷ [] };
-
-    fn len(&self) -> usize {
-        1
-    }
-
-    fn row(&self, _i: usize) -> Aircraft {
-        self.0
-    }
-}
-
-impl PlacedRows for OnePlaced {
-    ghost use Rattle.std.specs.Prelude.{[], ◌∷◌};
-
-    ghost moments = { λ r. r.1 ∷ [] };
-
-    fn placed(&self, _i: usize) -> Option<u64> {
-        self.1
-    }
-}
 
 // A table of two rows without positions.
 #[derive(Drop)]
@@ -71,7 +43,7 @@ fn have_their_objects(rt: &impl Abort, alloc: Global, rows: &[Row<'_>]) -> Resul
     for (aircraft, at, now, seconds, object) in rows {
         assert!(rt; is_printable(*now, *aircraft), "{object}");
         let mut sink = ToWrite::new(Vec::new(alloc));
-        let table = OnePlaced(*aircraft, *at);
+        let table = One(*aircraft, *at);
         assert_eq!(rt;
             table_json(&table, *now, 0, 7, &mut sink),
             Ok(()),
@@ -214,7 +186,7 @@ fn heard_last() -> Aircraft {
 
 #[test]
 fn the_sum_of_the_largest_times_does_not_wrap(rt: HostRuntime) -> Result<(), Fail> {
-    let table = OnePlaced(heard_last(), None);
+    let table = One(heard_last(), None);
     assert!(rt; is_printable(u64::MAX, table.0));
     let mut sink = ToWrite::new(Vec::new(rt.alloc()));
     assert_eq!(rt;

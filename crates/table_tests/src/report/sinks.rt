@@ -60,7 +60,11 @@ fn a_writer_without_room_for_the_last_byte_has_failed(rt: HostRuntime) -> Result
     for (room, outcome) in [(164, Err(WriteFault)), (165, Ok(()))] {
         let mut bytes = [0u8; 165];
         let mut sink = ToWrite::new(&mut bytes[..room]);
-        assert_eq!(rt; table(&One(identified(0)), 0, &mut sink), outcome, "{room}");
+        assert_eq!(rt;
+            table(&One(identified(0), None), 0, &mut sink),
+            outcome,
+            "{room}"
+        );
         assert_eq!(rt; &bytes[..room], &text.as_bytes()[..room], "{room}");
     }
     Ok(())
