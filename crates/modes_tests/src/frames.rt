@@ -4,7 +4,9 @@ mod plain;
 
 use crate::known::{ALL_CALL, KLM1023, frame};
 use modes_frame::readers::claim;
-use modes_frame::{CheckFault, Claim, Cut, Cutter, Frame, Line, LineFault, read_line, remainder};
+use modes_frame::{
+    CheckFault, CheckedFrame, Claim, Cut, Cutter, Frame, Line, LineFault, read_line, remainder,
+};
 use std::test::Fail;
 
 #[test]
@@ -139,11 +141,12 @@ fn frames_speak_for_an_address(rt: HostRuntime) -> Result<(), Fail> {
         ("*2A00516D492B80;", 0x51_0AF9, true),
         ("*00000000000000;", 0, true),
     ] {
-        assert_eq!(rt;
-            claim(&frame(line)?),
-            Ok(Claim { address, overlaid }),
-            "{line}"
-        );
+        let wanted = Ok(Claim { address, overlaid });
+        let heard = frame(line)?;
+        assert_eq!(rt; claim(&heard), wanted, "{line}");
+        let checked = CheckedFrame::of(heard);
+        assert_eq!(rt; checked.claim(), wanted, "{line}");
+        assert_eq!(rt; *checked.frame(), heard);
     }
     Ok(())
 }

@@ -133,6 +133,7 @@ impl<const N: usize> Book<N> {
     }
 
     // Applies the frame, if it fits.
+    #[inline(always)]
     fn offer_frame(&mut self, heard: &CheckedFrame)
         requires few { self.old.entries < most_entries }
         ensures { self.new ≡ offered N self.old (call.Heard heard.now) }
