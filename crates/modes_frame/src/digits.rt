@@ -1,5 +1,5 @@
 //! Hexadecimal digits.
-ghost use Rattle.std.specs.Prelude.{◌≡◌, ◌≤◌, ◌<◌, ◌+◌, ◌-◌, ◌*◌, ◌/◌, ◌++◌, IfSome, IsTrue, Ok, length, slice_index, map, take, drop};
+ghost use Rattle.std.specs.Prelude.{◌≡◌, ◌≤◌, ◌<◌, ◌+◌, ◌-◌, ◌*◌, ◌/◌, ◌++◌, ◌⊎◌, IfSome, IsTrue, Ok, length, slice_index, map, take, drop};
 ghost use Rattle.std.specs.Simd.Lanes.{Each1};
 ghost use Rattle.hex.specs.Hex.{decode_pairs};
 ghost use Rattle.modes_frame.specs.Frames.{IsFrame};
@@ -93,4 +93,24 @@ pub(crate) fn enclosed_frame(line: &[u8], longer: usize) -> Option<Frame>
         return None;
     }
     Some(Frame::from_padded(7 + 7 * longer as u8, paired(front, back, longer)))
+}
+
+// The frame that these digits write, if all are digits, and as many as the first says.
+#[inline(always)]
+pub(crate) fn digits_frame(digits: &[u8]) -> Option<Frame>
+    ensures value { IfSome result (λ frame. decode_pairs 0 digits.now ≡ Ok frame) }
+    ensures frame { IfSome result (λ frame. IsFrame frame) }
+    ensures few { IfSome result (λ frame. (length digits.now ≡ 14) ⊎ (length digits.now ≡ 28)) }
+{
+    if digits.is_empty() {
+        return None;
+    }
+    let longer = longer(digits[0]);
+    let count = 14 + 14 * longer;
+    if digits.len() != count {
+        return None;
+    }
+    let mut line = [0; 31];
+    line[1..count + 1].copy_from_slice(digits);
+    enclosed_frame(&line[..count + 3], longer)
 }

@@ -25,7 +25,8 @@ pub fn claim(frame: &Frame) -> Result<Claim, CheckFault>
     }
     let is_overlaid = remainders == OVERLAID;
     let announced = announced_address(frame);
-    if !is_overlaid & ((announced == 0) | (announced == 0xFF_FFFF)) {
+    // 2 or more, but for 0 and 0xFFFFFF in a format that isn't overlaid.
+    if (announced + 1) % OVERLAID + remainders / OVERLAID * 2 < 2 {
         return Err(CheckFault::Unassigned(announced));
     }
     Ok(Claim {

@@ -14,7 +14,7 @@ use crate::output::{Ran, Written, give_up, unbuffered, without_output};
 use crate::standard_error::StandardError;
 use station_desk::replay_forgetting;
 use station_report::{Format, ToWrite};
-use station_shared::{Desk, FromRead, ReplayFault, Tally};
+use station_shared::{Desk, FromBuffer, ReplayFault, Tally};
 use std::alloc::Global;
 use std::io::{BufReader, BufWriter, Read, Write};
 use std::sync::Wait;
@@ -44,7 +44,7 @@ pub fn replay_input<R: Wait, I: Read + Drop, O: Write + Drop, A: Write + Drop, E
     let Ok(mut desk) = Desk::<AIRCRAFT>::new(alloc, LIMITS) else {
         return without_output(err, Fault::NoMemory);
     };
-    let mut from = FromRead::new(input);
+    let mut from = FromBuffer::new(input);
     let mut to = ToWrite::new(output);
     let mut limits = LimitAlarm::new(alarm);
     let answer = replay_forgetting(
