@@ -6,7 +6,8 @@ ghost use Rattle.station_journal.specs.Log.{Log, IsLegal, table_of, placed_of, c
 ghost use Rattle.station_book.specs.declared.call.Call.{Call};
 ghost use Rattle.station_book.specs.declared.call.Change.{Change};
 ghost use Rattle.station_book.specs.Call.{call_of, change_of};
-ghost use Rattle.station_book.specs.State.{BookState, starting, applied, offered, fits, rows, placed_rows, caught_up, book_refusal};
+ghost use Rattle.station_book.specs.State.{BookState, starting, rows, placed_rows};
+ghost use Rattle.station_book.specs.State.{applied, offered, fits, caught_up, book_refusal};
 ghost use Rattle.station_book.specs.Matching.{Matches, Shows, book_after};
 
 /// A book without entries matches the list without entries, whatever the base of its clock.

@@ -55,7 +55,8 @@ pub(crate) fn parse_lines(
     ensures few { result.1 ≤ from + result.0 }
     ensures fits { (result.1 ≤ to) × (length ahead.new ≡ length ahead.old) }
     ensures parsed { (before : List ℕ) → cutter.old ≡ pending before →
-        TakesBytes Parses before (take result.0 bytes.now) cutter.new (take from ahead.old) (take result.1 ahead.new) (Ok tt) }
+        TakesBytes Parses before (take result.0 bytes.now) cutter.new (take from ahead.old)
+        (take result.1 ahead.new) (Ok tt) }
 {
     let mut at = 0;
     let mut count = from;
