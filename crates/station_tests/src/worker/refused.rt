@@ -1,10 +1,8 @@
 //! Receivers whose lines a station takes in part.
-ghost use Rattle.std.specs.Prelude.{◌≡◌, ◌≤◌};
-ghost use Rattle.station_desk.specs.Desk.{most_aircraft};
+ghost use Rattle.std.specs.Prelude.{◌≡◌};
 ghost use Rattle.station_desk.specs.History.{base_of};
 
-use super::{IDENTIFICATION, VELOCITY, close_all, worker};
-use crate::fakes::limits_met;
+use super::{IDENTIFICATION, LIMITS, VELOCITY, close_all, worker};
 use station_desk::Places;
 use station_journal::Limits;
 use station_lines::FromRead;
@@ -50,76 +48,123 @@ fn run_two<const N: usize, L: StationName + Send + Sync, R: Threads + Wait + Abo
     (accepted, refused, close_all(rt, station, seats), limits)
 }
 
+fn limits_met(journal: bool, table: bool) -> LimitsMet {
+    LimitsMet { journal, table }
+}
+
 const THREE_LINES: &'static [u8] =
     b"*8D4840D6202CC371C32CE0576098;\n*8D40621D58C382D690C8AC2863A7;\n*8D485020994409940838175B284F;\n";
 
 const THREE_OTHER_LINES: &'static [u8] =
     b"*8D40621D58C386435CC412692AD6;\n*8DA05F219B06B6AF189400CBC33F;\n*5D510AF9A8D8BC;\n";
 
-// Two frames of different aircraft. The last line lacks its line feed.
-const TWO_LINES: &'static [u8] = b"*8D4840D6202CC371C32CE0576098;\n*8D485020994409940838175B284F;";
-
-// Runs two receivers of a station of these places.
-fn fill<const N: usize, L: StationName + Send + Sync, R: Threads + Wait + Abort + Sync>(
+fn fill_the_journal<L: StationName + Send + Sync, R: Threads + Wait + Abort + Sync>(
     rt: &R,
     alloc: Global,
-    entries: u32,
     blank: Blank,
-    places: Places<N>,
-    lines: [&'static [u8]; 2],
-) -> Result<(u64, u64, u64, LimitsMet), Fail>
-    requires few { (entries ≤ 16) × (N ≤ most_aircraft) }
+    places: Places<8>,
+) -> Result<(), Fail>
     requires ledger { (blank.name ≡ L.name) × (blank.parts ≡ L.parts) }
     requires seats { (L.parts ≡ 2) × (L.seats ≡ 2) × (places.places ≡ 2) }
     requires start { (L.start.history ≡ places.history) × (L.start.resumed ≡ 0) }
     requires base { base_of places.history ≡ 0 }
-    requires limits { L.start.limits ≡ record { entries = entries; aircraft = N } }
+    requires limits { L.start.limits ≡ record { entries = 3; aircraft = 8 } }
 {
     let limits = Limits {
-        entries,
-        aircraft: N as u32,
+        entries: 3,
+        aircraft: 8,
     };
-    let (station, seats) = Station::<N, L>::new(rt, alloc, limits, 2, blank, places)?;
-    Ok(run_two(rt, alloc, station, seats, lines))
-}
-
-// Runs two receivers of a station for so many entries and aircraft.
-fn filled<const N: usize, R: Threads + Wait + Abort + Sync>(
-    rt: &R,
-    alloc: Global,
-    entries: u32,
-    lines: [&'static [u8]; 2],
-) -> Result<(u64, u64, u64, LimitsMet), Fail>
-    requires few { (entries ≤ 16) × (N ≤ most_aircraft) }
-{
-    let places = Places::<N>::new(rt, alloc, 0, 2)?;
-    fill::<N, Brand, R>(rt, alloc, entries, Blank::new(2), places, lines)
+    let (station, seats) = Station::<8, L>::new(rt, alloc, limits, 2, blank, places)?;
+    let filled = run_two(rt, alloc, station, seats, [THREE_LINES, THREE_OTHER_LINES]);
+    assert_eq!(rt; filled, (3, 3, 3, limits_met(true, false)));
+    Ok(())
 }
 
 #[test]
 fn a_full_journal_takes_no_more_of_two_receivers(rt: HostRuntime) -> Result<(), Fail> {
-    let counts = filled::<8, _>(&rt, rt.alloc(), 3, [THREE_LINES, THREE_OTHER_LINES])?;
-    assert_eq!(rt; counts, (3, 3, 3, limits_met(true, false)));
+    let places = Places::<8>::new(&rt, rt.alloc(), 0, 2)?;
+    fill_the_journal::<Brand, _>(&rt, rt.alloc(), Blank::new(2), places)
+}
+
+fn fill_the_table<L: StationName + Send + Sync, R: Threads + Wait + Abort + Sync>(
+    rt: &R,
+    alloc: Global,
+    blank: Blank,
+    places: Places<1>,
+) -> Result<(), Fail>
+    requires ledger { (blank.name ≡ L.name) × (blank.parts ≡ L.parts) }
+    requires seats { (L.parts ≡ 2) × (L.seats ≡ 2) × (places.places ≡ 2) }
+    requires start { (L.start.history ≡ places.history) × (L.start.resumed ≡ 0) }
+    requires base { base_of places.history ≡ 0 }
+    requires limits { L.start.limits ≡ record { entries = 16; aircraft = 1 } }
+{
+    let limits = Limits {
+        entries: 16,
+        aircraft: 1,
+    };
+    let (station, seats) = Station::<1, L>::new(rt, alloc, limits, 2, blank, places)?;
+    let filled = run_two(rt, alloc, station, seats, [IDENTIFICATION, VELOCITY]);
+    assert_eq!(rt; filled, (1, 1, 1, limits_met(false, true)));
     Ok(())
 }
 
 #[test]
 fn a_full_table_takes_no_more_of_two_receivers(rt: HostRuntime) -> Result<(), Fail> {
-    let counts = filled::<1, _>(&rt, rt.alloc(), 16, [IDENTIFICATION, VELOCITY])?;
-    assert_eq!(rt; counts, (1, 1, 1, limits_met(false, true)));
+    let places = Places::<1>::new(&rt, rt.alloc(), 0, 2)?;
+    fill_the_table::<Brand, _>(&rt, rt.alloc(), Blank::new(2), places)
+}
+
+// Two frames of different aircraft. The last line lacks its line feed.
+const TWO_LINES: &'static [u8] = b"*8D4840D6202CC371C32CE0576098;\n*8D485020994409940838175B284F;";
+
+fn fill_before_the_last_line<L: StationName + Send + Sync, R: Threads + Wait + Abort + Sync>(
+    rt: &R,
+    alloc: Global,
+    blank: Blank,
+    places: Places<8>,
+) -> Result<(), Fail>
+    requires ledger { (blank.name ≡ L.name) × (blank.parts ≡ L.parts) }
+    requires seats { (L.parts ≡ 2) × (L.seats ≡ 2) × (places.places ≡ 2) }
+    requires start { (L.start.history ≡ places.history) × (L.start.resumed ≡ 0) }
+    requires base { base_of places.history ≡ 0 }
+    requires limits { L.start.limits ≡ record { entries = 1; aircraft = 8 } }
+{
+    let limits = Limits {
+        entries: 1,
+        aircraft: 8,
+    };
+    let (station, seats) = Station::<8, L>::new(rt, alloc, limits, 2, blank, places)?;
+    let filled = run_two(rt, alloc, station, seats, [b"", TWO_LINES]);
+    assert_eq!(rt; filled, (1, 1, 1, limits_met(true, false)));
     Ok(())
 }
 
 #[test]
 fn a_last_line_without_its_line_feed_meets_a_full_journal(rt: HostRuntime) -> Result<(), Fail> {
-    let counts = filled::<8, _>(&rt, rt.alloc(), 1, [b"", TWO_LINES])?;
-    assert_eq!(rt; counts, (1, 1, 1, limits_met(true, false)));
+    let places = Places::<8>::new(&rt, rt.alloc(), 0, 2)?;
+    fill_before_the_last_line::<Brand, _>(&rt, rt.alloc(), Blank::new(2), places)
+}
+
+fn hear_one_frame<L: StationName + Send + Sync, R: Threads + Wait + Abort + Sync>(
+    rt: &R,
+    alloc: Global,
+    blank: Blank,
+    places: Places<8>,
+) -> Result<(), Fail>
+    requires ledger { (blank.name ≡ L.name) × (blank.parts ≡ L.parts) }
+    requires seats { (L.parts ≡ 2) × (L.seats ≡ 2) × (places.places ≡ 2) }
+    requires start { (L.start.history ≡ places.history) × (L.start.resumed ≡ 0) }
+    requires base { base_of places.history ≡ 0 }
+    requires limits { L.start.limits ≡ record { entries = 16; aircraft = 8 } }
+{
+    let (station, seats) = Station::<8, L>::new(rt, alloc, LIMITS, 2, blank, places)?;
+    let heard = run_two(rt, alloc, station, seats, [IDENTIFICATION, IDENTIFICATION]);
+    assert_eq!(rt; heard, (1, 1, 1, limits_met(false, false)));
     Ok(())
 }
 
 #[test]
 fn a_frame_of_two_receivers_is_taken_once(rt: HostRuntime) -> Result<(), Fail> {
-    let counts = filled::<8, _>(&rt, rt.alloc(), 16, [IDENTIFICATION, IDENTIFICATION])?;
-    assert_eq!(rt; counts, (1, 1, 1, limits_met(false, false)));
-    Ok(())
+    let places = Places::<8>::new(&rt, rt.alloc(), 0, 2)?;
+    hear_one_frame::<Brand, _>(&rt, rt.alloc(), Blank::new(2), places)
 }
