@@ -30,7 +30,7 @@ pub(crate) fn decode_digits(digits: &[u8], bytes: &mut [u8]) -> Result<(), u8>
 fn digit_values(bytes: u8x16) -> u8x16
     ensures { result ≡ map value_of bytes }
 {
-    // `0` to `9` become the ten highest numbers, then 0xF0 to 0xF9 and all others less, then 0 to 9 and all others more.
+    // `0` to `9` become the ten highest numbers, then 0xF0 to 0xF9 and others less, then 0 to 9 and others more.
     let highest = bytes + u8x16::splat(0xFF - b'9');
     let decimal = highest.saturating_sub(u8x16::splat(6)) - u8x16::splat(0xF0);
     let letter = (bytes & u8x16::splat(0xDF)) - u8x16::splat(b'A');
