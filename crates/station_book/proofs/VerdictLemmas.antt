@@ -29,7 +29,6 @@ or_older_none : {V : Type 0} (x : Option V) → or_older x None ≡ x
 or_older_none None = refl
 or_older_none (Some v) = refl
 
-
 module _ (n base : ℕ) (past : List Entry) (book : BookState) (m : MatchesPast n base book past) where
   -- the book's refusal of a frame with this claim is that of a journal that isn't full
   same_claim_refusal : (frame : Frame) (claim : Result Claim CheckFault) →
