@@ -8,6 +8,7 @@ pub mod TableLemmas
 pub mod VerdictLemmas
 pub mod LawLemmas
 pub mod OfferLemmas
+pub mod PaddedLemmas
 pub mod DigestLemmas
 pub mod CatchingLemmas
 pub mod ForgettingLemmas

@@ -155,15 +155,14 @@ impl Default for KeptFrame {
     }
 }
 
-// The number in the last three bytes of the frame: its parity.
+// The number in the last three bytes of the frame: its parity. Among the padded bytes they are at fixed places.
 fn digest(frame: &Frame) -> u32
     ensures { result ≡ digest_of frame.now }
 {
-    let bytes = frame.bytes();
-    let count = bytes.len() - 3;
-    u32::from(bytes[count]) * 0x1_0000
-        + u32::from(bytes[count + 1]) * 0x100
-        + u32::from(bytes[count + 2])
+    // For its contract: the frame has 7 or 14 bytes.
+    let _bytes = frame.bytes();
+    let padded = frame.padded();
+    u32::from(padded[13]) * 0x1_0000 + u32::from(padded[14]) * 0x100 + u32::from(padded[15])
 }
 
 // Sets the hints of these digests to 0.
