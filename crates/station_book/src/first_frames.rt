@@ -9,6 +9,7 @@ use crate::copying::copy_list;
 use arrayvec::ArrayVec;
 use modes_frame::Frame;
 use std::marker::Model;
+use std::simd::prelude::*;
 
 // How many frames since a tick are compared.
 const MOST: usize = 256;
@@ -69,7 +70,7 @@ impl FirstFrames {
     {
         if place < self.frames.len() {
             let there = &self.frames[place];
-            return frame.bytes() == there.frame.bytes();
+            return is_same(frame, &there.frame);
         }
         false
     }
@@ -163,6 +164,21 @@ fn digest(frame: &Frame) -> u32
     let _bytes = frame.bytes();
     let padded = frame.padded();
     u32::from(padded[13]) * 0x1_0000 + u32::from(padded[14]) * 0x100 + u32::from(padded[15])
+}
+
+// Whether the frames are the same. A short frame has zeros where a long one begins, and no long one begins with 0.
+#[inline(always)]
+fn is_same(frame: &Frame, other: &Frame) -> bool
+    ensures { result ≡ same_frame frame.now other.now }
+{
+    // For their contract: each frame has the length that its first byte says.
+    let _bytes = frame.bytes();
+    let _other_bytes = other.bytes();
+    let padded = u8x16::from_slice(frame.padded());
+    padded
+        .simd_ne(u8x16::from_slice(other.padded()))
+        .to_bitmask()
+        == 0
 }
 
 // Sets the hints of these digests to 0.
