@@ -1,9 +1,9 @@
 -- What hints and digests say of the kept frames.
 use Rattle.std.proofs.Common.{◌≡◌, ◌≢◌, ℕ, ◌+◌, ◌%◌, ◌<◌, Bool, true, false, ◌&&◌, ◌||◌, List, [], ◌∷◌, ◌++◌, length, map, take, set, get_or, nat_lt, refl, sym, ap, ◌∙◌, arith}
-use Rattle.std.specs.Prelude.{◌==◌}
+use Rattle.std.specs.Prelude.{◌==◌, nat_eq}
 use Rattle.std.specs.List.{list_any}
 use Rattle.std.proofs.lemmas.Bool.Decides.{nat_tests}
-use Rattle.std.proofs.lemmas.Bool.{eqb-true}
+use Rattle.std.proofs.lemmas.Bool.{eq-eqb, eqb-true, true≢false}
 use Rattle.std.proofs.lemmas.List.{get_or-set_same, get_or-set_other, get_or-map}
 use Rattle.std.proofs.lemmas.List.Folds.{list_any_more, list_any_at}
 use Rattle.std.proofs.lemmas.Slice.Eq.{bytes_eq-Decides}
@@ -68,6 +68,16 @@ other_by_digest frame frames place d within other = by_test (same_frame frame (g
     by_test : (test : Bool) → same_frame frame (get_or frames place []) ≡ test → test ≡ false
     by_test true same = absurd (other (get_or-map digest_of frames place [] d within ∙ sym (same_digest frame (get_or frames place []) same)))
     by_test false same = refl
+
+-- where no frame has the digest, the frame isn't one of them
+pub absent_by_digest : (frame : Frame) (frames : List Frame) (d : ℕ) → d ≡ digest_of frame → list_any (nat_eq d) (map digest_of frames) ≡ false → is_one_of frames frame ≡ false
+absent_by_digest frame [] d is none = refl
+absent_by_digest frame (other ∷ rest) d is none = by_tests (nat_eq d (digest_of other)) (same_frame frame other) refl refl (absent_by_digest frame rest d is) none
+  where
+    by_tests : (digest same : Bool) → nat_eq d (digest_of other) ≡ digest → same_frame frame other ≡ same → (list_any (nat_eq d) (map digest_of rest) ≡ false → is_one_of rest frame ≡ false) → (digest || list_any (nat_eq d) (map digest_of rest)) ≡ false → (same || is_one_of rest frame) ≡ false
+    by_tests true same test is_same later none = absurd (true≢false none)
+    by_tests false true test is_same later none = absurd (true≢false (sym (eq-eqb d (digest_of other) (is ∙ same_digest frame other is_same)) ∙ test))
+    by_tests false false test is_same later none = later none
 
 -- one more place where the frame isn't
 pub passed : (frame : Frame) (frames : List Frame) (place : ℕ) → place < length frames → same_frame frame (get_or frames place []) ≡ false → list_any (same_frame frame) (take place frames) ≡ false → list_any (same_frame frame) (take (place + 1) frames) ≡ false

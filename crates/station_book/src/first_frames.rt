@@ -1,6 +1,7 @@
 //! The first frames heard since the newest tick.
 
-ghost use Rattle.std.specs.Prelude.{◌≡◌, ◌&&◌, [], length, nat_lt, get_or};
+ghost use Rattle.std.specs.Prelude.{◌≡◌, ◌&&◌, [], length, nat_eq, nat_lt, get_or};
+ghost use Rattle.std.specs.List.{list_any};
 ghost use Rattle.station_journal.specs.Repeats.{is_one_of, same_frame, with_heard};
 ghost use Rattle.station_book.specs.Digests.{digest_of};
 ghost use Rattle.station_book.specs.State.{with_frame_ahead};
@@ -75,9 +76,18 @@ impl FirstFrames {
         false
     }
 
-    // Whether the frame, which has this digest, is at any place.
+    // Whether the frame, which has this digest, is at any place. Mostly no place has the digest.
     #[inline(never)]
     fn stands_among(&self, digest: u32, frame: &Frame) -> bool
+        requires { digest ≡ digest_of frame.now }
+        ensures { result ≡ is_one_of self.now frame.now }
+    {
+        is_among(self.digests.as_slice(), digest) && self.stands_where(digest, frame)
+    }
+
+    // Whether the frame is at a place that has its digest.
+    #[inline(never)]
+    fn stands_where(&self, digest: u32, frame: &Frame) -> bool
         requires { digest ≡ digest_of frame.now }
         ensures { result ≡ is_one_of self.now frame.now }
     {
@@ -179,6 +189,18 @@ fn is_same(frame: &Frame, other: &Frame) -> bool
         .simd_ne(u8x16::from_slice(other.padded()))
         .to_bitmask()
         == 0
+}
+
+// Whether the digest is one of these. The loop has no early exit, so several are compared at once.
+#[inline(always)]
+fn is_among(digests: &[u32], digest: u32) -> bool
+    ensures { result ≡ list_any (nat_eq digest) digests.now }
+{
+    let mut found = false;
+    for other in digests {
+        found |= *other == digest;
+    }
+    found
 }
 
 // Sets the hints of these digests to 0.
