@@ -3,6 +3,7 @@
 
 pub mod close;
 mod counted_desk;
+mod held_lines;
 mod held_pump;
 pub mod limits_met;
 pub mod look;

@@ -4,7 +4,7 @@ use Rattle.modes_frame.specs.declared.cutter.Cut.{Cut}
 use Rattle.station_shared.specs.ParsedLines.{parsed_all}
 use Rattle.station_lines.specs.Pump.{Pumps}
 use Rattle.station_shared.specs.Workers.{SeatSteps}
-use Rattle.station_shared.proofs.held_pump.take_parsed.Given as goal
+use Rattle.station_shared.proofs.held_lines.take_parsed.Given as goal
 
 -- the lines so far were taken, and what the seat has seen is a prefix of the journal
 abbrev pub invariant-loop-parsed : goal.invariant-loop-parsed

@@ -9,7 +9,7 @@ use Rattle.station_lines.specs.Pump.{Pumps}
 use Rattle.station_shared.specs.Workers.{SeatSteps}
 use Rattle.station_shared.proofs.ParsedLemmas.{parsed_line, line_more}
 use Rattle.station_lines.specs.PumpLaws.{Pumps-then}
-use Rattle.station_shared.proofs.held_pump.take_parsed.Goals as goal
+use Rattle.station_shared.proofs.held_lines.take_parsed.Goals as goal
 
 pub take_line-requires : goal.take_line-requires
 take_line-requires g c =
