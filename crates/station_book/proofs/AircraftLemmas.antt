@@ -1,5 +1,5 @@
 -- One aircraft: its track shows what a search finds, before and after each entry.
-use Rattle.std.proofs.Common.{◌≡◌, ℕ, ◌-◌, ◌<◌, ◌≤◌, Bool, true, false, ◌&&◌, ◌||◌, List, [], ◌∷◌, Option, Some, None, refl, ap, ◌∙◌, arith}
+use Rattle.std.proofs.Common.{◌≡◌, ℕ, ◌-◌, ◌<◌, Bool, true, false, List, ◌∷◌, Option, Some, None, refl, ap, ◌∙◌, arith}
 use Rattle.std.specs.Prelude.{nat_le, unwrap_or}
 use Rattle.std.proofs.lemmas.Bool.Decides.{nat_tests}
 use Rattle.station_journal.specs.Past.{Frame}
@@ -7,7 +7,7 @@ use Rattle.modes_fields.specs.declared.place.Place.{Place}
 use Rattle.modes_fields.specs.Carried.{fields_of}
 use Rattle.station_journal.specs.declared.entry.Entry.{Entry}
 use Rattle.station_journal.specs.declared.entry.Entry.TheVariants.{Tick, Heard}
-use Rattle.station_journal.specs.Past.{clock, speaks_for, heard_within, live, stamp, or_older, newest, newest_fix, fix_by, partner, pair_with, place_of, sighting_of, callsign_of, even_place_of, odd_place_of}
+use Rattle.station_journal.specs.Past.{clock, speaks_for, live, stamp, or_older, newest, newest_fix, fix_by, partner, pair_with, place_of, sighting_of, callsign_of, even_place_of, odd_place_of}
 use Rattle.station_journal.specs.Table.{altitude_of, squawk_of, velocity_of, vertical_of}
 use Rattle.station_journal.proofs.FreshLemmas.{fresh_none_below, agree_later, agree_newer, agree_none}
 use Rattle.station_journal.specs.Past.{IsTimed}

@@ -5,7 +5,7 @@ use Rattle.std.specs.List.{list_any}
 use Rattle.std.proofs.lemmas.Bool.Decides.{nat_tests}
 use Rattle.std.proofs.lemmas.Bool.{eq-eqb, eqb-true, true≢false}
 use Rattle.std.proofs.lemmas.List.{get_or-set_same, get_or-set_other, get_or-map}
-use Rattle.std.proofs.lemmas.List.Folds.{list_any_more, list_any_at}
+use Rattle.std.proofs.lemmas.List.Folds.{list_any_more}
 use Rattle.std.proofs.lemmas.Slice.Eq.{bytes_eq-Decides}
 use Rattle.station_journal.specs.Past.{Frame}
 use Rattle.station_journal.specs.Repeats.{same_frame, is_one_of}
@@ -48,14 +48,6 @@ pub hinted_push : (hints : List ℕ) (hint : ℕ) (frame : Frame) (frames : List
 hinted_push hints hint frame frames some within hinted =
     let i = digest_of frame % 8192 in
     hinted_append (set hints i hint) frame frames (rw (get_or-set_same hints i hint 0 within) some) (hinted_set hints i hint frames some within hinted)
-
--- a frame that is at a place is one of them
-pub one_of_at : (frame : Frame) (frames : List Frame) (place : ℕ) → (nat_lt place (length frames) && same_frame frame (get_or frames place [])) ≡ true → is_one_of frames frame ≡ true
-one_of_at frame frames place stands = by_test (nat_lt place (length frames)) refl stands
-  where
-    by_test : (test : Bool) → nat_lt place (length frames) ≡ test → (test && same_frame frame (get_or frames place [])) ≡ true → is_one_of frames frame ≡ true
-    by_test true within same = list_any_at (same_frame frame) frames place [] (grind (arith, nat_tests)) same
-    by_test false within same = cc
 
 -- a frame that isn't at a place differs from the one there
 pub other_at : (frame : Frame) (frames : List Frame) (place : ℕ) → place < length frames → (nat_lt place (length frames) && same_frame frame (get_or frames place [])) ≡ false → same_frame frame (get_or frames place []) ≡ false

@@ -19,7 +19,7 @@ use Rattle.station_book.specs.Call.{call_of}
 use Rattle.station_book.specs.Tracks.{blank, updated, find_track, with_claimed}
 use Rattle.station_book.specs.State.{BookState, applied, starting}
 use Rattle.station_book.specs.Matching.{Tracks, TracksAt, MatchesPast, Matches}
-use Rattle.station_journal.specs.Resume.{ClaimFits, Fits, Sound}
+use Rattle.station_journal.specs.Resume.{ClaimFits, Fits}
 use Rattle.station_journal.proofs.RepeatLemmas.{first_heard_next}
 use Rattle.station_journal.proofs.SoundLemmas.{timed_sound}
 use Rattle.station_book.proofs.AircraftLemmas.{kept_by_tick, swept_by_tick, absent_after_tick, unchanged_by_other, heard_of_own}

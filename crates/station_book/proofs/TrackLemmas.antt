@@ -1,5 +1,5 @@
 -- The tracks by rising address: what is found once one is put in its place or some are swept.
-use Rattle.std.proofs.Common.{◌≡◌, ℕ, ◌+◌, ◌<◌, ◌≤◌, Bool, true, false, if◌then◌else◌, List, [], ◌∷◌, length, Option, Some, None, is_some, refl, subst, arith}
+use Rattle.std.proofs.Common.{◌≡◌, ℕ, ◌<◌, ◌≤◌, Bool, true, false, if◌then◌else◌, List, [], ◌∷◌, Option, Some, None, refl, subst, arith}
 use Rattle.std.specs.Prelude.{◌==◌, filter, unwrap_or}
 use Rattle.std.proofs.lemmas.Bool.{eqb-true}
 use Rattle.std.proofs.lemmas.Bool.Decides.{nat_tests}
@@ -55,11 +55,6 @@ rising_filter test (track ∷ rest) rising = elim (test track) as (λ t. Rising 
 pub find_filter : (a : ℕ) (test : Track → Bool) (tracks : List Track) → Rising tracks → find_track a (filter test tracks) ≡ keep_if test (find_track a tracks)
 find_filter a test [] rising = refl
 find_filter a test (track ∷ rest) rising = grind (arith, nat_tests, find_filter a test rest rising.1, find_below a track.address rest rising.0)
-
--- a put over a track of the same address keeps the length, and any other adds one
-pub length_put : (track : Track) (tracks : List Track) → Rising tracks → length (put_track track tracks) ≡ (if is_some (find_track track.address tracks) then length tracks else length tracks + 1)
-length_put track [] rising = refl
-length_put track (other ∷ rest) rising = grind (arith, nat_tests, length_put track rest rising.1, find_below track.address other.address rest rising.0)
 
 -- a track that is found has the address
 found_address_step : (a : ℕ) (track : Track) (rest : List Track) (test : Bool) → (track.address == a) ≡ test → (track_or_blank a rest).address ≡ a → (unwrap_or (if test then Some track else find_track a rest) (blank a)).address ≡ a

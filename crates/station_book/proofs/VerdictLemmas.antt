@@ -1,25 +1,20 @@
 -- The refusals of a matching book are those of the past, and an accepted entry fits.
-use Rattle.std.proofs.Common.{◌≡◌, ℕ, ◌<◌, Bool, true, false, if◌then◌else◌, List, length, Option, Some, None, Result, Ok, Err, is_some, refl, sym, ◌∙◌, arith}
-use Rattle.std.specs.Prelude.{nat_le, nat_lt, not}
+use Rattle.std.proofs.Common.{◌≡◌, ℕ, true, false, List, Option, Some, None, Result, Ok, Err, refl, sym, ◌∙◌, arith}
+use Rattle.std.specs.Prelude.{nat_le, nat_lt}
 use Rattle.std.proofs.lemmas.Bool.Decides.{nat_tests}
 use Rattle.modes_frame.specs.declared.claims.Claim.{Claim}
 use Rattle.modes_frame.specs.declared.claims.CheckFault.{CheckFault}
-use Rattle.modes_frame.specs.Claims.{claim_of, is_unassigned}
+use Rattle.modes_frame.specs.Claims.{claim_of}
 use Rattle.station_journal.proofs.FollowLemmas.{claim_back, claim_from}
 use Rattle.station_journal.proofs.SoundLemmas.{accepted_fits}
-use Rattle.std.specs.Prelude.{◌&&◌}
 use Rattle.station_journal.specs.declared.entry.Entry.{Entry}
 use Rattle.station_journal.specs.declared.entry.Entry.TheVariants.{Tick, Heard}
 use Rattle.station_journal.specs.declared.limits.Limits.{Limits}
-use Rattle.station_journal.specs.declared.refusal.Refusal.{Refusal}
-use Rattle.station_journal.specs.declared.refusal.Refusal.TheVariants.{Unknown, JournalFull, BookFull, NotLater, Repeated}
-use Rattle.station_journal.specs.Past.{Frame, clock, live, or_older}
-use Rattle.station_journal.specs.Table.{live_addresses}
+use Rattle.station_journal.specs.declared.refusal.Refusal.TheVariants.{NotLater}
+use Rattle.station_journal.specs.Past.{Frame, clock, or_older}
 use Rattle.station_journal.specs.Repeats.{is_one_of, is_repeated}
 use Rattle.station_journal.specs.Verdict.{refuse_if, claim_refusal, tick_refusal, refusal, is_full, Accepts}
-use Rattle.station_book.specs.declared.tracks.Track.{Track}
 use Rattle.station_book.specs.Call.{call_of}
-use Rattle.station_book.specs.Tracks.{find_track}
 use Rattle.station_book.specs.State.{BookState, book_claim_refusal, book_tick_refusal, book_refusal, claim_fits, fits}
 use Rattle.station_book.specs.Matching.{MatchesPast}
 use Rattle.station_journal.specs.Resume.{ClaimFits, Fits, Sound}
@@ -66,10 +61,3 @@ fits_from_accepts limits base past entry sound accepts = accepted_fits (is_full 
 -- an entry that a matching book doesn't refuse fits it
 pub fits_unless_refused : (n base : ℕ) (past : List Entry) (book : BookState) (entry : Entry) → MatchesPast n base book past → book_refusal n book (call_of entry) ≡ None → fits n book (call_of entry) ≡ true
 fits_unless_refused n base past book entry m free = fits_from n base past book m entry (accepted_fits false n base past entry m.sound (sym (same_refusal n base past book m entry) ∙ free))
-
--- a claim that fits is of an aircraft that has a track, or finds a place
-pub room_from_fits : (n : ℕ) (book : BookState) (a : ℕ) (tracks : List Track) → book.tracks ≡ tracks → (if is_some (find_track a book.tracks) then true else nat_lt (length book.tracks) n) ≡ true → is_some (find_track a tracks) ≡ false → length tracks < n
-room_from_fits n book a tracks same fit absent =
-    let fit' : (if is_some (find_track a tracks) then true else nat_lt (length tracks) n) ≡ true = rw same at fit in
-    let room : nat_lt (length tracks) n ≡ true = rw absent at fit' in
-    grind (arith, nat_tests)

@@ -18,4 +18,3 @@ pub mod UnlimitedLemmas
 pub mod LegalJournalLemmas
 pub mod ForgettingLemmas
 pub mod FollowLemmas
-pub mod MemoryLemmas

@@ -1,7 +1,6 @@
 pub mod CommandLemmas
 pub mod DigitLemmas
 pub mod DrawingLemmas
-pub mod EndLemmas
 pub mod PieceLemmas
 pub mod PlainLemmas
 pub mod PumpLemmas

@@ -1,6 +1,6 @@
 -- The bytes kept of those that were read.
-use Rattle.std.proofs.Common.{◌≡◌, ◌≢◌, ℕ, ◌+◌, ◌-◌, ◌<◌, ◌≤◌, min, List, ◌++◌, length, take, drop, slice_index_or, sym, ap, ◌∙◌, length-take-le, length-drop, arith}
-use Rattle.std.proofs.lemmas.List.{take_at, drop-take, take-take, take_min, get_or-drop}
+use Rattle.std.proofs.Common.{◌≡◌, ◌≢◌, ℕ, ◌+◌, ◌-◌, ◌<◌, ◌≤◌, min, List, length, take, drop, slice_index_or, sym, ap, ◌∙◌, length-take-le, length-drop, arith}
+use Rattle.std.proofs.lemmas.List.{drop-take, take-take, take_min, get_or-drop}
 use Rattle.station_portions.specs.Batches.{HasNoLineFeed}
 
 -- the first bytes, as many as are kept
@@ -24,8 +24,3 @@ copied_rest room new count border within large is =
 pub none_after : (bytes : List ℕ) (at : ℕ) → ((k : ℕ) → at ≤ k → k < length bytes → slice_index_or bytes k 0 ≢ 10) → HasNoLineFeed (drop at bytes)
 none_after bytes at none k less is =
     none (at + k) (omega arith) (omega (arith, length-drop at bytes)) (sym (get_or-drop at bytes k 0) ∙ is)
-
--- the bytes copied to the front
-pub copied_front : (copied bytes rest : List ℕ) (m : ℕ) → copied ≡ bytes → length bytes ≤ m → take (length bytes) (take m (copied ++ rest)) ≡ bytes
-copied_front copied bytes rest m is within =
-    take-take (length bytes) m (copied ++ rest) within ∙ take_at copied rest (length bytes) (ap length is) ∙ is

@@ -1,6 +1,6 @@
 -- The lines of the bytes read and of the bytes sent.
 use Rattle.std.proofs.Common.{◌≡◌, ℕ, ◌<◌, ◌≤◌, nat_le, false, cond, List, [], ◌∷◌, ◌++◌, length, map, take, drop, inl, inr, refl, sym, ap, ◌∙◌, subst, append_assoc, take-append-drop, length-take-le, arith}
-use Rattle.std.proofs.lemmas.List.{append-nil, map-append, nil_from_length, take_all}
+use Rattle.std.proofs.lemmas.List.{append-nil, take_all}
 use Rattle.std.proofs.lemmas.Bool.{cases_Bool}
 use Rattle.std.proofs.lemmas.Bool.Decides.{nat_tests}
 use Rattle.std.specs.Option.{option_to_list}
@@ -11,8 +11,7 @@ use Rattle.modes_frame.proofs.LineLemmas.{none-before, pieces-line_feed, pending
 use Rattle.station_lines.proofs.DrawingLemmas.{cuts-ended}
 use Rattle.station_portions.specs.Batches.{HasNoLineFeed, IsBorder, longest_kept}
 use Rattle.std.specs.Prelude.{Option}
-use Rattle.std.specs.Io.KnownBytes.{Keeps}
-use Rattle.std.proofs.KnownBytes.{Consumes-nil, Consumes-kept, Consumes-trans}
+use Rattle.std.proofs.KnownBytes.{Consumes-nil, Consumes-trans}
 use Rattle.station_portions.specs.Messages.{bytes_in, bytes_of}
 use Rattle.station_portions.specs.Backlog.{ReadsOn, ended_line}
 use Rattle.station_portions.specs.Sending.{KeepsLines, SendsOn, SendsPath, SentSoFar}

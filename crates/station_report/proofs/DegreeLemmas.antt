@@ -20,6 +20,3 @@ module _ (m d : ℕ) (positive : 0 < d) where
 
   pub part_is : m * 100000 / d % 100000 ≡ m % d * 100000 / d
   part_is = ap (λ n. n % 100000) whole_and_part ∙ digits_mod (m / d) part_below
-
-  pub part_small : m % d * 100000 / d < 100000
-  part_small = part_below

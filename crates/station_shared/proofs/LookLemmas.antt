@@ -1,7 +1,7 @@
 -- What a look shows.
-use Rattle.std.proofs.Common.{◌≡◌, ℕ, List, ap, ◌∙◌, length}
+use Rattle.std.proofs.Common.{◌≡◌, ℕ, List, ap, ◌∙◌}
 use Rattle.station_journal.specs.declared.entry.Entry.{Entry}
-use Rattle.station_journal.specs.Log.{clock_of, table_of, placed_of}
+use Rattle.station_journal.specs.Log.{table_of, placed_of}
 use Rattle.station_book.specs.State.{BookState, rows, placed_rows}
 use Rattle.station_book.specs.Matching.{Matches, Shows}
 use Rattle.station_book.proofs.LawLemmas.{shows_from_match}
@@ -18,9 +18,3 @@ module _ (n : ℕ) (start : Start) (book : BookState) (entries : List Entry) (se
 
   pub placed_looked : placed_rows book ≡ placed_of (log_of start seen.seen)
   placed_looked = shows.placed ∙ ap (λ (es : List Entry). placed_of (log_of start es)) is
-
-  pub clock_looked : book.moment ≡ clock_of (log_of start seen.seen)
-  clock_looked = shows.moment ∙ ap (λ (es : List Entry). clock_of (log_of start es)) is
-
-  pub count_looked : book.entries ≡ length seen.seen
-  count_looked = shows.count ∙ ap (λ (es : List Entry). length es) is

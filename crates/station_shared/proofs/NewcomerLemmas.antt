@@ -1,12 +1,12 @@
 -- One more seat that has seen no more than its station began with.
-use Rattle.std.proofs.Common.{◌≡◌, ℕ, zero, suc, ◌+◌, ◌-◌, ◌<◌, ◌≤◌, Bool, true, false, cond, not, nat_lt, List, [], ◌∷◌, ◌++◌, length, refl, sym, ap, ◌∙◌, add-one, arith}
+use Rattle.std.proofs.Common.{◌≡◌, ℕ, ◌+◌, ◌-◌, ◌<◌, ◌≤◌, Bool, true, false, cond, not, nat_lt, List, [], ◌∷◌, ◌++◌, length, refl, sym, ap, ◌∙◌, add-one, arith}
 use Rattle.std.proofs.lemmas.Bool.Decides.{nat_tests}
 use Rattle.station_journal.specs.declared.entry.Entry.{Entry}
 use Rattle.station_journal.specs.declared.limits.Limits.{Limits}
 use Rattle.station_journal.specs.Log.{Log, resumed_log}
 use Rattle.station_desk.specs.History.{Name, base_of}
 use Rattle.station_desk.specs.Start.{Start, start_at, log_of}
-use Rattle.station_shared.specs.Seats.{Seated, new_seat, new_seats, newcomer, newcomers}
+use Rattle.station_shared.specs.Seats.{new_seat, new_seats, newcomer, newcomers}
 
 pub new_seats_more : (entries : List Entry) (blind n : ℕ) → new_seats entries blind n ++ new_seat entries (not (nat_lt n blind)) n ∷ [] ≡ new_seats entries blind (n + 1)
 new_seats_more entries blind n = ap (new_seats entries blind) (sym (add-one n))
@@ -24,14 +24,6 @@ left_next seats places number left len now true few more is so_far given after =
 left_next seats places number left len now false few more is so_far given after =
     let short : len < left = grind (arith, nat_tests) in
     omega (arith, few, more, is, so_far, after, short)
-
--- seats before the first with a place
-blind_seats : (entries : List Entry) (a b n : ℕ) → n ≤ a → n ≤ b → new_seats entries a n ≡ new_seats entries b n
-blind_seats entries a b zero within_a within_b = refl
-blind_seats entries a b (suc n) within_a within_b =
-    let same : not (nat_lt n a) ≡ not (nat_lt n b) = grind (arith, nat_tests) in
-    ap (λ (l : List Seated). l ++ new_seat entries (not (nat_lt n a)) n ∷ []) (blind_seats entries a b n (omega arith) (omega arith))
-    ∙ ap (λ (can_look : Bool). new_seats entries b n ++ new_seat entries can_look n ∷ []) same
 
 -- where there is one place, the last seat has it
 pub one_place : (entries : List Entry) (n : ℕ) → new_seats entries n (n + 1) ≡ newcomers entries n ++ newcomer entries n ∷ []

@@ -37,22 +37,6 @@ parsed_frame (Ok (Received ModeAc)) frame e = cc
 parsed_frame (Ok (Received Blank)) frame e = cc
 parsed_frame (Err fault) frame e = cc
 
-pub parsed_mode_ac : (r : Result Command CommandFault) → parsed.ModeAc ≡ parsed_of r → r ≡ Ok (Received ModeAc)
-parsed_mode_ac (Ok (Tick at)) e = cc
-parsed_mode_ac (Ok Show) e = cc
-parsed_mode_ac (Ok (Received (Frame f))) e = cc
-parsed_mode_ac (Ok (Received ModeAc)) e = refl
-parsed_mode_ac (Ok (Received Blank)) e = cc
-parsed_mode_ac (Err fault) e = cc
-
-pub parsed_blank : (r : Result Command CommandFault) → parsed.Blank ≡ parsed_of r → r ≡ Ok (Received Blank)
-parsed_blank (Ok (Tick at)) e = cc
-parsed_blank (Ok Show) e = cc
-parsed_blank (Ok (Received (Frame f))) e = cc
-parsed_blank (Ok (Received ModeAc)) e = cc
-parsed_blank (Ok (Received Blank)) e = refl
-parsed_blank (Err fault) e = cc
-
 -- a line that says nothing to a pump
 pub record IsQuiet (r : Result Command CommandFault) : Type 0 where
   pub no_frame : frame_in r ≡ []
