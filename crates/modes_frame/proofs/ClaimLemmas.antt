@@ -1,25 +1,12 @@
 -- What a claim says of its address.
-use Rattle.std.proofs.Common.{◌≡◌, ◌≢◌, ℕ, ◌==◌, ◌*◌, ◌+◌, ◌^◌, ◌<◌, ◌≤◌, ◌%◌, not, Bool, true, false, List, [], ◌∷◌, Result, Ok, IfOk, length, take, drop, cond, refl, sym, subst, arith, eqb-true}
+use Rattle.std.proofs.Common.{◌≡◌, ◌≢◌, ℕ, ◌==◌, ◌*◌, ◌+◌, ◌<◌, ◌≤◌, ◌%◌, not, Bool, true, false, List, [], ◌∷◌, Result, Ok, IfOk, length, take, drop, cond, refl, sym, subst, arith, eqb-true}
 use Rattle.std.specs.Prelude.{slice_index}
-use Rattle.std.proofs.lemmas.List.{length-take}
-use Rattle.std.proofs.Math.Nat.{pow-le-pow_right}
-use Rattle.modes_frame.specs.Frames.{byte_bits, bits_of, df_of, number_of, remainder_of}
+use Rattle.modes_frame.specs.Frames.{byte_bits, df_of, number_of, remainder_of}
 use Rattle.modes_frame.specs.Claims.{address_field, control_field, is_overlaid_format, is_announced_format, has_parity, is_unassigned, claim_by, claim_of}
 use Rattle.modes_frame.specs.declared.claims.Claim.{Claim}
 use Rattle.modes_frame.specs.declared.claims.CheckFault.{CheckFault}
 use Rattle.modes_frame.proofs.AllByteLemmas.{all_of_width, all_of_width-at}
-use Rattle.modes_frame.proofs.NumberLemmas.{number-lt, number-three}
-use Rattle.modes_frame.proofs.ParityLemmas.{remainder-lt}
-
--- the announced address has 24 bits
-pub address_field-lt : (bytes : List ℕ) → address_field bytes < 2 ^ 24
-unfolding address_field
-address_field-lt bytes =
-    let bits = take 24 (drop 8 (bits_of bytes)) in
-    let less = number-lt bits in
-    let few : length bits ≤ 24 = omega (arith, length-take 24 (drop 8 (bits_of bytes))) in
-    let most : 2 ^ length bits ≤ 2 ^ 24 = pow-le-pow_right {n = 2} (omega arith) few in
-    omega arith
+use Rattle.modes_frame.proofs.NumberLemmas.{number-three}
 
 -- it is in the second, third and fourth byte
 pub address_field-is : (a b c d : ℕ) (rest : List ℕ) → b < 256 → c < 256 → d < 256
@@ -59,11 +46,6 @@ module _ (P : Claim → Type 0) (df control remainder address : ℕ)
       (λ _. either P (has_parity df remainder) _ _ (λ _. either P (is_unassigned address) _ _ (λ _. tt) of_address) (λ _. tt))
       (λ _. tt))
 
--- the address of a claim has 24 bits
-pub claim-below : (bytes : List ℕ) → IfOk (claim_of bytes) (λ c. c.address < 2 ^ 24)
-unfolding claim_of
-claim-below bytes = claim_by-holds (λ c. c.address < 2 ^ 24) (df_of bytes) (control_field bytes) (remainder_of bytes) (address_field bytes) (remainder-lt bytes) (λ _. address_field-lt bytes)
-
 abbrev pub IsAssigned : Claim → Type 0
 IsAssigned c = c.overlaid ≡ false → (c.address ≢ 0) × (c.address ≢ 0xFFFFFF)
 
@@ -76,10 +58,7 @@ unfolding claim_of
 claim-assigned bytes = claim_by-holds IsAssigned (df_of bytes) (control_field bytes) (remainder_of bytes) (address_field bytes)
     (λ h. absurd (cc)) (λ e _. neither (address_field bytes) e)
 
--- both, where the claim is known by an equation
-pub claim-below-at : (bytes : List ℕ) (c : Claim) → claim_of bytes ≡ Ok c → c.address < 2 ^ 24
-claim-below-at bytes c e = subst (λ r. IfOk r (λ c. c.address < 2 ^ 24)) e (claim-below bytes)
-
+-- the same, where the claim is known by an equation
 pub claim-assigned-at : (bytes : List ℕ) (c : Claim) → claim_of bytes ≡ Ok c → c.overlaid ≡ false → (c.address ≢ 0) × (c.address ≢ 0xFFFFFF)
 claim-assigned-at bytes c e = subst (λ r. IfOk r IsAssigned) e (claim-assigned bytes)
 

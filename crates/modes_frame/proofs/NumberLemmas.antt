@@ -21,11 +21,6 @@ number-after [] l = omega arith
 number-after (true ∷ bits) l = number-after bits (2 * l + 1) ∙ doubled_more l (length bits) (number_of bits) ∙ ap (λ n. l * 2 ^ length (true ∷ bits) + n) (sym (number-after bits 1))
 number-after (false ∷ bits) l = number-after bits (2 * l + 0) ∙ ap (λ n. n + number_of bits) (doubled l (length bits))
 
-pub number-lt : (bits : List Bool) → number_of bits < 2 ^ length bits
-number-lt [] = omega arith
-number-lt (true ∷ bits) = let one = number-after bits 1 in let less = number-lt bits in let p = two-pow-succ (length bits) in omega arith
-number-lt (false ∷ bits) = let none = number-after bits 0 in let less = number-lt bits in let p = two-pow-succ (length bits) in omega arith
-
 number-byte_all : all_of_width 8 (λ b. number_of (byte_bits b) == b) ≡ true
 unfolding all_of_width byte_bits
 number-byte_all = refl
