@@ -1,8 +1,7 @@
 -- What `clap` answers that is no job, and what of it is shown on the output.
-use Rattle.std.proofs.Common.{rules, ◌≡◌, ◌≢◌, ◌⊎◌, inl, inr, Bool, true, false, List, [], Option, ℕ, refl, sym, ap, ◌∙◌, subst}
+use Rattle.std.proofs.Common.{rules, ◌≡◌, ◌≢◌, ◌⊎◌, inl, inr, Bool, true, false, List, [], Option, ℕ, sym, ap, ◌∙◌, subst}
 use Rattle.clap.specs.Words.{App, IsAmong, HasKind, Text, fault_of, kind_of, takes}
 use Rattle.clap.specs.declared.error.Error.{Error}
-use Rattle.clap.specs.declared.error.kind.ErrorKind.{ErrorKind}
 use Rattle.clap.specs.declared.error.kind.ErrorKind.TheVariants as kind
 use Rattle.station_main.specs.Command.{IsOwnFault, IsWordsFault, reopens_rounds}
 use Rattle.station_main.specs.Jobs.{HasNoMemory, IsObeyed, RefusesBoth, Says, is_shown}

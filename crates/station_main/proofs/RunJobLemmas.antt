@@ -1,7 +1,7 @@
 -- What the job `run` leaves.
 use Rattle.std.proofs.Common.{rules, ◌≡◌, ◌∙◌, ◌⊎◌, inl, inr, ℕ, Bool, true, false, List, [], ◌∷◌, ◌++◌, Option, Some, None, Result, Ok, Err, zero, suc, length-append, refl, sym, ap, subst, append-nil, take, drop, length, arith}
 use Rattle.std.specs.Prelude.{is_err, nat_lt, not}
-use Rattle.std.specs.Io.KnownBytes.{Keeps, append_known}
+use Rattle.std.specs.Io.KnownBytes.{append_known}
 use Rattle.std.proofs.Math.Seq.{take-append_seam}
 use Rattle.station_report.specs.Sink.{SinkState}
 use Rattle.station_journal.specs.declared.entry.Entry.{Entry}
@@ -20,8 +20,6 @@ use Rattle.station_main.proofs.ReportLemmas.{printed_at_most}
 -- a vector that was lent as a slice
 pub whole_list : {W : Type 0} (len : ℕ) (ws old : List W) → length ws ≡ length old → len ≡ length old → take len (ws ++ drop (length ws) old) ≡ ws
 whole_list len ws old same is = ap (λ n. take n (ws ++ drop (length ws) old)) (is ∙ sym same) ∙ take-append_seam ws (drop (length ws) old)
-
--- ---- the output out of its buffer
 
 -- ---- the whole run
 

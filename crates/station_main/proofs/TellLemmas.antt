@@ -2,7 +2,7 @@
 use Rattle.std.proofs.Common.{◌≡◌, ◌∙◌, ◌⊎◌, inl, inr, Bor, ℕ, ◌+◌, ◌<◌, List, [], ◌++◌, Result, length, take, get_or, sym, ap, subst}
 use Rattle.std.specs.Prelude.{fold, max}
 use Rattle.std.specs.List.{flat_map}
-use Rattle.std.proofs.KnownBytes.{Appends-nil, Appends-trans}
+use Rattle.std.proofs.KnownBytes.{Appends-trans}
 use Rattle.std.proofs.lemmas.List.{flat_map_more, take_more}
 use Rattle.std.proofs.lemmas.List.Sums.{fold_more}
 use Rattle.station_lines.specs.declared.pumping.PumpFault.{PumpFault}
