@@ -12,7 +12,8 @@ use Rattle.clap.specs.Walk.{Held, Names, Outcome, Step, Waiting, Walk, after_fla
 use Rattle.clap.specs.Words.{subcommand_of}
 use Rattle.station_main.specs.Command.{FormatNames, station}
 use Rattle.station_main.proofs.WalkedLemmas.{both_none, not_none}
-use Rattle.station_main.proofs.RunLemmas.{Among, among, none_some, replay_shape, run_shape, shapes_are, some_same}
+use Rattle.station_main.proofs.FoundLemmas.{Among, among, none_some, some_same}
+use Rattle.station_main.proofs.RunLineLemmas.{replay_shape, run_shape, shapes_are}
 
 -- ---- the command line of a job
 

@@ -5,7 +5,8 @@ use Rattle.station_desk.specs.History.{base_of}
 use Rattle.station_shared.specs.Seats.{newcomer}
 use Rattle.station_main.specs.Output.{buffered_of}
 use Rattle.station_main.specs.Rounds.{Begun, IsServedBy, begun_of}
-use Rattle.station_main.proofs.ReceiverLemmas.{answers_of, hand_over_reports, are_numbered, have_pumped, reporter_numbered, reports_from}
+use Rattle.station_main.proofs.ReceiverLemmas.{answers_of, hand_over_reports, are_numbered, have_pumped, reports_from}
+use Rattle.station_main.proofs.SeatNumberLemmas.{reporter_numbered}
 use Rattle.station_main.proofs.shift.run_shift.Goals as goal
 
 pub hand_over-requires-clause-numbered : goal.hand_over-requires-clause-numbered

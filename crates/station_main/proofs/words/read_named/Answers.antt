@@ -6,7 +6,8 @@ use Rattle.clap.proofs.WalkLemmas.{first_value-rows}
 use Rattle.station_main.specs.Command.{format_named, run_gives_both, station}
 use Rattle.station_main.proofs.RefusedLemmas.{words_fault_of}
 use Rattle.station_main.proofs.JobLemmas.{names_job}
-use Rattle.station_main.proofs.RunLemmas.{none_some, run_given, some_same}
+use Rattle.station_main.proofs.FoundLemmas.{none_some, some_same}
+use Rattle.station_main.proofs.RunLemmas.{run_given}
 use Rattle.station_main.proofs.WordLemmas.{is_free-station, is_simple-station, known_rows, is_replay, name_of_rows, names_run}
 use Rattle.station_main.proofs.words.read_named.Goals as goal
 

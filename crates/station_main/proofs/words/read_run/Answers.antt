@@ -5,7 +5,7 @@ use Rattle.std.specs.Str.Parse.{ExplainsUnsignedError, HasUnsignedDigitsIfOk, Pa
 use Rattle.clap.specs.Words.{found_of, one_text}
 use Rattle.clap.proofs.WalkLemmas.{first_value-rows, one_text-rows, raw_values-rows}
 use Rattle.station_main.specs.Command.{IsFlagText, IsNumberUpTo, IsPace, format_named, is_set, number, number_if_given}
-use Rattle.station_main.proofs.RunLemmas.{none_some, some_same}
+use Rattle.station_main.proofs.FoundLemmas.{none_some, some_same}
 use Rattle.station_main.proofs.WordLemmas.{fits_if_given, reads_flag, reads_if_given, reads_number, rounds_in_range, same_length}
 use Rattle.station_main.proofs.words.read_run.Goals as goal
 

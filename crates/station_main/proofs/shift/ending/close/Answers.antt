@@ -1,6 +1,7 @@
 use Rattle.std.proofs.Common.{map, subst, sym}
 use Rattle.station_shared.specs.Closing.{EachOnce}
-use Rattle.station_main.proofs.ReceiverLemmas.{all_once, closed_by}
+use Rattle.station_main.proofs.ReceiverLemmas.{closed_by}
+use Rattle.station_main.proofs.SeatNumberLemmas.{all_once}
 use Rattle.station_main.proofs.shift.ending.close.Goals as goal
 
 pub unreachable-requires : goal.unreachable-requires
