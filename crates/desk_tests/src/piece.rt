@@ -1,8 +1,9 @@
 //! Reads gathered to pieces while bytes are at hand.
 use arrayvec::ArrayVec;
-use modes_frame::{Cut, Cutter, Frame};
+use modes_frame::{Cut, Cutter};
 use station_lines::{
-    Ended, FrameTaker, FromBuffer, FromRead, LineTaker, PieceTaker, Source, take_each, take_lines,
+    Ended, FromBuffer, FromRead, LineTaker, ParsedLine, PieceTaker, Source, parse_heard, take_all,
+    take_lines,
 };
 use std::io::BufReader;
 use std::test::*;
@@ -16,13 +17,21 @@ struct Lengths {
 }
 
 impl LineTaker for Lengths {
+    ghost use Rattle.std.specs.Prelude.{false};
+
     type Stop = ();
+
+    ghost is_replay = { false };
 
     ghost took = { λ _ _ _ _. Unit {0} };
 
     ghost counted = { λ _. 0 };
 
-    fn take_line(&mut self, _cut: &Cut) -> Result<(), ()> {
+    fn parse(cut: &Cut) -> ParsedLine {
+        parse_heard(cut)
+    }
+
+    fn take_line(&mut self, _line: &ParsedLine) -> Result<(), ()> {
         Ok(())
     }
 
@@ -31,15 +40,9 @@ impl LineTaker for Lengths {
     ghost then = { λ _ _ _ _ _ _ _ _. tt };
 }
 
-impl FrameTaker for Lengths {
-    fn take_frame(&mut self, _frame: Frame) -> Result<(), ()> {
-        Ok(())
-    }
-}
-
 impl PieceTaker for Lengths {
     fn take_piece(&mut self, cutter: &mut Cutter, bytes: &[u8]) -> Result<(), ()> {
-        let taken = take_each(self, cutter, bytes);
+        let taken = take_all(self, cutter, bytes);
         let _fits = self.lengths.try_push(bytes.len());
         taken
     }

@@ -1,5 +1,5 @@
 -- Bytes of a source, one read after another.
-use Rattle.std.proofs.Common.{◌≡◌, ℕ, zero, suc, ◌+◌, ◌*◌, ◌-◌, ◌<◌, ◌≤◌, Bool, true, false, not, List, [], ◌∷◌, ◌++◌, length, take, drop, length-drop, Result, Ok, Err, refl, sym, ap, ◌∙◌, append_assoc, append-nil, length-append, map, arith}
+use Rattle.std.proofs.Common.{◌≡◌, ℕ, zero, suc, ◌+◌, ◌*◌, ◌-◌, ◌<◌, ◌≤◌, Bool, true, false, not, List, [], ◌∷◌, ◌++◌, length, take, drop, length-drop, Result, Ok, Err, OnOk, take-append-drop, refl, sym, ap, ◌∙◌, subst, append_assoc, append-nil, length-append, map, arith}
 use Rattle.std.specs.Option.{option_to_list}
 use Rattle.std.specs.Io.KnownBytes.{IsAtEnd}
 use Rattle.std.proofs.KnownBytes.{Consumes-nil, Consumes-trans, Consumes-kept, Appends-nil, Appends-trans, Appends-kept}
@@ -10,7 +10,7 @@ use Rattle.modes_frame.specs.Lines.{pieces, cut, cuts, last_line, pending, ended
 use Rattle.modes_frame.proofs.LineLemmas.{ended-push}
 use Rattle.station_report.specs.Sink.{counted}
 use Rattle.station_lines.specs.Source.{SourceState, one_more, counted_up, longest_read}
-use Rattle.station_lines.specs.Drawing.{Gives, GivesNone, Gathers, FailsOnce, Ending, AtEnd, ReadFailed, TurnsOver, LineStopped, EndsAs, is_read_failed, TakesBytes, TakesLast, Taken, ending_as, stopped_as, ended_by}
+use Rattle.station_lines.specs.Drawing.{Gives, GivesNone, Gathers, FailsOnce, Ending, AtEnd, ReadFailed, TurnsOver, LineStopped, EndsAs, is_read_failed, TakesEach, StopsWithin, TakesBytes, TakesLast, Taken, ending_as, stopped_as, ended_by}
 
 -- ---- bytes of a source
 
@@ -56,59 +56,74 @@ next_piece bytes i n =
     let whole : take (length bytes - i) (drop i bytes) ≡ drop i bytes = take_all (length bytes - i) (drop i bytes) (omega (arith, length-drop i bytes)) in
     take-add i n bytes ∙ ap (λ rest. take i bytes ++ take n rest) (sym whole)
 
-module _ {X E : Type 0} (Took : X → List Cut → Result (Unit {0}) E → X → Type 0)
-    (joined : (x y z : X) (cs ds : List Cut) (r : Result (Unit {0}) E) → Took x cs (Ok tt) y → Took y ds r z → Took x (cs ++ ds) r z)
-    (before bytes : List ℕ) (piece : List ℕ) (held : Cut) (x y : X) (so_far : TakesBytes Took before bytes held x y (Ok tt)) (more : List ℕ) (next : more ≡ bytes ++ piece) where
-  all_bytes : before ++ more ≡ (before ++ bytes) ++ piece
-  all_bytes = ap (λ bs. before ++ bs) next ∙ sym (append_assoc before bytes (piece))
+-- the lines of some bytes and of those after them
+both_ended : (before bytes piece : List ℕ) (lines more : List Cut) → ended_cuts (before ++ bytes) ≡ ended_cuts before ++ lines → ended_cuts ((before ++ bytes) ++ piece) ≡ ended_cuts (before ++ bytes) ++ more → ended_cuts (before ++ (bytes ++ piece)) ≡ ended_cuts before ++ (lines ++ more)
+both_ended before bytes piece lines more d e = ap ended_cuts (sym (append_assoc before bytes piece)) ∙ e ∙ ap (λ ls. ls ++ more) d ∙ append_assoc (ended_cuts before) lines more
 
-  all_ended : ended_cuts (before ++ bytes) ≡ ended_cuts before ++ so_far.lines
-  all_ended = so_far.ended ∙ ap (λ ls. ended_cuts before ++ (so_far.lines ++ ls)) so_far.all_taken.0 ∙ ap (λ ls. ended_cuts before ++ ls) (append-nil so_far.lines)
-
-  -- the piece ended no line
-  pub TakesBytes-quiet : (held_now : Cut) → held_now ≡ pending ((before ++ bytes) ++ piece) → ended_cuts ((before ++ bytes) ++ piece) ≡ ended_cuts (before ++ bytes) ++ [] → TakesBytes Took before more held_now x y (Ok tt)
-  TakesBytes-quiet held_now h e = record {
-    lines = so_far.lines;
-    left_out = [];
-    ended = ap ended_cuts all_bytes ∙ e ∙ append-nil _ ∙ all_ended ∙ ap (λ ls. ended_cuts before ++ ls) (sym (append-nil so_far.lines));
-    all_taken = (refl, h ∙ ap pending (sym all_bytes));
-    took = so_far.took;
+module _ {X E : Type 0} (Took : X → List Cut → Result (Unit {0}) E → X → Type 0) (before : List ℕ) where
+  -- no byte yet
+  pub TakesEach-none : (held : Cut) (x : X) → Took x [] (Ok tt) x → held ≡ pending before → TakesEach Took before [] held x x (Ok tt)
+  TakesEach-none held x none h = record {
+    lines = [];
+    ended = ap ended_cuts (append-nil before) ∙ sym (append-nil (ended_cuts before));
+    begun = h ∙ ap pending (sym (append-nil before));
+    took = none;
   }
 
-  -- the piece ended a line
-  ended_line : (line : Cut) → ended_cuts ((before ++ bytes) ++ piece) ≡ ended_cuts (before ++ bytes) ++ line ∷ [] → ended_cuts (before ++ more) ≡ ended_cuts before ++ (so_far.lines ++ line ∷ [])
-  ended_line line e = ap ended_cuts all_bytes ∙ e ∙ ap (λ ls. ls ++ line ∷ []) all_ended ∙ append_assoc (ended_cuts before) so_far.lines (line ∷ [])
-
-  pub TakesBytes-line : (held_now line : Cut) (z : X) → held_now ≡ pending ((before ++ bytes) ++ piece) → ended_cuts ((before ++ bytes) ++ piece) ≡ ended_cuts (before ++ bytes) ++ line ∷ [] → Took y (line ∷ []) (Ok tt) z → TakesBytes Took before more held_now x z (Ok tt)
-  TakesBytes-line held_now line z h e took = record {
-    lines = so_far.lines ++ line ∷ [];
-    left_out = [];
-    ended = ended_line line e ∙ ap (λ ls. ended_cuts before ++ ls) (sym (append-nil (so_far.lines ++ line ∷ [])));
-    all_taken = (refl, h ∙ ap pending (sym all_bytes));
-    took = joined x y z so_far.lines (line ∷ []) (Ok tt) so_far.took took;
-  }
-
-  -- the piece ended a line that stopped the taking
-  pub TakesBytes-stop : (held_now line : Cut) (z : X) (stop : E) (whole rest : List ℕ) → whole ≡ more ++ rest → ended_cuts ((before ++ bytes) ++ piece) ≡ ended_cuts (before ++ bytes) ++ line ∷ [] → Took y (line ∷ []) (Err stop) z → TakesBytes Took before whole held_now x z (Err stop)
-  TakesBytes-stop held_now line z stop whole rest w e took =
-      let others = ended-more (before ++ more) rest in
+  -- a line stopped the taking: further bytes change nothing
+  pub StopsWithin-longer : (bytes rest whole : List ℕ) (x z : X) (stop : E) → whole ≡ bytes ++ rest → StopsWithin Took before bytes x z stop → StopsWithin Took before whole x z stop
+  StopsWithin-longer bytes rest whole x z stop is stopped =
+      let others = ended-more (before ++ bytes) rest in
       record {
-        lines = so_far.lines ++ line ∷ [];
-        left_out = others.0;
-        ended = ap (λ bs. ended_cuts (before ++ bs)) w ∙ ap ended_cuts (sym (append_assoc before more rest)) ∙ others.1 ∙ ap (λ ls. ls ++ others.0) (ended_line line e) ∙ append_assoc (ended_cuts before) (so_far.lines ++ line ∷ []) others.0;
-        all_taken = tt;
-        took = joined x y z so_far.lines (line ∷ []) (Err stop) so_far.took took;
+        lines = stopped.lines;
+        left_out = stopped.left_out ++ others.0;
+        ended = ap (λ bs. ended_cuts (before ++ bs)) is ∙ ap ended_cuts (sym (append_assoc before bytes rest)) ∙ others.1 ∙ ap (λ ls. ls ++ others.0) stopped.ended
+            ∙ append_assoc (ended_cuts before) (stopped.lines ++ stopped.left_out) others.0 ∙ ap (λ ls. ended_cuts before ++ ls) (append_assoc stopped.lines stopped.left_out others.0);
+        took = stopped.took;
       }
 
--- no byte yet
-pub TakesBytes-none : {X E : Type 0} (Took : X → List Cut → Result (Unit {0}) E → X → Type 0) (before : List ℕ) (held : Cut) (x : X) → Took x [] (Ok tt) x → held ≡ pending before → TakesBytes Took before [] held x x (Ok tt)
-TakesBytes-none Took before held x none h = record {
-  lines = [];
-  left_out = [];
-  ended = ap ended_cuts (append-nil before) ∙ sym (append-nil (ended_cuts before));
-  all_taken = (refl, h ∙ ap pending (sym (append-nil before)));
-  took = none;
-}
+  -- the last line of some bytes stopped the taking
+  pub StopsWithin-each : (bytes : List ℕ) (n : ℕ) (held : Cut) (x z : X) (stop : E) → TakesEach Took before (take n bytes) held x z (Err stop) → StopsWithin Took before bytes x z stop
+  StopsWithin-each bytes n held x z stop each =
+      StopsWithin-longer (take n bytes) (drop n bytes) bytes x z stop (sym (take-append-drop n bytes))
+      (record { lines = each.lines; left_out = []; ended = each.ended ∙ ap (λ ls. ended_cuts before ++ ls) (sym (append-nil each.lines)); took = each.took })
+
+  -- all of these bytes, or those up to a line that stopped the taking
+  pub TakesBytes-each : (bytes : List ℕ) (n : ℕ) (held : Cut) (x z : X) (r : Result (Unit {0}) E) → OnOk r (n ≡ length bytes) → TakesEach Took before (take n bytes) held x z r → TakesBytes Took before bytes held x z r
+  TakesBytes-each bytes n held x z (Ok done) whole each =
+      let same : n ≡ length bytes = whole in
+      subst (λ (bs : List ℕ). TakesEach Took before bs held x z (Ok tt)) (take_all n bytes (omega arith)) each
+  TakesBytes-each bytes n held x z (Err stop) whole each = StopsWithin-each bytes n held x z stop each
+
+  -- bytes after which more bytes were taken
+  module _ (joined : (x y z : X) (cs ds : List Cut) (r : Result (Unit {0}) E) → Took x cs (Ok tt) y → Took y ds r z → Took x (cs ++ ds) r z)
+      {bytes piece : List ℕ} {held : Cut} {x y z : X} (so_far : TakesEach Took before bytes held x y (Ok tt)) where
+    pub TakesEach-more : {held_now : Cut} (r : Result (Unit {0}) E) → TakesEach Took (before ++ bytes) piece held_now y z r → TakesEach Took before (bytes ++ piece) held_now x z r
+    TakesEach-more r more = record {
+      lines = so_far.lines ++ more.lines;
+      ended = both_ended before bytes piece so_far.lines more.lines so_far.ended more.ended;
+      begun = more.begun ∙ ap pending (append_assoc before bytes piece);
+      took = joined x y z so_far.lines more.lines r so_far.took more.took;
+    }
+
+    pub StopsWithin-more : (stop : E) → StopsWithin Took (before ++ bytes) piece y z stop → StopsWithin Took before (bytes ++ piece) x z stop
+    StopsWithin-more stop more = record {
+      lines = so_far.lines ++ more.lines;
+      left_out = more.left_out;
+      ended = both_ended before bytes piece so_far.lines (more.lines ++ more.left_out) so_far.ended more.ended ∙ ap (λ ls. ended_cuts before ++ ls) (sym (append_assoc so_far.lines more.lines more.left_out));
+      took = joined x y z so_far.lines more.lines (Err stop) so_far.took more.took;
+    }
+
+  -- the next of these bytes
+  module _ (joined : (x y z : X) (cs ds : List Cut) (r : Result (Unit {0}) E) → Took x cs (Ok tt) y → Took y ds r z → Took x (cs ++ ds) r z)
+      (bytes : List ℕ) (i n : ℕ) {held : Cut} {x y z : X} (so_far : TakesEach Took before (take i bytes) held x y (Ok tt)) where
+    pub TakesEach-next : {held_now : Cut} (r : Result (Unit {0}) E) → TakesEach Took (before ++ take i bytes) (take n (take (length bytes - i) (drop i bytes))) held_now y z r → TakesEach Took before (take (i + n) bytes) held_now x z r
+    TakesEach-next {held_now} r more =
+        subst (λ (bs : List ℕ). TakesEach Took before bs held_now x z r) (sym (next_piece bytes i n)) (TakesEach-more joined so_far r more)
+
+    pub StopsWithin-next : (stop : E) → StopsWithin Took (before ++ take i bytes) (take n (take (length bytes - i) (drop i bytes))) y z stop → StopsWithin Took before bytes x z stop
+    StopsWithin-next stop more =
+        StopsWithin-longer _ (drop (i + n) bytes) bytes x z stop (sym (take-append-drop (i + n) bytes) ∙ ap (λ bs. bs ++ drop (i + n) bytes) (next_piece bytes i n)) (StopsWithin-more joined so_far stop more)
 
 -- ---- reads
 
@@ -121,7 +136,7 @@ pub record GivenSoFar {X E : Type 0} (Took : X → List Cut → Result (Unit {0}
   pub ends : now.ends ≡ counted (not is_over) old.ends
   pub over : is_over ≡ true → IsAtEnd now.left
   pub failures : now.failures ≡ old.failures
-  pub taken : TakesBytes Took [] given held x y (Ok tt)
+  pub taken : TakesEach Took [] given held x y (Ok tt)
 
 pub GivenSoFar-none : {X E : Type 0} (Took : X → List Cut → Result (Unit {0}) E → X → Type 0) (old : SourceState) (made : ℕ) (held : Cut) (x : X) → 0 ≡ made → Took x [] (Ok tt) x → held ≡ pending [] → GivenSoFar Took old old made false held x x
 GivenSoFar-none Took old made held x first none h = record {
@@ -132,30 +147,27 @@ GivenSoFar-none Took old made held x first none h = record {
   ends = refl;
   over = λ e. cc;
   failures = refl;
-  taken = TakesBytes-none Took [] held x none h;
+  taken = TakesEach-none Took [] held x none h;
 }
 
 module _ {X E : Type 0} (Took : X → List Cut → Result (Unit {0}) E → X → Type 0)
     (joined : (x y z : X) (cs ds : List Cut) (r : Result (Unit {0}) E) → Took x cs (Ok tt) y → Took y ds r z → Took x (cs ++ ds) r z)
     {old mid : SourceState} {before : ℕ} {is_over : Bool} {held : Cut} {x y : X} (so_far : GivenSoFar Took old mid before is_over held x y) where
   taken_so_far : ended_cuts so_far.given ≡ so_far.taken.lines
-  taken_so_far = so_far.taken.ended ∙ ap (λ ls. so_far.taken.lines ++ ls) so_far.taken.all_taken.0 ∙ append-nil so_far.taken.lines
+  taken_so_far = so_far.taken.ended
 
   all_lines : cuts so_far.given ≡ so_far.taken.lines ++ map cut (last_line (pieces so_far.given).rest)
   all_lines = cuts-ended so_far.given ∙ ap (λ ls. ls ++ map cut (last_line (pieces so_far.given).rest)) taken_so_far
 
   -- no end was found yet: the lines taken of the next piece, and of all
   module _ {new : SourceState} {left n made : ℕ} {piece : List ℕ} {ends_now : Bool} (not_yet : is_over ≡ false) (read : Gathers mid new left piece n ends_now) (all_made : made ≡ before + n) where
-    with_piece : {held_now : Cut} {z : X} (r : Result (Unit {0}) E) (more : TakesBytes Took so_far.given piece held_now y z r) → ended_cuts (so_far.given ++ piece) ≡ (so_far.taken.lines ++ more.lines) ++ more.left_out
-    with_piece r more = more.ended ∙ ap (λ ls. ls ++ (more.lines ++ more.left_out)) taken_so_far ∙ sym (append_assoc so_far.taken.lines more.lines more.left_out)
-
     all_asked : length (so_far.given ++ piece) ≤ longest_read * made
     all_asked = omega (arith, length-append so_far.given piece, so_far.asked, read.asked)
 
     all_reads : new.reads ≡ counted_up made old.reads
     all_reads = counted_up-more n before old.reads mid.reads new.reads so_far.reads read.reads ∙ ap (λ i. counted_up i old.reads) (omega arith)
 
-    pub GivenSoFar-piece : {held_now : Cut} {z : X} → TakesBytes Took so_far.given piece held_now y z (Ok tt) → GivenSoFar Took old new made ends_now held_now x z
+    pub GivenSoFar-piece : {held_now : Cut} {z : X} → TakesEach Took so_far.given piece held_now y z (Ok tt) → GivenSoFar Took old new made ends_now held_now x z
     GivenSoFar-piece {held_now} {z} more = record {
       given = so_far.given ++ piece;
       bytes = Gives-trans old mid new so_far.given piece so_far.bytes read.given;
@@ -164,32 +176,27 @@ module _ {X E : Type 0} (Took : X → List Cut → Result (Unit {0}) E → X →
       ends = read.ends ∙ ap (λ i. counted (not ends_now) i) (so_far.ends ∙ ap (λ b. counted (not b) old.ends) not_yet);
       over = read.over;
       failures = read.failures ∙ so_far.failures;
-      taken = record {
-        lines = so_far.taken.lines ++ more.lines;
-        left_out = more.left_out;
-        ended = with_piece (Ok tt) more;
-        all_taken = (more.all_taken.0, more.all_taken.1);
-        took = joined x y z so_far.taken.lines more.lines (Ok tt) so_far.taken.took more.took;
-      };
+      taken = TakesEach-more Took [] joined so_far.taken (Ok tt) more;
     }
 
     -- a line of the piece stopped the call
-    pub Taken-stop : {held_now : Cut} {z : X} (turns : ℕ) (stop : E) → made ≤ turns → TakesBytes Took so_far.given piece held_now y z (Err stop) → Taken Took old new turns LineStopped x z (Err stop)
-    Taken-stop {held_now} {z} turns stop within more =
+    pub Taken-stop : {z : X} (turns : ℕ) (stop : E) → made ≤ turns → StopsWithin Took so_far.given piece y z stop → Taken Took old new turns LineStopped x z (Err stop)
+    Taken-stop {z} turns stop within more =
         let given : List ℕ = so_far.given ++ piece in
+        let all = StopsWithin-more Took [] joined so_far.taken stop more in
         let others : List Cut = map cut (last_line (pieces given).rest) in
         record {
-          lines = so_far.taken.lines ++ more.lines;
+          lines = all.lines;
           draws = record {
             given = given;
-            left_out = more.left_out ++ others;
+            left_out = all.left_out ++ others;
             bytes = Gives-trans old mid new so_far.given piece so_far.bytes read.given;
-            front = cuts-ended given ∙ ap (λ ls. ls ++ others) (with_piece (Err stop) more) ∙ append_assoc (so_far.taken.lines ++ more.lines) more.left_out others;
+            front = cuts-ended given ∙ ap (λ ls. ls ++ others) all.ended ∙ append_assoc all.lines all.left_out others;
             ends = tt;
             failures = read.failures ∙ so_far.failures;
             reads = (made, within, all_reads, all_asked);
           };
-          took = joined x y z so_far.taken.lines more.lines (Err stop) so_far.taken.took more.took;
+          took = all.took;
         }
 
   -- a read failed

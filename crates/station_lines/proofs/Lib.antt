@@ -1,7 +1,7 @@
 pub mod CommandLemmas
 pub mod DigitLemmas
 pub mod DrawingLemmas
+pub mod ParsedLemmas
 pub mod PieceLemmas
-pub mod PlainLemmas
 pub mod PumpLemmas
 pub mod TallyLemmas

@@ -12,7 +12,7 @@ use Rattle.station_journal.specs.declared.refusal.Refusal.{Refusal}
 use Rattle.station_journal.specs.declared.refusal.Refusal.TheVariants.{Unsupported, BadParity, Unassigned, Unknown, JournalFull, BookFull, NoMemory, NotLater, Repeated}
 use Rattle.station_lines.specs.Calls.{heard, heard_line}
 use Rattle.station_lines.specs.Command.{of_line}
-use Rattle.station_lines.specs.Counting.{Counts, is_tick, is_show}
+use Rattle.station_lines.specs.Counting.{Counts, CountsNoCall, is_tick, is_show}
 use Rattle.station_lines.specs.Drawing.{Taken, ending_as, stopped_as}
 use Rattle.station_lines.specs.Feeds.{is_reply}
 use Rattle.station_lines.specs.Pump.{Wants, Pumping, Pumps, PumpsFrame, PumpsAll, answer_of, tally_of_pump, want_of, ending_of}
@@ -23,6 +23,7 @@ use Rattle.station_lines.specs.declared.pumping.PumpFault.TheVariants as Faults
 use Rattle.station_lines.specs.declared.taking.Ended.{Ended}
 use Rattle.station_lines.specs.declared.taking.Ended.TheVariants as Ends
 use Rattle.station_lines.specs.declared.tally.Tally.{Tally}
+use Rattle.station_lines.proofs.ParsedLemmas.{IsQuiet}
 use Rattle.station_lines.proofs.TallyLemmas.{Counts-from}
 
 -- ---- a line with a frame
@@ -85,11 +86,30 @@ unfolding heard_line
 no_show (Whole line) = of_line_show (reading_of line)
 no_show TooLong = refl
 
+-- ---- a line that says nothing
+
+pub Pumps-quiet : {F : Type 0} (gives : F → List ℕ → Result (Unit {0}) Refusal → F → Type 0) (x : F) (line : Cut) (s t : Tally) → IsQuiet (heard line) → CountsNoCall s t 0 0 0
+    → Pumps gives (record { feed = x; tally = s }) (line ∷ []) (Ok tt) (record { feed = x; tally = t })
+Pumps-quiet gives x line s t quiet counts = record {
+  answers = [];
+  feeds = rw quiet.no_frame refl;
+  wants = refl;
+  counts = record {
+    lines_more = counts.lines_more;
+    frames_more = rw quiet.frames (omega (arith, counts.frames_same));
+    ticks_more = rw (no_tick line) (omega (arith, counts.ticks_same));
+    shows_more = rw (no_show line) (omega (arith, counts.shows_more));
+    mode_ac_more = rw quiet.mode_acs (omega (arith, counts.mode_ac_more));
+    blank_more = rw quiet.blanks (omega (arith, counts.blank_more));
+  };
+  accepted = omega (arith, counts.accepted_same);
+}
+
+-- ---- the ends of a pump
+
 none_by : (p : Cut → Bool) → ((line : Cut) → p line ≡ false) → (lines : List Cut) → count_by p lines ≡ 0
 none_by p none [] = refl
 none_by p none (c ∷ cs) = let here = none c in rw here (none_by p none cs)
-
--- ---- the ends of a pump
 
 module _ {F : Type 0} (gives : F → List ℕ → Result (Unit {0}) Refusal → F → Type 0) {x z : Pumping F} {old new : SourceState} {turns : ℕ} (empty : x.tally.lines ≡ 0) where
   -- what a pump has done once all lines were taken, by its answer

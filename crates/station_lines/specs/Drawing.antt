@@ -1,5 +1,5 @@
 -- The lines that a call takes of what its source gives.
-use Rattle.std.specs.Prelude.{◌≡◌, ℕ, ◌*◌, ◌<◌, ◌≤◌, Bool, true, false, not, nat_lt, List, length, [], ◌++◌, Result, Ok, Err, OnOk}
+use Rattle.std.specs.Prelude.{◌≡◌, ℕ, ◌*◌, ◌<◌, ◌≤◌, Bool, true, false, not, nat_lt, List, length, [], ◌++◌, Result, Ok, Err}
 use Rattle.std.specs.Io.KnownBytes.{Appends, Consumes, Keeps, IsAtEnd}
 use Rattle.modes_frame.specs.declared.cutter.Cut.{Cut}
 use Rattle.modes_frame.specs.Lines.{cuts, ended_cuts, pending}
@@ -79,13 +79,24 @@ pub record Draws (old new : SourceState) (turns : ℕ) (ending : Ending) (lines 
   pub failures : new.failures ≡ counted (not (is_read_failed ending)) old.failures
   pub reads : (made : ℕ) × (made ≤ turns) × (new.reads ≡ counted_up made old.reads) × (length given ≤ longest_read * made)
 
--- the lines taken, as Took says, of those that end in `bytes`, after the bytes before them: all, or a prefix
-pub record TakesBytes {X E : Type 0} (Took : X → List Cut → Result (Unit {0}) E → X → Type 0) (before bytes : List ℕ) (held : Cut) (x y : X) (result : Result (Unit {0}) E) : Type 0 where
+-- the lines that end in `bytes`, after the bytes before them, were taken, as Took says
+pub record TakesEach {X E : Type 0} (Took : X → List Cut → Result (Unit {0}) E → X → Type 0) (before bytes : List ℕ) (held : Cut) (x y : X) (result : Result (Unit {0}) E) : Type 0 where
+  pub lines : List Cut
+  pub ended : ended_cuts (before ++ bytes) ≡ ended_cuts before ++ lines
+  pub begun : held ≡ pending (before ++ bytes)
+  pub took : Took x lines result y
+
+-- the first of these lines were taken, up to one that stopped the taking
+pub record StopsWithin {X E : Type 0} (Took : X → List Cut → Result (Unit {0}) E → X → Type 0) (before bytes : List ℕ) (x y : X) (stop : E) : Type 0 where
   pub lines : List Cut
   pub left_out : List Cut
   pub ended : ended_cuts (before ++ bytes) ≡ ended_cuts before ++ (lines ++ left_out)
-  pub all_taken : OnOk result ((left_out ≡ []) × (held ≡ pending (before ++ bytes)))
-  pub took : Took x lines result y
+  pub took : Took x lines (Err stop) y
+
+-- these lines were taken: all, or up to one that stopped the taking
+abbrev pub TakesBytes : {X E : Type 0} → (X → List Cut → Result (Unit {0}) E → X → Type 0) → List ℕ → List ℕ → Cut → X → X → Result (Unit {0}) E → Type 0
+TakesBytes Took before bytes held x y (Ok done) = TakesEach Took before bytes held x y (Ok tt)
+TakesBytes Took before bytes held x y (Err stop) = StopsWithin Took before bytes x y stop
 
 -- the last line, without its line feed, where it isn't empty
 pub record TakesLast {X E : Type 0} (Took : X → List Cut → Result (Unit {0}) E → X → Type 0) (before : List ℕ) (x y : X) (result : Result (Unit {0}) E) : Type 0 where

@@ -5,6 +5,7 @@ pub mod Counting
 pub mod CountingLaws
 pub mod Drawing
 pub mod Feeds
+pub mod ParsedLines
 pub mod Piece
 pub mod Pump
 pub mod PumpLaws

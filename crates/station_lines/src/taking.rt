@@ -1,19 +1,25 @@
 //! What takes lines one after another, and the loops that give it the lines of a source.
-ghost use Rattle.std.specs.Prelude.{◌≡◌, ℕ, ◌+◌, ◌^◌, ◌<◌, ◌≤◌, List, length};
+ghost use Rattle.std.specs.Prelude.{◌≡◌, ℕ, ◌+◌, ◌^◌, ◌<◌, ◌≤◌, List, length, take, OnOk};
+ghost use Rattle.std.specs.Option.{option_to_list};
 ghost use Rattle.modes_frame.specs.Lines.{pending};
-ghost use Rattle.station_lines.specs.Drawing.{TakesBytes, TakesLast, Taken, ended_by, ending_as, stopped_as};
+ghost use Rattle.station_lines.specs.Drawing.{TakesBytes, TakesEach, TakesLast, Taken, ended_by, ending_as, stopped_as};
 
+use crate::parsed_line::ParsedLine;
 use crate::piece::Piece;
 use crate::source::Source;
-use modes_frame::{Cut, Cutter, Frame};
+use modes_frame::{CheckedFrame, Cut, Cutter};
 
 /// Takes lines one after another, and counts them.
 pub trait LineTaker {
-    ghost use Rattle.std.specs.Prelude.{◌≡◌, ℕ, ◌+◌, ◌^◌, ◌<◌, ◌≤◌, List, [], ◌∷◌, ◌++◌, Result, Ok};
+    ghost use Rattle.std.specs.Prelude.{◌≡◌, ℕ, ◌+◌, ◌^◌, ◌<◌, ◌≤◌, Bool, List, [], ◌∷◌, ◌++◌, Result, Ok};
     ghost use Rattle.modes_frame.specs.declared.cutter.Cut.{Cut};
+    ghost use Rattle.station_lines.specs.ParsedLines.{parsed_of, read_as};
 
     /// Why no further line is taken.
     type Stop;
+
+    /// Whether its lines are those of a replay, with ticks and questions, or of a receiver alone.
+    ghost is_replay: { Bool };
 
     /// The state before some lines, these lines, whether the last of them stopped it, and the state after them.
     ghost took: { Self → List Cut → Result (Unit {0}) Self.Stop → Self → Type 0 };
@@ -21,11 +27,16 @@ pub trait LineTaker {
     /// How many lines it has counted.
     ghost counted: { Self → ℕ };
 
-    /// Takes one line.
-    fn take_line(&mut self, cut: &Cut) -> Result<(), Self::Stop>
+    /// What one of its lines says, as it was cut.
+    fn parse(cut: &Cut) -> ParsedLine
+        ensures { result ≡ parsed_of (read_as is_replay cut.now) };
+
+    /// Takes one line, as `parse` gave it.
+    fn take_line(&mut self, line: &ParsedLine) -> Result<(), Self::Stop>
         requires room { counted self.old + 1 < 2 ^ 64 }
         ensures counted { counted self.new ≤ counted self.old + 1 }
-        ensures taken { took self.old (cut.now ∷ []) result self.new };
+        ensures taken { (cut : Cut) → line.now ≡ parsed_of (read_as is_replay cut) →
+            took self.old (cut ∷ []) result self.new };
 
     /// Where there are no lines, nothing changes.
     ghost none: { (x : Self) → took x [] (Ok tt) x };
@@ -33,21 +44,6 @@ pub trait LineTaker {
     /// Taking some lines and then others takes them all, in order.
     ghost then: { (x y z : Self) (cs ds : List Cut) (r : Result (Unit {0}) Self.Stop)
         → took x cs (Ok tt) y → took y ds r z → took x (cs ++ ds) r z };
-}
-
-/// Takes the frames of lines that were read in place.
-pub trait FrameTaker: LineTaker {
-    ghost use Rattle.std.specs.Prelude.{◌≡◌, ℕ, ◌+◌, ◌^◌, ◌<◌, ◌≤◌, List, [], ◌∷◌, Ok};
-    ghost use Rattle.modes_frame.specs.declared.cutter.Cut.TheVariants.{Whole};
-    ghost use Rattle.modes_frame.specs.declared.line.Line.TheVariants as Lines;
-    ghost use Rattle.modes_frame.specs.Reading.{reading_of};
-
-    /// Takes a line of this frame.
-    fn take_frame(&mut self, frame: Frame) -> Result<(), Self::Stop>
-        requires room { Self.counted self.old + 1 < 2 ^ 64 }
-        ensures counted { Self.counted self.new ≤ Self.counted self.old + 1 }
-        ensures taken { (line : List ℕ) → reading_of line ≡ Ok (Lines.Frame frame) →
-            Self.took self.old (Whole line ∷ []) result self.new };
 }
 
 /// Takes the lines of a piece of a source's bytes.
@@ -59,7 +55,6 @@ pub trait PieceTaker: LineTaker {
     /// Takes the lines that end in `bytes`. The cutter has the bytes of the first that came before these.
     fn take_piece(&mut self, cutter: &mut Cutter, bytes: &[u8]) -> Result<(), Self::Stop>
         requires room { Self.counted self.old + length bytes.now < 2 ^ 64 }
-        requires begun { (before : List ℕ) × (cutter.old ≡ pending before) }
         ensures counted { Self.counted self.new ≤ Self.counted self.old + length bytes.now }
         ensures taken { (before : List ℕ) → cutter.old ≡ pending before →
             TakesBytes Self.took before bytes.now cutter.new self.old self.new result };
@@ -78,8 +73,68 @@ pub enum Ended<E> {
     Stopped(E),
 }
 
-/// Takes the lines that end in `bytes` one by one, plain ones in place.
-pub fn take_each<T: FrameTaker>(
+// Takes the line that was cut, if there is one.
+fn take_cut<T: LineTaker>(taker: &mut T, cut: Option<Cut>) -> Result<(), T::Stop>
+    requires room { T.counted taker.old + 1 < 2 ^ 64 }
+    ensures counted { T.counted taker.new ≤ T.counted taker.old + 1 }
+    ensures taken { T.took taker.old (option_to_list cut) result taker.new }
+{
+    match cut {
+        Some(cut) => taker.take_line(&T::parse(&cut)),
+        None => Ok(()),
+    }
+}
+
+// Takes the next line, a plain one in place, or only reads the bytes where they end none. Answers how many it read.
+#[inline(always)]
+fn take_next<T: LineTaker>(
+    taker: &mut T,
+    cutter: &mut Cutter,
+    bytes: &[u8],
+) -> (usize, Result<(), T::Stop>)
+    requires room { T.counted taker.old + 1 < 2 ^ 64 }
+    ensures within { result.0 ≤ length bytes.now }
+    ensures some { 0 < length bytes.now → 0 < result.0 }
+    ensures counted { T.counted taker.new ≤ T.counted taker.old + 1 }
+    ensures taken { (before : List ℕ) → cutter.old ≡ pending before →
+        TakesEach T.took before (take result.0 bytes.now) cutter.new taker.old taker.new result.1 }
+{
+    if let Some(plain) = cutter.plain_line(bytes) {
+        let heard = CheckedFrame::of(plain.frame);
+        return (plain.length, taker.take_line(&ParsedLine::Frame(heard)));
+    }
+    let (read, cut) = cutter.push_line(bytes);
+    (read, take_cut(taker, cut))
+}
+
+/// Takes the lines that end in `bytes` one by one, up to one that stops it. Answers how many bytes these are.
+pub fn take_each<T: LineTaker>(
+    taker: &mut T,
+    cutter: &mut Cutter,
+    bytes: &[u8],
+) -> (usize, Result<(), T::Stop>)
+    requires room { T.counted taker.old + length bytes.now < 2 ^ 64 }
+    ensures within { result.0 ≤ length bytes.now }
+    ensures some { 0 < length bytes.now → 0 < result.0 }
+    ensures all { OnOk result.1 (result.0 ≡ length bytes.now) }
+    ensures counted { T.counted taker.new ≤ T.counted taker.old + result.0 }
+    ensures taken { (before : List ℕ) → cutter.old ≡ pending before →
+        TakesEach T.took before (take result.0 bytes.now) cutter.new taker.old taker.new result.1 }
+{
+    let mut at = 0;
+    while at < bytes.len() {
+        let (read, taken) = take_next(taker, cutter, &bytes[at..]);
+        at += read;
+        match taken {
+            Ok(()) => {}
+            Err(stop) => return (at, Err(stop)),
+        }
+    }
+    (at, Ok(()))
+}
+
+/// Takes the lines that end in `bytes` one by one, up to one that stops it.
+pub fn take_all<T: LineTaker>(
     taker: &mut T,
     cutter: &mut Cutter,
     bytes: &[u8],
@@ -89,21 +144,7 @@ pub fn take_each<T: FrameTaker>(
     ensures taken { (before : List ℕ) → cutter.old ≡ pending before →
         TakesBytes T.took before bytes.now cutter.new taker.old taker.new result }
 {
-    let mut at = 0;
-    while at < bytes.len() {
-        if let Some(plain) = cutter.plain_line(&bytes[at..]) {
-            at += plain.length;
-            taker.take_frame(plain.frame)?;
-            continue;
-        }
-        let (taken, cut) = cutter.push_line(&bytes[at..]);
-        at += taken;
-        match cut {
-            Some(cut) => taker.take_line(&cut)?,
-            None => {}
-        }
-    }
-    Ok(())
+    take_each(taker, cutter, bytes).1
 }
 
 // Takes a last line without its line feed, unless it is empty.
@@ -112,10 +153,7 @@ fn take_last<T: LineTaker>(taker: &mut T, cutter: &mut Cutter) -> Result<(), T::
     ensures taken { (before : List ℕ) → cutter.old ≡ pending before →
         TakesLast T.took before taker.old taker.new result }
 {
-    match cutter.finish() {
-        Some(cut) => taker.take_line(&cut),
-        None => Ok(()),
-    }
+    take_cut(taker, cutter.finish())
 }
 
 // Why a call ended whose source reached its end: there, or at its last line.

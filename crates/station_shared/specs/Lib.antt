@@ -1,4 +1,5 @@
 pub mod Closing
+pub mod ParsedLaws
 pub mod ParsedLines
 pub mod Seats
 pub mod Workers

@@ -1,23 +1,23 @@
 //! Lines that are parsed, taken one after another while the lock of a station is kept.
 ghost use Rattle.std.specs.Prelude.{◌≡◌, ℕ, ◌+◌, ◌^◌, ◌<◌, ◌≤◌, List, [], ◌∷◌, Ok, length};
 ghost use Rattle.modes_frame.specs.declared.cutter.Cut.{Cut};
-ghost use Rattle.station_shared.specs.ParsedLines.{TakesFront, parsed_all, parsed_of};
+ghost use Rattle.station_shared.specs.ParsedLines.{TakesFront, parsed_all};
 ghost use Rattle.station_lines.specs.Calls.{heard};
+ghost use Rattle.station_lines.specs.ParsedLines.{parsed_of};
 ghost use Rattle.station_lines.specs.Pump.{Pumps, PumpsFrame};
 ghost use Rattle.station_shared.specs.Workers.{SeatSteps};
 ghost use mathlib.Core.List.{IsPrefix};
 
 use crate::counted_desk::CountedDesk;
 use crate::limits_met::LimitFlags;
-use crate::parsed_line::ParsedLine;
 use crate::seat::Seat;
 use crate::station::Station;
 use crate::station_name::StationName;
 use modes_frame::CheckedFrame;
 use station_book::Call;
 use station_journal::{NoMemory, Refusal};
-use station_lines::Tally;
 use station_lines::pumping::stop_after;
+use station_lines::{ParsedLine, Tally};
 use std::sync::{MutexGuard, Wait};
 
 // Feeds a frame. Notes the limit that it meets.
@@ -70,9 +70,9 @@ pub(crate) fn take_line<const N: usize, L: StationName, R: Wait>(
     parsed: &ParsedLine,
 ) -> Result<(), NoMemory>
     requires room { tally.old.lines + 1 < 2 ^ 64 }
-    requires known { (line : Cut) × (parsed.now ≡ parsed_of (heard line)) }
     requires met { IsPrefix seat.old.seen desk.old.log.entries }
     ensures met { IsPrefix seat.new.seen desk.new.log.entries }
+    ensures lines { tally.new.lines ≤ tally.old.lines + 1 }
     ensures taken { (line : Cut) → parsed.now ≡ parsed_of (heard line) → Pumps (SeatSteps L.start)
         (record { feed = seat.old; tally = tally.old }) (line ∷ []) result
         (record { feed = seat.new; tally = tally.new }) }
@@ -81,7 +81,7 @@ pub(crate) fn take_line<const N: usize, L: StationName, R: Wait>(
         ParsedLine::Frame(heard) => return take_frame(rt, flags, desk, seat, tally, heard),
         ParsedLine::ModeAc => tally.mode_ac(),
         ParsedLine::Blank => tally.blank(),
-        ParsedLine::Fault => tally.fault(),
+        ParsedLine::Tick(_) | ParsedLine::Show | ParsedLine::Fault => tally.fault(),
     }
     Ok(())
 }
@@ -96,7 +96,6 @@ fn take_parsed<const N: usize, L: StationName, R: Wait>(
     ahead: &[ParsedLine],
 ) -> Result<(), NoMemory>
     requires room { tally.old.lines + length ahead.now < 2 ^ 64 }
-    requires known { (lines : List Cut) × (ahead.now ≡ parsed_all lines) }
     requires met { IsPrefix seat.old.seen desk.old.log.entries }
     ensures lines { tally.new.lines ≤ tally.old.lines + length ahead.now }
     ensures taken { (lines : List Cut) → ahead.now ≡ parsed_all lines →
@@ -119,7 +118,6 @@ pub(crate) fn take_held<const N: usize, L: StationName, R: Wait>(
     ahead: &[ParsedLine],
 ) -> Result<(), NoMemory>
     requires room { tally.old.lines + length ahead.now < 2 ^ 64 }
-    requires known { (lines : List Cut) × (ahead.now ≡ parsed_all lines) }
     ensures lines { tally.new.lines ≤ tally.old.lines + length ahead.now }
     ensures taken { (lines : List Cut) → ahead.now ≡ parsed_all lines →
         TakesFront (Pumps (SeatSteps L.start)) lines

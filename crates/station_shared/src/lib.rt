@@ -1,13 +1,13 @@
 //! The station: a desk behind a lock, which many threads feed and look at.
 #![tactic(auto)]
 
+mod batch;
 pub mod close;
 mod counted_desk;
 mod held_lines;
 mod held_pump;
 pub mod limits_met;
 pub mod look;
-mod parsed_line;
 mod receipt;
 pub mod seat;
 pub mod seat_feed;

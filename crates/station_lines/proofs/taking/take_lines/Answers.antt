@@ -20,22 +20,22 @@ returns-in-Err-take_piece g c =
     let read = rw (← c.as_slice.ensures.value) at c.in-Ok.ensures.ok in
     let within : (c.args.turns - c.loop-left.left) + c.in-Ok.read.reads ≤ c.args.turns = omega (arith, inv.within, read.few) in
     Taken-stop g.T.LineTaker.took g.met.T.LineTaker.then inv.so_far refl read refl c.args.turns _ within
-    (c.in-Err-take_piece.ensures.taken inv.so_far.given inv.so_far.taken.all_taken.1)
+    (c.in-Err-take_piece.ensures.taken inv.so_far.given inv.so_far.taken.begun)
 
 pub returns-then-read : goal.returns-then-read
 returns-then-read g c =
     let inv = c.loop-left.invariant in
     let read = rw (← c.as_slice.ensures.value) at c.in-Ok.ensures.ok in
-    let taken = c.in-Ok-take_piece.ensures.taken inv.so_far.given inv.so_far.taken.all_taken.1 in
+    let taken = c.in-Ok-take_piece.ensures.taken inv.so_far.given inv.so_far.taken.begun in
     let all = GivenSoFar-piece g.T.LineTaker.took g.met.T.LineTaker.then inv.so_far refl read refl taken in
     let within : (c.args.turns - c.loop-left.left) + c.in-Ok.read.reads ≤ c.args.turns = omega (arith, inv.within, read.few) in
-    rw c.after_the_last.ensures (Taken-end g.T.LineTaker.took g.met.T.LineTaker.then all c.take_last.result c.args.turns _ c.if-read.true within (c.take_last.ensures.taken all.given all.taken.all_taken.1))
+    rw c.after_the_last.ensures (Taken-end g.T.LineTaker.took g.met.T.LineTaker.then all c.take_last.result c.args.turns _ c.if-read.true within (c.take_last.ensures.taken all.given all.taken.begun))
 
 pub loop-left-preserved : goal.loop-left-preserved
 loop-left-preserved g c =
     let inv = c.loop-left.invariant in
     let read = rw (← c.as_slice.ensures.value) at c.in-Ok.ensures.ok in
-    let taken = c.in-Ok-take_piece.ensures.taken inv.so_far.given inv.so_far.taken.all_taken.1 in
+    let taken = c.in-Ok-take_piece.ensures.taken inv.so_far.given inv.so_far.taken.begun in
     let made : c.args.turns - (c.loop-left.left - c.in-Ok.read.reads) ≡ (c.args.turns - c.loop-left.left) + c.in-Ok.read.reads = omega (arith, inv.within, read.few) in
     record {
       within = omega (arith, inv.within);

@@ -3,26 +3,13 @@ use Rattle.std.proofs.lemmas.List.{length-map}
 use Rattle.std.proofs.lemmas.Result.{err_from_is_err_and}
 use Rattle.modes_frame.specs.declared.cutter.Cut.{Cut}
 use Rattle.modes_frame.specs.declared.cutter.Cut.TheVariants.{TooLong}
-use Rattle.station_shared.specs.ParsedLines.{parsed_of}
 use Rattle.station_lines.specs.Calls.{heard}
+use Rattle.station_lines.specs.ParsedLines.{parsed_of}
 use Rattle.station_lines.specs.Pump.{Pumps}
 use Rattle.station_shared.specs.Workers.{SeatSteps}
 use Rattle.station_shared.proofs.ParsedLemmas.{parsed_line, line_more}
 use Rattle.station_lines.specs.PumpLaws.{Pumps-then}
 use Rattle.station_shared.proofs.held_lines.take_parsed.Goals as goal
-
-pub take_line-requires : goal.take_line-requires
-take_line-requires g c =
-    let i = c.loop-parsed.parsed-index in
-    let lines = c.requires.known.0 in
-    (omega arith, (omega arith, (omega (arith, c.requires.room, c.loop-parsed.invariant.room, c.loop-parsed-test.true), ((get_or lines i TooLong, parsed_line c.args.ahead.now lines i c.parsed-item.result c.requires.known.1 c.loop-parsed-test.true c.parsed-item.is), c.loop-parsed.invariant.met))))
-
-pub returns-in_err-take_line-clause-lines : goal.returns-in_err-take_line-clause-lines
-returns-in_err-take_line-clause-lines g c =
-    let i = c.loop-parsed.parsed-index in
-    let lines = c.requires.known.0 in
-    let pumps = c.in_err-take_line.ensures.taken (get_or lines i TooLong) (parsed_line c.args.ahead.now lines i c.parsed-item.result c.requires.known.1 c.loop-parsed-test.true c.parsed-item.is) in
-    omega (arith, pumps.counts.lines_more, c.loop-parsed.invariant.room, c.loop-parsed-test.true)
 
 pub returns-in_err-take_line-clause-taken : goal.returns-in_err-take_line-clause-taken
 returns-in_err-take_line-clause-taken g c lines h =
@@ -43,10 +30,8 @@ pub loop-parsed-preserved : goal.loop-parsed-preserved
 loop-parsed-preserved g c =
     let i = c.loop-parsed.parsed-index in
     let gives = SeatSteps g.L.StationName.start in
-    let known = c.requires.known.0 in
-    let one = c.in_ok-take_line.ensures.taken (get_or known i TooLong) (parsed_line c.args.ahead.now known i c.parsed-item.result c.requires.known.1 c.loop-parsed-test.true c.parsed-item.is) in
     record {
-      room = omega (arith, one.counts.lines_more, c.loop-parsed.invariant.room);
+      room = omega (arith, c.take_line.ensures.lines, c.loop-parsed.invariant.room);
       met = c.take_line.ensures.met;
       taken = λ lines h.
           let line = get_or lines i TooLong in

@@ -1,0 +1,106 @@
+-- What lines say, once they are parsed.
+use Rattle.std.proofs.Common.{◌≡◌, ℕ, nat_eq, nat_lt, Bool, true, false, cond, List, [], ◌∷◌, Result, Ok, Err, length, refl, sym, ap, ◌∙◌, ◌⊎◌, inl, inr}
+use Rattle.std.proofs.lemmas.Bool.Decides.{eqb_tells}
+use Rattle.modes_frame.specs.declared.cutter.Cut.TheVariants.{Whole}
+use Rattle.modes_frame.specs.declared.line.Line.TheVariants.{Frame, ModeAc, Blank}
+use Rattle.modes_frame.specs.declared.line.LineFault.TheVariants.{TooLong}
+use Rattle.modes_frame.specs.Reading.{is_start, line_of, reading_of, trimmed}
+use Rattle.station_lines.specs.Calls.{heard_line, said, frame_in}
+use Rattle.station_lines.specs.Command.{command_by, command_of, of_line}
+use Rattle.station_lines.specs.Counting.{is_frame, is_mode_ac, is_blank}
+use Rattle.station_lines.specs.ParsedLines.{parsed_of, read_as}
+use Rattle.station_lines.specs.declared.command.Command.{Command}
+use Rattle.station_lines.specs.declared.command.Command.TheVariants.{Tick, Show, Line as Received}
+use Rattle.station_lines.specs.declared.command.CommandFault.{CommandFault}
+use Rattle.station_lines.specs.declared.command.CommandFault.TheVariants.{Line as Faulty}
+use Rattle.station_lines.specs.declared.parsed_line.ParsedLine.{ParsedLine}
+use Rattle.station_lines.specs.declared.parsed_line.ParsedLine.TheVariants as parsed
+
+-- ---- a plain line
+
+-- no line that begins with another byte is read
+other-start : (c d : ℕ) (cs frame : List ℕ) → is_start d ≡ false → line_of (c ∷ cs) ≡ Ok (Frame frame) → nat_eq c d ≡ false
+other-start c d cs frame other h = elim (eqb_tells c d) [
+  | inl same ↦
+      let start : is_start c ≡ false = ap is_start same.1 ∙ other in
+      let none = rw start at h in
+      cc
+  | inr differs ↦ differs.0
+]
+
+said-by : (long : Bool) (rest frame : List ℕ) → cond long (Err TooLong) (line_of rest) ≡ Ok (Frame frame)
+    → cond long (Err (Faulty TooLong)) (command_by rest) ≡ Ok (Received (Frame frame))
+said-by true rest frame h = cc
+said-by false [] frame h = cc
+said-by false (c ∷ cs) frame h =
+    let no_tick = other-start c 43 cs frame refl h in
+    let no_question = other-start c 63 cs frame refl h in
+    rw (no_tick, no_question) (ap of_line h)
+
+pub said-plain : (line frame : List ℕ) → reading_of line ≡ Ok (Frame frame) → said (Whole line) ≡ Ok (Received (Frame frame))
+unfolding command_of
+said-plain line frame h = said-by (nat_lt 64 (length line)) (trimmed line) frame h
+
+-- a line that says a frame to a receiver says it in a replay too
+pub parsed-plain : (is_replay : Bool) (line frame : List ℕ) → reading_of line ≡ Ok (Frame frame) → parsed.Frame frame ≡ parsed_of (read_as is_replay (Whole line))
+unfolding heard_line
+parsed-plain true line frame h = ap parsed_of (sym (said-plain line frame h))
+parsed-plain false line frame h = ap (λ said_so. parsed_of (of_line said_so)) (sym h)
+
+-- ---- what was parsed
+
+pub parsed_frame : (r : Result Command CommandFault) (frame : List ℕ) → parsed.Frame frame ≡ parsed_of r → r ≡ Ok (Received (Frame frame))
+parsed_frame (Ok (Tick at)) frame e = cc
+parsed_frame (Ok Show) frame e = cc
+parsed_frame (Ok (Received (Frame f))) frame e = cc
+parsed_frame (Ok (Received ModeAc)) frame e = cc
+parsed_frame (Ok (Received Blank)) frame e = cc
+parsed_frame (Err fault) frame e = cc
+
+pub parsed_tick : (r : Result Command CommandFault) (at : ℕ) → parsed.Tick at ≡ parsed_of r → r ≡ Ok (Tick at)
+parsed_tick (Ok (Tick t)) at e = cc
+parsed_tick (Ok Show) at e = cc
+parsed_tick (Ok (Received (Frame f))) at e = cc
+parsed_tick (Ok (Received ModeAc)) at e = cc
+parsed_tick (Ok (Received Blank)) at e = cc
+parsed_tick (Err fault) at e = cc
+
+pub parsed_show : (r : Result Command CommandFault) → parsed.Show ≡ parsed_of r → r ≡ Ok Show
+parsed_show (Ok (Tick t)) e = cc
+parsed_show (Ok Show) e = refl
+parsed_show (Ok (Received (Frame f))) e = cc
+parsed_show (Ok (Received ModeAc)) e = cc
+parsed_show (Ok (Received Blank)) e = cc
+parsed_show (Err fault) e = cc
+
+-- neither a frame, nor a Mode A/C reply, nor blanks
+abbrev is_other : ParsedLine → Bool
+is_other (parsed.Frame frame) = false
+is_other (parsed.Tick at) = true
+is_other parsed.Show = true
+is_other parsed.ModeAc = false
+is_other parsed.Blank = false
+is_other parsed.Fault = true
+
+-- a line that says nothing to a pump
+pub record IsQuiet (r : Result Command CommandFault) : Type 0 where
+  pub no_frame : frame_in r ≡ []
+  pub frames : is_frame r ≡ false
+  pub mode_acs : is_mode_ac r ≡ false
+  pub blanks : is_blank r ≡ false
+
+parsed_other : (r : Result Command CommandFault) → is_other (parsed_of r) ≡ true → IsQuiet r
+parsed_other (Ok (Tick at)) e = record { no_frame = refl; frames = refl; mode_acs = refl; blanks = refl }
+parsed_other (Ok Show) e = record { no_frame = refl; frames = refl; mode_acs = refl; blanks = refl }
+parsed_other (Ok (Received (Frame f))) e = absurd (cc)
+parsed_other (Ok (Received ModeAc)) e = absurd (cc)
+parsed_other (Ok (Received Blank)) e = absurd (cc)
+parsed_other (Err fault) e = record { no_frame = refl; frames = refl; mode_acs = refl; blanks = refl }
+
+told_other : (p : ParsedLine) → ((at : ℕ) × (p ≡ parsed.Tick at)) ⊎ ((p ≡ parsed.Show) ⊎ (p ≡ parsed.Fault)) → is_other p ≡ true
+told_other p (inl tick) = ap is_other tick.1
+told_other p (inr (inl show)) = ap is_other show
+told_other p (inr (inr fault)) = ap is_other fault
+
+pub parsed_quiet : (p : ParsedLine) (r : Result Command CommandFault) → p ≡ parsed_of r → ((at : ℕ) × (p ≡ parsed.Tick at)) ⊎ ((p ≡ parsed.Show) ⊎ (p ≡ parsed.Fault)) → IsQuiet r
+parsed_quiet p r e other = parsed_other r (ap is_other (sym e) ∙ told_other p other)
