@@ -109,6 +109,9 @@ module _ {W R : Type 0} (start : Start) (entries : List Entry) (seat : W → Sea
         each = λ i b s a inside. one_receives inputs old new answers seats sources worked answered i b s a (omega (arith, inside, inputs_size));
       }
 
+  pub all_answered : (old new : List W) → HaveWorked start seat source answer old new → All (λ w. is_some (answer w) ≡ true) new
+  all_answered old new worked = λ i d inside. ap is_some (worked.each i d (omega (arith, inside, worked.many))).answered
+
   -- each receiver's seat keeps its number
   pub seats_numbered : (inputs : List (Portions R)) (old new : List W) → map seat old ≡ newcomers entries (length inputs) → map source old ≡ inputs
       → HaveWorked start seat source answer old new → (i : ℕ) (d : Seated) → i < length inputs → (get_or (map seat new) i d).number ≡ i

@@ -11,8 +11,11 @@ use Rattle.station_report.specs.declared.sinks.WriteFault.{WriteFault}
 use Rattle.station_desk.specs.Start.{Start}
 use Rattle.station_shared.specs.Seats.{Seated, Accepted, Refused, Looks}
 use Rattle.station_desk.specs.History.{Known}
-use Rattle.station_main.specs.Reporter.{Acting, IsShowing, IsLater, Reports, Showing, Showings, Ticks, after_table, after_tick, due_moments, has_come, looks_of, seat_after}
+use Rattle.station_main.specs.Reporter.{Acting, DoesAct, IsActAt, IsShowing, IsLater, Reports, Showing, Showings, Ticks, after_table, after_tick, due_moments, has_come, looks_of, seat_after}
 use Rattle.station_main.specs.Recorded.{IfRecording, PrintsAndRecords, Recording, Records, seen_by}
+use Rattle.station_main.specs.declared.reporter.Reported.{Reported}
+use Rattle.station_main.specs.declared.schedule.Act.{Act}
+use Rattle.station_main.specs.declared.schedule.Act.TheVariants as act
 use Rattle.station_main.specs.declared.schedule.Due.{Due}
 use Rattle.station_main.specs.declared.schedule.Tables.{Tables}
 use Rattle.station_main.specs.Tables.{Prints, PassesOver, TakesTexts, shown, texts, failures_after}
@@ -241,3 +244,22 @@ one_more_look station tables first due given given_now old mid new before after 
     records = so_far.reports.records;
   };
 }
+
+-- whatever is due is done
+pub one_more_act : {O K : Type 0} (state : O → SinkState) (record_of : K → Option Recording) (station : Start) (tables : Tables) (first : Due) (now : ℕ) (given given_before given_now : Option (List ℕ)) (old : Seated) (start : SinkState) (from : Option Recording) (done : Act) (was is : Reported Seated O K)
+    → ReportsTo station tables first was.due given given_before old was.seat start (state was.out) from (record_of was.beside) was.has_failed → was.has_failed ≡ false → Appends given_before given_now (now ∷ []) → IsActAt tables.pace was.due now done
+    → DoesAct state record_of tables.format station done was is → ReportsTo station tables first is.due given given_now old is.seat start (state is.out) from (record_of is.beside) is.has_failed
+one_more_act state record_of station tables first now given given_before given_now old start from (act.Sleep pause) was is so_far well gives due does =
+    rw does (one_more_sleep _ _ _ _ now _ _ _ _ _ _ _ _ _ _ so_far gives due.0 due.1)
+one_more_act state record_of station tables first now given given_before given_now old start from (act.Tick at next) was is so_far well gives due does =
+    let ticks = subst (λ (t : ℕ). Ticks station was.seat t is.seat) due.2 does.0 in
+    rw (does.1, does.2, does.3, does.4, due.3, well) (one_more_tick station tables first was.due now given given_before given_now old was.seat is.seat start (state was.out) from (record_of was.beside) (rw well at so_far) gives due.0 due.1 ticks)
+one_more_act state record_of station tables first now given given_before given_now old start from (act.Print at next) was is so_far well gives due does =
+    let ticks = subst (λ (t : ℕ). Ticks station was.seat t does.0) due.1 does.2 in
+    rw (does.4, does.5, due.2) (one_more_showing station tables first was.due now given given_before given_now old was.seat does.0 is.seat start (state was.out) (state is.out) from (record_of was.beside) (record_of is.beside) does.1 (rw well at so_far) gives due.0 ticks does.3)
+
+-- nothing that it does asks for a hand-over
+pub never_asks : {O K : Type 0} (state : O → SinkState) (record_of : K → Option Recording) (format : Format) (station : Start) (done : Act) (was is : Reported Seated O K) → DoesAct state record_of format station done was is → is.asked_at ≡ was.asked_at
+never_asks {O} {K} state record_of format station (act.Sleep pause) was is does = ap (λ (r : Reported Seated O K). r.asked_at) does
+never_asks state record_of format station (act.Tick at next) was is does = does.5
+never_asks state record_of format station (act.Print at next) was is does = does.6

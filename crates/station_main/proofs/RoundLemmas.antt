@@ -98,10 +98,17 @@ receiver_seats entries count inputs seats others last split made many =
 
 -- ---- rounds
 
-pub cut_short : (asked : Asked) (more : ℕ) (given : Given) (before : Option (List ℕ)) (after : Option (Option (List ℕ))) (was is : Option Recording) (err_old err_new : Told) (status : ℕ) → 0 < more
+cut_short : (asked : Asked) (more : ℕ) (given : Given) (before : Option (List ℕ)) (after : Option (Option (List ℕ))) (was is : Option Recording) (err_old err_new : Told) (status : ℕ) → 0 < more
     → IsCutShort asked given before after was is err_old err_new status → Runs asked more given before after was is err_old err_new status
 cut_short asked zero given before after was is err_old err_new status some cut = absurd (omega (arith, some))
 cut_short asked (suc more) given before after was is err_old err_new status some cut = inr cut
+
+-- a round that ends the run is the last where none is to come, and else cuts it short
+pub over_runs : (is_last : Bool) (asked : Asked) (more : ℕ) (given : Given) (before : Option (List ℕ)) (after : Option (Option (List ℕ))) (was is : Option Recording) (err_old err_new : Told) (status : ℕ) → (is_last ≡ true → more ≡ 0) → (is_last ≡ false → 0 < more)
+    → IsOver is_last asked given before after was is err_old err_new status → Runs asked more given before after was is err_old err_new status
+over_runs true asked more given before after was is err_old err_new status none some over =
+    subst (λ (n : ℕ). Runs asked n given before after was is err_old err_new status) (sym (none refl)) over
+over_runs false asked more given before after was is err_old err_new status none some over = cut_short asked more given before after was is err_old err_new status (some refl) over
 
 pub one_more_round : (asked : Asked) (more left : ℕ) (given kept : Given) (before mid : Option (List ℕ)) (after : Option (Option (List ℕ))) (was recorded is : Option Recording) (err_old err_mid err_new : Told) (status : ℕ)
     → more ≡ left + 1 → HandsOn asked given before mid was recorded err_old err_mid kept → Runs asked left kept mid after recorded is err_mid err_new status → Runs asked more given before after was is err_old err_new status

@@ -1,19 +1,23 @@
 -- When the reporter acts, and what it prints.
-use Rattle.std.specs.Prelude.{◌≡◌, ℕ, ◌+◌, ◌-◌, ◌*◌, ◌/◌, ◌^◌, ◌≤◌, ◌<◌, ◌⊎◌, ◌&&◌, Bool, true, false, List, [], ◌∷◌, Option, Some, None, IfSome, cond, length, map, min, nat_le, nat_lt, unwrap_or, if◌then◌else◌}
+use Rattle.std.specs.Prelude.{◌≡◌, ℕ, ◌+◌, ◌-◌, ◌*◌, ◌/◌, ◌^◌, ◌≤◌, ◌<◌, ◌⊎◌, ◌&&◌, Bool, true, false, List, [], ◌∷◌, Option, Some, None, IfSome, Result, cond, is_err, length, map, min, nat_le, nat_lt, unwrap_or, if◌then◌else◌}
 use Rattle.std.specs.Option.{option_map_or}
 use Rattle.std.specs.Duration.{as_nanos}
 use Rattle.station_report.specs.Sink.{SinkState}
 use Rattle.station_journal.specs.declared.entry.Entry.TheVariants.{Tick}
 use Rattle.station_journal.specs.declared.refusal.Refusal.{Refusal}
+use Rattle.station_report.specs.declared.formats.Format.{Format}
+use Rattle.station_report.specs.declared.sinks.WriteFault.{WriteFault}
 use Rattle.station_desk.specs.History.{Known}
 use Rattle.station_desk.specs.Start.{Start}
 use Rattle.station_shared.specs.Seats.{Seated, Accepted, Refused, Looks}
-use Rattle.station_main.specs.Recorded.{IfRecording, Recording, Records, seen_by}
+use Rattle.station_main.specs.Recorded.{IfRecording, PrintsAndRecords, Recording, Records, seen_by}
 use Rattle.station_main.specs.Tables.{TakesTexts, failures_after}
 use Rattle.station_main.specs.declared.schedule.Act.{Act}
 use Rattle.station_main.specs.declared.schedule.Act.TheVariants as act
 use Rattle.station_main.specs.declared.schedule.Due.{Due}
 use Rattle.station_main.specs.declared.duties.Duties.{Duties}
+use Rattle.station_main.specs.declared.reporter.Reported.{Reported}
+use Rattle.station_main.specs.declared.reporter.Reporter.{Reporter}
 use Rattle.station_main.specs.declared.schedule.Pace.{Pace}
 use Rattle.station_main.specs.declared.schedule.Tables.{Tables}
 
@@ -91,6 +95,16 @@ abbrev pub Ticks : Start → Seated → ℕ → Seated → Type 0
 Ticks start old at new =
     ((receipt : Known) × Accepted start old new (Tick old.number at) receipt) ⊎ ((refusal : Refusal) × Refused start old new (Tick old.number at) refusal)
 
+-- what a reporter does: it sleeps; or it ticks alone; or it ticks, and the table is printed and recorded
+abbrev pub DoesAct : {O K : Type 0} → (O → SinkState) → (K → Option Recording) → Format → Start → Act → Reported Seated O K → Reported Seated O K → Type 0
+DoesAct state record_of format start (act.Sleep pause) old new = new ≡ old
+DoesAct state record_of format start (act.Tick at next) old new =
+    Ticks start old.seat at new.seat × (new.out ≡ old.out) × (new.beside ≡ old.beside) × (new.due ≡ next) × (new.has_failed ≡ old.has_failed) × (new.asked_at ≡ old.asked_at)
+DoesAct state record_of format start (act.Print at next) old new =
+    (ticked : Seated) × (result : Result (Unit {0}) WriteFault) × Ticks start old.seat at ticked
+    × PrintsAndRecords format start ticked new.seat (state old.out) (state new.out) (record_of old.beside) (record_of new.beside) result
+    × (new.due ≡ next) × (new.has_failed ≡ is_err result) × (new.asked_at ≡ old.asked_at)
+
 -- the seat ticks, and then looks; it doesn't look after a tick alone
 pub record IsShowing (start : Start) (old : Seated) (showing : Showing) : Type 0 where
   pub ticks : Ticks start old showing.acting.at showing.ticked
@@ -153,3 +167,8 @@ pub record ReportsByAClock (start : Start) (duties : Duties) (next : Due) (asked
   pub mid : Seated
   pub reports : Reports start duties.tables duties.due due moments old mid before after was is has_failed
   pub hands_over : MayHandOver start duties asked_at due next mid new has_failed
+
+-- such a reporter by what it starts with and what it leaves
+abbrev pub HasReported : {O K : Type 0} → (O → SinkState) → (K → Option Recording) → Start → Reporter Seated O K → Reported Seated O K → Type 0
+HasReported state record_of start reporter reported =
+    ReportsByAClock start reporter.duties reported.due reported.asked_at reporter.seat reported.seat (state reporter.out) (state reported.out) (record_of reporter.beside) (record_of reported.beside) reported.has_failed

@@ -1,13 +1,14 @@
 -- What the job `run` leaves: its rounds, one after another.
-use Rattle.std.specs.Prelude.{◌≡◌, ◌≤◌, ◌⊎◌, ℕ, zero, suc, Bool, true, false, List, [], All, length, map, max, reverse, Option, Some, None, Result, Ok, option_map}
+use Rattle.std.specs.Prelude.{◌≡◌, ◌≤◌, ◌⊎◌, ℕ, ◌+◌, zero, suc, Bool, true, false, List, [], All, length, map, max, reverse, Option, Some, None, Result, Ok, option_map}
 use Rattle.station_portions.specs.Giving.{state_of}
 use Rattle.station_lines.specs.Source.{SourceState}
 use Rattle.station_report.specs.Sink.{SinkState}
 use Rattle.clap.specs.Words.{Text}
 use Rattle.station_journal.specs.declared.entry.Entry.{Entry}
 use Rattle.station_journal.specs.Log.{clock_of}
-use Rattle.station_journal.specs.Resume.{recent_base, recent_of}
+use Rattle.station_journal.specs.Resume.{IsSound, recent_base, recent_of}
 use Rattle.station_desk.specs.History.{base_of}
+use Rattle.station_desk.specs.Published.{Prepared}
 use Rattle.station_desk.specs.Start.{Start, log_of}
 use Rattle.station_lines.specs.declared.pumping.PumpFault.{PumpFault}
 use Rattle.station_lines.specs.declared.tally.Tally.{Tally}
@@ -47,6 +48,16 @@ pub record GoesOnFrom (given : Given) (start : Start) : Type 0 where
   pub limits : start.limits ≡ program_limits
   pub base : base_of start.history ≡ given.base
   pub resumed : start.resumed ≡ length given.entries
+
+-- a station that goes on from there, with n receivers
+pub record MayBegin (start : Start) (parts seats : ℕ) (places : Prepared) (given : Given) (n : ℕ) : Type 0 where
+  pub few : n ≤ 8
+  -- each receiver and the reporter have a part of the ledger and a seat, and the reporter alone has a place
+  pub seats_are : (parts ≡ n + 1) × (seats ≡ n + 1) × (places.places ≡ 1)
+  pub history : start.history ≡ places.history
+  pub goes_on : GoesOnFrom given start
+  -- what it goes on from is a legal list
+  pub sound : IsSound program_limits given.base (reverse given.entries)
 
 -- what was asked of a run, and how many entries of its journal make a station hand over
 pub record Asked : Type 0 where

@@ -1,5 +1,5 @@
 -- What a round of the job `run` leaves.
-use Rattle.std.specs.Prelude.{◌≡◌, ◌⊎◌, ℕ, ◌+◌, ◌<◌, Bool, true, false, List, [], ◌∷◌, ◌++◌, Option, IfSome, Result, length, slice_index_or, is_err, fold, max, unwrap_or, Contains, ⊤}
+use Rattle.std.specs.Prelude.{◌≡◌, ◌⊎◌, ℕ, ◌+◌, ◌<◌, Bool, true, false, List, [], ◌∷◌, ◌++◌, All, Option, IfSome, Result, length, map, slice_index_or, is_err, is_some, fold, max, unwrap_or, Contains, ⊤}
 use Rattle.std.specs.List.{flat_map}
 use Rattle.station_lines.specs.Source.{SourceState}
 use Rattle.station_report.specs.Sink.{SinkState}
@@ -51,6 +51,13 @@ pub record AreNumbered (n : ℕ) (reporter : Seated) (receivers : List Seated) :
   pub many : length receivers + 1 ≡ n
   pub last : reporter.number ≡ length receivers
   pub each : (i : ℕ) (d : Seated) → i < length receivers → (slice_index_or receivers i d).number ≡ i
+
+-- a station whose threads have ended, and of whose sources the stations before it counted this: each of its receivers has an
+-- answer, one for each of those before, and its seats have their numbers
+pub record CanClose {W : Type 0} (seats : ℕ) (seat : W → Seated) (answer : W → Option (Result Tally PumpFault)) (reporter : Seated) (receivers : List W) (before : List (Result Tally PumpFault)) : Type 0 where
+  pub answered : All (λ w. is_some (answer w) ≡ true) receivers
+  pub many : length before ≡ length receivers
+  pub numbered : AreNumbered seats reporter (map seat receivers)
 
 -- its seats at the end, the reporter's and those of the receivers in the order of their inputs, and its journal
 pub record Closing : Type 0 where

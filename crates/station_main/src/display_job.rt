@@ -1,5 +1,5 @@
 //! The job `run`, with or without tables for displays.
-ghost use Rattle.std.specs.Prelude.{◌≡◌, ◌-◌, ◌≤◌, is_some, length, map, option_map};
+ghost use Rattle.std.specs.Prelude.{◌≡◌, ◌-◌, ◌≤◌, IfErr, IfOk, None, is_some, length, map, option_map, true};
 ghost use Rattle.std.specs.String.{string_bytes};
 ghost use Rattle.station_main.specs.Rounds.{RunsAsked, RunsForDisplays};
 ghost use Rattle.station_main.specs.Telling.{told_of};
@@ -13,7 +13,8 @@ use crate::output::{Ran, without_output};
 use crate::path_host::PathHost;
 use crate::run_job::{Asked, run_paths};
 use crate::standard_error::StandardError;
-use std::alloc::Global;
+use station_report::Sink;
+use std::alloc::{AllocError, Global};
 use std::fs::File;
 use std::io::Write;
 use std::rt::Files;
@@ -47,28 +48,42 @@ pub fn run_for_displays<
         (told_of E.contents err.old) (told_of E.contents err.new))
         (option_map (λ left. O.contents left) result.out) (told_of E.contents err.old) (told_of E.contents err.new) result.status }
 {
-    let Alarms {
-        record: alarm,
-        displays: display_alarm,
-        limits,
-    } = alarms;
-    let mut beside = Beside {
-        record: None,
-        displays: None,
-        limits: Some(LimitAlarm::new(limits)),
+    let Ok(mut beside) = begin_beside(rt, alloc, &asked, alarms.displays, alarms.limits) else {
+        return without_output(err, Fault::NoMemory);
     };
-    let Some(folder) = asked.displays else {
-        return run_paths(rt, own, alloc, asked, out, alarm, &mut beside, err);
-    };
-    let every = asked.tables.pace.every;
-    let alarms = StandardError::new(display_alarm);
-    match Displays::begin(rt, alloc, folder.as_str(), every, asked.origin, alarms) {
-        Ok(displays) => beside.displays = Some(displays),
-        Err(_) => return without_output(err, Fault::NoMemory),
+    let ran = run_paths(rt, own, alloc, asked, out, alarms.record, &mut beside, err);
+    if asked.displays.is_none() {
+        return ran;
     }
-    let Ran { status, out } = run_paths(rt, own, alloc, asked, out, alarm, &mut beside, err);
     Ran {
-        status: status.max(status_of(&beside.displays)),
-        out,
+        status: ran.status.max(status_of(&beside.displays)),
+        out: ran.out,
     }
+}
+
+// What a run writes beside its output: as yet no record, and the folder for displays if one is asked for.
+fn begin_beside<R: Files<File = File>, T: Sink + Drop, A: Write + Drop>(
+    rt: &R,
+    alloc: Global,
+    asked: &Asked<'_>,
+    displays: A,
+    limits: A,
+) -> Result<Beside<T, A>, AllocError>
+    ensures unrecorded { IfOk result (λ beside. beside.record ≡ None) }
+    ensures displays { IfOk result (λ beside. is_some beside.displays ≡ is_some asked.now.displays.now) }
+    ensures asked { IfErr result (λ _. is_some asked.now.displays.now ≡ true) }
+{
+    let displays = match asked.displays {
+        Some(folder) => {
+            let (folder, every) = (folder.as_str(), asked.tables.pace.every);
+            let alarm = StandardError::new(displays);
+            Some(Displays::begin(rt, alloc, folder, every, asked.origin, alarm)?)
+        }
+        None => None,
+    };
+    Ok(Beside {
+        record: None,
+        displays,
+        limits: Some(LimitAlarm::new(limits)),
+    })
 }

@@ -44,18 +44,16 @@ pub fn replay_input<R: Wait, I: Read + Drop, O: Write + Drop, A: Write + Drop, E
     let Ok(mut desk) = Desk::<AIRCRAFT>::new(alloc, LIMITS) else {
         return without_output(err, Fault::NoMemory);
     };
-    let mut from = FromBuffer::new(input);
     let mut to = ToWrite::new(output);
-    let mut limits = LimitAlarm::new(alarm);
     let answer = replay_forgetting(
         rt,
         FORGET_AT,
         &mut desk,
-        &mut from,
+        &mut FromBuffer::new(input),
         &mut to,
         format,
         TURNS,
-        &mut limits,
+        &mut LimitAlarm::new(alarm),
     );
     desk.end(rt);
     let Written { out, has_failed } = take_out(to.into_inner(), &answer);

@@ -2,7 +2,7 @@
 ghost use Rattle.std.specs.Prelude.{◌≡◌, ◌≤◌, ℕ, List, None, false, length, true};
 ghost use Rattle.std.specs.Io.KnownBytes.{Appends};
 ghost use Rattle.station_main.specs.Recorded.{PrintsAndRecords};
-ghost use Rattle.station_main.specs.Reporter.{IsLater, Reports, ReportsByAClock};
+ghost use Rattle.station_main.specs.Reporter.{DoesAct, IsLater, Reports, ReportsByAClock};
 ghost use Rattle.station_main.specs.Tables.{text_of};
 ghost use Rattle.station_report.specs.Sink.{TakesAll};
 
@@ -38,23 +38,25 @@ pub struct Reported<S, O, K> {
     pub asked_at: Option<u64>,
 }
 
-/// What a reporter starts from. Its promise is that it reports from there.
+/// What a reporter starts with.
 #[derive(Drop)]
-pub struct Given<S, O, K> {
+pub struct Reporter<S, O, K> {
     pub duties: Duties,
-    pub seat: Snapshot<S>,
-    pub out: Snapshot<O>,
-    pub beside: Snapshot<K>,
+    pub seat: S,
+    pub out: O,
+    pub beside: K,
 }
+
+/// The promise of a reporter that starts with this: that it reports from there.
+#[derive(Drop)]
+pub struct Given<S, O, K>(pub Snapshot<Reporter<S, O, K>>);
 
 impl<const N: usize, L: StationName, S: Sink, T: Sink, A: Write> Promise<
     Reported<Seat<N, L>, S, Beside<T, A>>,
 > for Given<Seat<N, L>, S, Beside<T, A>> {
-    ghost use Rattle.station_main.specs.Reporter.{ReportsByAClock};
+    ghost use Rattle.station_main.specs.Reporter.{HasReported};
 
-    ghost kept_by = { λ given reported. ReportsByAClock L.start given.duties reported.due reported.asked_at
-        given.seat.value reported.seat (S.state given.out.value) (S.state reported.out) given.beside.value.record
-        reported.beside.record reported.has_failed };
+    ghost kept_by = { λ given reported. HasReported S.state (λ b. b.record) L.start given.0.value reported };
 }
 
 /// Ticks, prints the table and records it each time that it is due, in milliseconds since `start`.
@@ -75,25 +77,14 @@ pub fn report<
     ended: &Bell,
     hand_overs: &Vec<Arc<HandOver, Global>>,
     start: Option<Instant>,
-    duties: Duties,
-    seat: Seat<N, L>,
-    out: S,
-    beside: Beside<T, A>,
+    reporter: Reporter<Seat<N, L>, S, Beside<T, A>>,
 ) -> Reported<Seat<N, L>, S, Beside<T, A>>
-    ensures { ReportsByAClock L.start duties result.due result.asked_at seat result.seat (S.state out)
-        (S.state result.out) beside.record result.beside.record result.has_failed }
+    ensures { ReportsByAClock L.start reporter.duties result.due result.asked_at reporter.seat result.seat
+        (S.state reporter.out) (S.state result.out) reporter.beside.record result.beside.record result.has_failed }
 {
+    let duties = reporter.duties;
     let mut moments = Since { rt, start };
-    let (mut reported, is_full) = report_at(
-        rt,
-        station,
-        ended,
-        duties,
-        seat,
-        out,
-        beside,
-        &mut moments,
-    );
+    let (mut reported, is_full) = report_at(rt, station, ended, reporter, &mut moments);
     if !is_full {
         request_if(hand_overs, duties.ends_with_output && reported.has_failed);
         return reported;
@@ -134,75 +125,89 @@ fn report_at<
     rt: &R,
     station: &Station<N, L>,
     ended: &Bell,
-    duties: Duties,
-    mut seat: Seat<N, L>,
-    mut out: S,
-    mut beside: Beside<T, A>,
+    reporter: Reporter<Seat<N, L>, S, Beside<T, A>>,
     moments: &mut M,
 ) -> (Reported<Seat<N, L>, S, Beside<T, A>>, bool)
     ensures reports { (given : List ℕ) × Appends (M.given moments.old) (M.given moments.new) given
-        × Reports L.start duties.tables duties.due result.0.due given seat result.0.seat (S.state out)
-        (S.state result.0.out) beside.record result.0.beside.record result.0.has_failed }
-    ensures full { result.1 ≡ true → duties.hand_over_at ≤ length result.0.seat.seen }
+        × Reports L.start reporter.duties.tables reporter.duties.due result.0.due given reporter.seat result.0.seat
+        (S.state reporter.out) (S.state result.0.out) reporter.beside.record result.0.beside.record result.0.has_failed }
+    ensures full { result.1 ≡ true → reporter.duties.hand_over_at ≤ length result.0.seat.seen }
     ensures well { result.1 ≡ true → result.0.has_failed ≡ false }
     ensures asked { result.0.asked_at ≡ None }
 {
-    let mut has_failed = false;
-    let mut due = duties.due;
-    let mut now = 0;
+    let duties = reporter.duties;
+    let (mut reported, mut now) = (begin(reporter), 0);
     for _ in rt.forever() {
-        if has_failed || ended.has_rung() {
+        if reported.has_failed || ended.has_rung() {
             break;
         }
-        beside.report_limits(station.limits_met());
-        let (looked, entries) = count(seat);
-        seat = looked;
-        if duties.asks(entries, now, due) {
-            return (left(seat, out, beside, has_failed, due), true);
+        reported.beside.report_limits(station.limits_met());
+        let (seat, entries) = count(reported.seat);
+        reported.seat = seat;
+        if duties.asks(entries, now, reported.due) {
+            return (reported, true);
         }
         now = moments.now();
-        match act_at(now, due, duties.tables.pace) {
-            Act::Sleep(pause) => ended.rest(rt, pause),
-            Act::Tick { at, next_due } => {
-                let _ = station.tick(rt, &mut seat, at);
-                due = next_due;
-            }
-            Act::Print { at, next_due } => {
-                let _ = station.tick(rt, &mut seat, at);
-                let (shown, written) = print_and_record(
-                    rt,
-                    station,
-                    seat,
-                    duties.tables.format,
-                    &mut out,
-                    &mut beside,
-                );
-                seat = shown;
-                has_failed = written.is_err();
-                due = next_due;
-            }
-        }
+        let act = act_at(now, reported.due, duties.tables.pace);
+        reported = do_act(rt, station, ended, duties.tables.format, act, reported);
     }
-    (left(seat, out, beside, has_failed, due), false)
+    (reported, false)
 }
 
-// What a reporter leaves that hasn't asked for a hand-over.
-fn left<S, O, K>(seat: S, out: O, beside: K, has_failed: bool, due: Due) -> Reported<S, O, K>
-    ensures seat { result.seat ≡ seat }
-    ensures out { result.out ≡ out }
-    ensures beside { result.beside ≡ beside }
-    ensures failed { result.has_failed ≡ has_failed }
-    ensures due { result.due ≡ due }
+// What a reporter has done that has only started.
+fn begin<S, O, K>(reporter: Reporter<S, O, K>) -> Reported<S, O, K>
+    ensures seat { result.seat ≡ reporter.seat }
+    ensures out { result.out ≡ reporter.out }
+    ensures beside { result.beside ≡ reporter.beside }
+    ensures failed { result.has_failed ≡ false }
+    ensures due { result.due ≡ reporter.duties.due }
     ensures asked { result.asked_at ≡ None }
 {
     Reported {
-        seat,
-        out,
-        beside,
-        has_failed,
-        due,
+        seat: reporter.seat,
+        out: reporter.out,
+        beside: reporter.beside,
+        has_failed: false,
+        due: reporter.duties.due,
         asked_at: None,
     }
+}
+
+// Sleeps, ticks alone, or ticks and prints the table.
+fn do_act<
+    const N: usize,
+    L: StationName,
+    R: Wait + Clock + Files<File = File>,
+    S: Sink,
+    T: Sink,
+    A: Write,
+>(
+    rt: &R,
+    station: &Station<N, L>,
+    ended: &Bell,
+    format: Format,
+    act: Act,
+    mut reported: Reported<Seat<N, L>, S, Beside<T, A>>,
+) -> Reported<Seat<N, L>, S, Beside<T, A>>
+    ensures { DoesAct S.state (λ b. b.record) format L.start act reported result }
+{
+    match act {
+        Act::Sleep(pause) => ended.rest(rt, pause),
+        Act::Tick { at, next_due } => {
+            let _ = station.tick(rt, &mut reported.seat, at);
+            reported.due = next_due;
+        }
+        Act::Print { at, next_due } => {
+            let _ = station.tick(rt, &mut reported.seat, at);
+            let seat = reported.seat;
+            let (out, beside) = (&mut reported.out, &mut reported.beside);
+            let (seat, written) = print_and_record(rt, station, seat, format, out, beside);
+            reported.seat = seat;
+            reported.has_failed = written.is_err();
+            reported.due = next_due;
+        }
+    }
+    reported
 }
 
 // How many entries the journal has by a look, which prints nothing. 0 if the look is refused.

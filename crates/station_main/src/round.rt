@@ -45,8 +45,6 @@ pub fn run_round<
     'a,
     R: Threads + Wait + Clock + Files<File = File, Dir: Send> + Sync,
     O: Write + Send + Drop,
-    T: Sink + Send + Drop,
-    A: Write + Send + Drop,
     E: Write,
 >(
     rt: &'a R,
@@ -55,7 +53,7 @@ pub fn run_round<
     paths: Paths,
     shift: Shift<'a, R, O>,
     is_last: bool,
-    beside: &mut Beside<T, A>,
+    beside: &mut Beside<impl Sink + Send + Drop, impl Write + Send + Drop>,
     err: &mut StandardError<E>,
 ) -> Round<O>
     requires few { length shift.inputs.items ≤ 8 }
@@ -88,15 +86,13 @@ fn one_shift<
     'a,
     R: Threads + Wait + Clock + Files<File = File, Dir: Send> + Sync,
     O: Write + Send + Drop,
-    T: Sink + Send + Drop,
-    A: Write + Send + Drop,
 >(
     rt: &'a R,
     alloc: Global,
     start: Option<Instant>,
     hand_overs: &Vec<Arc<HandOver, Global>>,
     shift: Shift<'a, R, O>,
-    beside: &mut Beside<T, A>,
+    beside: &mut Beside<impl Sink + Send + Drop, impl Write + Send + Drop>,
 ) -> Result<Ended<'a, R, O>, Fault<'static>>
     requires few { length shift.inputs.items ≤ 8 }
     requires many { length shift.answers.items ≡ length shift.inputs.items }
@@ -110,7 +106,7 @@ fn one_shift<
     };
     resume_all(hand_overs);
     let blank = Blank::new(shift.inputs.len() as u64 + 1);
-    run_shift::<Brand, _, _, _, _>(rt, alloc, start, hand_overs, shift, blank, places, beside)
+    run_shift::<Brand, _, _>(rt, alloc, start, hand_overs, shift, blank, places, beside)
 }
 
 // Begins the next portion of each path.

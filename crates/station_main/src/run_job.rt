@@ -1,13 +1,10 @@
 //! The job `run`: its rounds, one after another.
-ghost use Rattle.std.specs.Prelude.{◌≡◌, ◌⊎◌, ◌-◌, ◌≤◌, None, All, IfErr, IfOk, length, map, option_map, reverse};
+ghost use Rattle.std.specs.Prelude.{◌≡◌, ◌⊎◌, ◌-◌, ◌≤◌, None, IfErr, IfOk, length, map, option_map, reverse};
 ghost use Rattle.std.specs.String.{string_bytes};
-ghost use Rattle.station_portions.specs.Giving.{state_of};
 ghost use Rattle.station_journal.specs.Resume.{IsSound};
-ghost use Rattle.station_main.specs.Inputs.{AreFed};
 ghost use Rattle.station_main.specs.Limits.{program_limits};
 ghost use Rattle.station_main.specs.Output.{buffered_of};
-ghost use Rattle.station_main.specs.Reporter.{after_table};
-ghost use Rattle.station_main.specs.Rounds.{EndsRound, HasNoLines, Runs, RunsAsked, given_of, nothing};
+ghost use Rattle.station_main.specs.Rounds.{EndsRound, IsFirst, Runs, RunsAsked, begun_of, given_of, nothing};
 ghost use Rattle.station_main.specs.Run.{IsEarly};
 ghost use Rattle.station_main.specs.Telling.{told_of};
 
@@ -18,7 +15,7 @@ use crate::kept::Kept;
 use crate::limits::TABLE_ROOM;
 use crate::output::{Ran, without_output};
 use crate::path_host::PathHost;
-use crate::paths::{Paths, Started, open_all, start_all};
+use crate::paths::{Paths, open_all, start_all};
 use crate::record_file::record_to;
 use crate::recorder::status_of;
 use crate::round::{Round, run_round};
@@ -107,18 +104,15 @@ pub fn run_paths<
 // Runs the rounds, with or without a record.
 fn run_rounds<
     R: Threads + Wait + Clock + Files<File = File, Dir: Send> + Sync,
-    W: Wait + Clock + PathHost + Copy + Send + 'static,
     O: Write + Send + Drop,
-    T: Sink + Send + Drop,
-    A: Write + Send + Drop,
     E: Write,
 >(
     rt: &R,
-    own: W,
+    own: impl Wait + Clock + PathHost + Copy + Send + 'static,
     alloc: Global,
     asked: Asked<'_>,
     out: O,
-    beside: &mut Beside<T, A>,
+    beside: &mut Beside<impl Sink + Send + Drop, impl Write + Send + Drop>,
     err: &mut StandardError<E>,
 ) -> Ran<O>
     requires rounds { 1 ≤ asked.rounds }
@@ -133,22 +127,16 @@ fn run_rounds<
     let mut kept = Kept::nothing(alloc);
     let mut out = out;
     let mut more = asked.rounds - 1;
-    while more > 0 {
-        match one_round(rt, own, alloc, asked, start, kept, out, false, beside, err) {
+    loop {
+        let is_last = more == 0;
+        let round = one_round(
+            rt, own, alloc, asked, start, kept, out, is_last, beside, err,
+        );
+        (out, kept) = match round {
             Round::Over(ran) => return ran,
-            Round::GoesOn {
-                out: left,
-                kept: recent,
-            } => {
-                out = left;
-                kept = recent;
-            }
-        }
+            Round::GoesOn { out, kept } => (out, kept),
+        };
         more -= 1;
-    }
-    match one_round(rt, own, alloc, asked, start, kept, out, true, beside, err) {
-        Round::Over(ran) => ran,
-        Round::GoesOn { .. } => unreachable!(),
     }
 }
 
@@ -186,15 +174,9 @@ fn one_round<
 }
 
 // Makes what a round needs: its paths with their threads, and what its first station is begun with.
-fn prepare<
-    'a,
-    'p,
-    R: Threads + Wait + Files<File = File>,
-    W: Wait + Clock + PathHost + Copy + Send + 'static,
-    O: Write + Drop,
->(
+fn prepare<'a, 'p, R: Threads + Wait + Files<File = File>, O: Write + Drop>(
     rt: &'a R,
-    own: W,
+    own: impl Wait + Clock + PathHost + Copy + Send + 'static,
     alloc: Global,
     asked: Asked<'p>,
     kept: Kept,
@@ -202,16 +184,11 @@ fn prepare<
 ) -> Result<(Paths, Shift<'a, R, O>), Fault<'p>>
     requires { length asked.paths.now.items ≤ 8 }
     ensures early { IfErr result (IsEarly (map string_bytes asked.entry.paths.now.items)) }
-    ensures tables { IfOk result (λ made. made.1.duties.tables ≡ asked.entry.tables) }
-    ensures due { IfOk result (λ made. made.1.duties.due ≡ after_table asked.entry.tables.pace kept.last_tick) }
-    ensures limit { IfOk result (λ made. made.1.duties.hand_over_at ≡ asked.entry.hand_over_at) }
-    ensures pause { IfOk result (λ made. made.1.duties.not_before ≡ 0) }
     ensures kept { IfOk result (λ made. made.1.kept ≡ kept) }
     ensures inputs { IfOk result (λ made. length made.1.inputs.items ≡ length asked.entry.paths.now.items) }
-    ensures fed { IfOk result (λ made.
-        AreFed (map string_bytes asked.entry.paths.now.items) (map state_of made.1.inputs.items)) }
     ensures answers { IfOk result (λ made. length made.1.answers.items ≡ length asked.entry.paths.now.items) }
-    ensures none { IfOk result (λ made. All HasNoLines made.1.answers.items) }
+    ensures first { IfOk result (λ made. IsFirst (record { tables = asked.entry.tables; paths = map string_bytes asked.entry.paths.now.items; hand_over_at = asked.entry.hand_over_at })
+        (given_of kept) (begun_of made.1)) }
     ensures out { IfOk result (λ made. buffered_of O.contents made.1.out
         ≡ record { taken = O.contents out; failures = 0 }) }
 {
@@ -219,11 +196,7 @@ fn prepare<
     let Ok(buffered) = BufWriter::with_capacity(alloc, TABLE_ROOM, out) else {
         return Err(Fault::NoMemory);
     };
-    let Started {
-        paths,
-        inputs,
-        answers,
-    } = start_all(rt, own, alloc, files)?;
+    let started = start_all(rt, own, alloc, files)?;
     let duties = Duties::first(
         asked.tables,
         kept.last_tick,
@@ -233,9 +206,9 @@ fn prepare<
     let shift = Shift {
         kept,
         duties,
-        inputs,
-        answers,
+        inputs: started.inputs,
+        answers: started.answers,
         out: ToWrite::new(buffered),
     };
-    Ok((paths, shift))
+    Ok((started.paths, shift))
 }

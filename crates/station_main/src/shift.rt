@@ -1,10 +1,7 @@
 //! One station of a round of the job `run`.
-ghost use Rattle.std.specs.Prelude.{◌≡◌, ◌+◌, ◌≤◌, IfErr, IfOk, IfSome, Some, length, reverse};
-ghost use Rattle.station_journal.specs.Resume.{IsSound};
-ghost use Rattle.station_desk.specs.History.{base_of};
-ghost use Rattle.station_main.specs.Limits.{program_limits};
+ghost use Rattle.std.specs.Prelude.{◌≡◌, IfErr, IfOk, IfSome, Some, length};
 ghost use Rattle.station_main.specs.Output.{buffered_of};
-ghost use Rattle.station_main.specs.Rounds.{EndsStation, begun_of};
+ghost use Rattle.station_main.specs.Rounds.{EndsStation, MayBegin, begun_of, given_of};
 ghost use Rattle.station_main.specs.Run.{IsUnstarted};
 
 mod ending;
@@ -16,6 +13,7 @@ use crate::faults::Fault;
 use crate::kept::Kept;
 use crate::limits::AIRCRAFT;
 use crate::output::Written;
+use crate::reporter::Reporter;
 use crate::shift::ending::{finish, hand_over};
 use crate::shift::opening::begin;
 use crate::threads::{Input, Output, Receiver, run_threads};
@@ -76,8 +74,6 @@ pub fn run_shift<
     L: StationName + Send + Sync,
     R: Threads + Wait + Clock + Files<File = File, Dir: Send> + Sync,
     O: Write + Send + Drop,
-    T: Sink + Send + Drop,
-    A: Write + Send + Drop,
 >(
     rt: &R,
     alloc: Global,
@@ -86,57 +82,32 @@ pub fn run_shift<
     shift: Shift<'a, R, O>,
     blank: Blank,
     places: Places<AIRCRAFT>,
-    beside: &mut Beside<T, A>,
+    beside: &mut Beside<impl Sink + Send + Drop, impl Write + Send + Drop>,
 ) -> Result<Ended<'a, R, O>, Fault<'static>>
-    requires few { length shift.inputs.items ≤ 8 }
     requires many { length shift.answers.items ≡ length shift.inputs.items }
     requires ledger { (blank.name ≡ L.name) × (blank.parts ≡ L.parts) }
-    requires seats { (L.parts ≡ length shift.inputs.items + 1)
-        × (L.seats ≡ length shift.inputs.items + 1)
-        × (places.places ≡ 1) }
-    requires start { (L.start.history ≡ places.history)
-        × (L.start.resumed ≡ length shift.kept.recent.entries.items) }
-    requires base { base_of places.history ≡ shift.kept.recent.base }
-    requires limits { L.start.limits ≡ program_limits }
-    requires sound { IsSound program_limits shift.kept.recent.base (reverse shift.kept.recent.entries.items) }
+    requires may { MayBegin L.start L.parts L.seats places (given_of shift.kept) (length shift.inputs.items) }
     ensures unstarted { IfErr result IsUnstarted }
     ensures ended { IfOk result (EndsStation O.contents (begun_of shift.entry) (buffered_of O.contents shift.entry.out)
         beside.old.record beside.new.record) }
 {
-    let Shift {
-        kept,
-        duties,
-        inputs,
-        answers,
-        out,
-    } = shift;
-    let Ok((station, receivers, reporter)) = begin::<L, _>(rt, alloc, kept, inputs, blank, places)
-    else {
-        return Err(Fault::NoMemory);
+    let (kept, inputs, answers) = (shift.kept, shift.inputs, shift.answers);
+    let (station, receivers, seat) = begin::<L, _>(rt, alloc, kept, inputs, blank, places)?;
+    let reporter = Reporter {
+        duties: shift.duties,
+        seat,
+        out: shift.out,
+        beside: beside.take(),
     };
-    let Some((receivers, mut reported)) = run_threads(
-        rt,
-        &station,
-        hand_overs,
-        start,
-        duties,
-        receivers,
-        reporter,
-        out,
-        beside.take(),
-    ) else {
+    let Some(mut left) = run_threads(rt, &station, hand_overs, start, receivers, reporter) else {
         station.end(rt);
         return Err(Fault::ThreadNotStarted);
     };
-    reported.beside.report_limits(station.limits_met());
-    match hand_over_time(reported.asked_at, &receivers) {
-        Some(_at) => hand_over(
-            rt, alloc, station, receivers, reported, duties, answers, beside,
-        ),
-        None => finish(
-            rt, alloc, station, receivers, reported, duties, answers, beside,
-        ),
+    left.report.beside.report_limits(station.limits_met());
+    if let Some(_at) = hand_over_time(left.report.asked_at, &left.receivers) {
+        return hand_over(rt, alloc, station, left, shift.duties, answers, beside);
     }
+    finish(rt, alloc, station, left, shift.duties, answers, beside)
 }
 
 // The time of a hand-over, unless no path goes on.

@@ -1,15 +1,14 @@
 //! The threads of a station of the job `run`, and the last table.
-ghost use Rattle.std.specs.Prelude.{◌≡◌, All, IfSome, is_some, true};
+ghost use Rattle.std.specs.Prelude.{IfSome};
 ghost use Rattle.station_main.specs.Output.{buffered_of};
-ghost use Rattle.station_main.specs.Reporter.{ReportsByAClock};
+ghost use Rattle.station_main.specs.Reporter.{HasReported};
 ghost use Rattle.station_main.specs.Run.{HaveWorked, PrintsLast};
 
 use crate::bell::Bell;
 use crate::beside::Beside;
-use crate::duties::Duties;
 use crate::limits::{AIRCRAFT, TURNS};
 use crate::output::{Written, give_up, unbuffered};
-use crate::reporter::{Given, Reported, print_and_record, report};
+use crate::reporter::{Given, Reported, Reporter, print_and_record, report};
 use station_portions::{HandOver, Portions};
 use station_report::{Format, Sink, ToWrite};
 use station_shared::{Seat, Station, StationName, Worker, run_receivers};
@@ -32,8 +31,17 @@ pub type Output<O> = ToWrite<BufWriter<O>>;
 /// A receiver: its seat, its input and, once it has ended, its answer.
 pub type Receiver<'a, R, L> = Worker<AIRCRAFT, Input<'a, R>, L>;
 
-/// What the reporter of a station leaves.
-pub type Left<L, O, K> = Reported<Seat<AIRCRAFT, L>, Output<O>, K>;
+/// What the threads of a station leave.
+#[derive(Drop)]
+pub struct Outcome<W, P> {
+    /// The receivers, each with its answer.
+    pub receivers: Vec<W>,
+    /// What the reporter leaves.
+    pub report: P,
+}
+
+/// The same, by what is written and where.
+pub type Left<'a, L, R, S, K> = Outcome<Receiver<'a, R, L>, Reported<Seat<AIRCRAFT, L>, S, K>>;
 
 /// Runs the receivers and the reporter to their ends, each in a thread of its own. Answers `None` if the reporter's
 /// thread can't be started, and then nothing is read.
@@ -49,60 +57,31 @@ pub fn run_threads<
     station: &Station<AIRCRAFT, L>,
     hand_overs: &Vec<Arc<HandOver, Global>>,
     start: Option<Instant>,
-    duties: Duties,
     receivers: Vec<Receiver<'a, R, L>>,
-    seat: Seat<AIRCRAFT, L>,
-    out: S,
-    beside: Beside<T, A>,
-) -> Option<
-    (
-        Vec<Receiver<'a, R, L>>,
-        Reported<Seat<AIRCRAFT, L>, S, Beside<T, A>>,
-    ),
->
-    ensures answered { IfSome result (λ ended. All (λ r. is_some r.answer ≡ true) ended.0.items) }
-    ensures receivers { IfSome result (λ ended. HaveWorked L.start (λ r. r.seat) (λ r. r.source) (λ r. r.answer)
-        receivers.entry.items ended.0.items) }
-    ensures reporter { IfSome result (λ ended. ReportsByAClock L.start duties ended.1.due ended.1.asked_at seat
-        ended.1.seat (S.state out) (S.state ended.1.out) beside.record ended.1.beside.record ended.1.has_failed) }
+    reporter: Reporter<Seat<AIRCRAFT, L>, S, Beside<T, A>>,
+) -> Option<Left<'a, L, R, S, Beside<T, A>>>
+    ensures receivers { IfSome result (λ left. HaveWorked L.start (λ r. r.seat) (λ r. r.source) (λ r. r.answer)
+        receivers.entry.items left.receivers.items) }
+    ensures reporter { IfSome result (λ left. HasReported S.state (λ b. b.record) L.start reporter left.report) }
 {
-    let bell = Bell::new();
-    let ended = &bell;
+    let ended = &Bell::new();
     thread::scope(
         thread::scope_env(),
         rt,
-        move |scope| -> Option<
-            (
-                Vec<Receiver<'_, R, L>>,
-                Reported<Seat<AIRCRAFT, L>, S, Beside<T, A>>,
-            ),
-        >
-            ensures answered { IfSome result (λ ended. All (λ r. is_some r.answer ≡ true) ended.0.items) }
-            ensures receivers { IfSome result (λ ended. HaveWorked L.start (λ r. r.seat) (λ r. r.source) (λ r. r.answer)
-                receivers.entry.items ended.0.items) }
-            ensures reporter { IfSome result (λ ended. ReportsByAClock L.start duties ended.1.due ended.1.asked_at
-                seat ended.1.seat (S.state out) (S.state ended.1.out) beside.record ended.1.beside.record
-                ended.1.has_failed) }
+        move |scope| -> Option<Left<'_, L, R, S, Beside<T, A>>>
+            ensures receivers { IfSome result (λ left. HaveWorked L.start (λ r. r.seat) (λ r. r.source) (λ r. r.answer)
+                receivers.entry.items left.receivers.items) }
+            ensures reporter { IfSome result (λ left. HasReported S.state (λ b. b.record) L.start reporter left.report) }
         {
-            let given = Given {
-                duties,
-                seat: Snapshot::of(&seat),
-                out: Snapshot::of(&out),
-                beside: Snapshot::of(&beside),
+            let given = Given(Snapshot::of(&reporter));
+            let job = move || report(rt, station, ended, hand_overs, start, reporter);
+            let Ok(reporting) = scope.spawn_with(given, job) else {
+                return None;
             };
-            match scope.spawn_with(
-                given,
-                move || report(
-                    rt, station, ended, hand_overs, start, duties, seat, out, beside,
-                ),
-            ) {
-                Ok(reporter) => {
-                    let receivers = run_all(rt, station, receivers);
-                    ended.ring();
-                    Some((receivers, reporter.join(rt)))
-                }
-                Err(_) => None,
-            }
+            let receivers = run_all(rt, station, receivers);
+            ended.ring();
+            let report = reporting.join(rt);
+            Some(Outcome { receivers, report })
         },
     )
 }
@@ -113,8 +92,7 @@ fn run_all<'a, L: StationName + Send + Sync, R: Threads + Wait + Sync>(
     station: &Station<AIRCRAFT, L>,
     receivers: Vec<Receiver<'a, R, L>>,
 ) -> Vec<Receiver<'a, R, L>>
-    ensures answered { All (λ r. is_some r.answer ≡ true) result.items }
-    ensures worked { HaveWorked L.start (λ r. r.seat) (λ r. r.source) (λ r. r.answer)
+    ensures { HaveWorked L.start (λ r. r.seat) (λ r. r.source) (λ r. r.answer)
         receivers.entry.items result.items }
 {
     let mut running = receivers;
@@ -134,7 +112,7 @@ pub fn print_last<
     rt: &R,
     station: &Station<AIRCRAFT, L>,
     format: Format,
-    reported: Left<L, O, Beside<T, A>>,
+    reported: Reported<Seat<AIRCRAFT, L>, Output<O>, Beside<T, A>>,
     beside: &mut Beside<T, A>,
 ) -> (Seat<AIRCRAFT, L>, Written<O>)
     ensures { PrintsLast format L.start reported.seat result.0 (buffered_of O.contents reported.out) reported.has_failed

@@ -8,7 +8,7 @@ ghost use Rattle.station_main.specs.Output.{buffered_of};
 ghost use Rattle.station_main.specs.Recorded.{Recording};
 ghost use Rattle.station_main.specs.Reporter.{ReportsByAClock};
 ghost use Rattle.station_main.specs.Rounds.{Begun, EndsStation, IsServedBy};
-ghost use Rattle.station_main.specs.Run.{AreNumbered, IsClosed, IsUnstarted};
+ghost use Rattle.station_main.specs.Run.{CanClose, IsClosed, IsUnstarted};
 ghost use Rattle.station_main.specs.Sums.{AddsAll};
 
 use crate::beside::Beside;
@@ -16,10 +16,9 @@ use crate::duties::Duties;
 use crate::faults::Fault;
 use crate::kept::keep;
 use crate::limits::AIRCRAFT;
-use crate::reporter::Reported;
 use crate::shift::{Answer, Ended, Finished, Shift};
 use crate::tallies::added;
-use crate::threads::{Input, Left, Receiver, print_last};
+use crate::threads::{Input, Left, Outcome, Output, Receiver, print_last};
 use station_journal::{Journal, NoMemory};
 use station_report::Sink;
 use station_shared::{Missing, Seat, Station, StationName, Worker};
@@ -50,48 +49,33 @@ pub(super) fn hand_over<
     rt: &R,
     alloc: Global,
     station: Station<AIRCRAFT, L>,
-    receivers: Vec<Receiver<'a, R, L>>,
-    reported: Left<L, O, Beside<T, A>>,
+    left: Left<'a, L, R, Output<O>, Beside<T, A>>,
     duties: Duties,
     answers: Vec<Answer>,
     beside: &mut Beside<T, A>,
 ) -> Result<Ended<'a, R, O>, Fault<'static>>
-    requires answered { All (λ r. is_some r.answer ≡ true) receivers.items }
-    requires many { length answers.items ≡ length receivers.items }
-    requires numbered { AreNumbered L.seats reported.seat (map (λ r. r.seat) receivers.items) }
+    requires { CanClose L.seats (λ r. r.seat) (λ r. r.answer) left.report.seat left.receivers.items answers.items }
     ensures unstarted { IfErr result IsUnstarted }
     ensures ended { (begun : Begun) (at : ℕ) (before : SinkState) (was : Option Recording) →
         begun.duties ≡ duties → begun.answers ≡ answers.items →
-        IsServedBy begun L.start (map (λ r. r.seat) receivers.entry.items)
-        (map state_of (map (λ r. r.source) receivers.entry.items))
-        (map (λ r. r.answer) receivers.entry.items) →
-        ReportsByAClock L.start duties reported.due (Some at)
-        (newcomer begun.given.entries (length begun.sources)) reported.seat
-        before (buffered_of O.contents reported.out) was reported.beside.record false →
+        IsServedBy begun L.start (map (λ r. r.seat) left.entry.receivers.items)
+        (map state_of (map (λ r. r.source) left.entry.receivers.items))
+        (map (λ r. r.answer) left.entry.receivers.items) →
+        ReportsByAClock L.start duties left.entry.report.due (Some at)
+        (newcomer begun.given.entries (length begun.sources)) left.entry.report.seat
+        before (buffered_of O.contents left.entry.report.out) was left.entry.report.beside.record false →
         IfOk result (EndsStation O.contents begun before was beside.new.record) }
 {
-    let Reported {
-        seat,
-        out,
-        beside: left,
-        has_failed: _,
-        due,
-        asked_at: _,
-    } = reported;
-    *beside = left;
-    let closed = close(rt, alloc, station, receivers, seat, answers)?;
-    let Closed {
-        journal,
-        inputs,
-        answers,
-    } = closed;
-    let kept = keep(alloc, &journal, beside)?;
+    let Outcome { receivers, report } = left;
+    *beside = report.beside;
+    let closed = close(rt, alloc, station, receivers, report.seat, answers)?;
+    let kept = keep(alloc, &closed.journal, beside)?;
     Ok(Ended::HandsOver(Shift {
-        duties: duties.after_hand_over(&kept, due),
+        duties: duties.after_hand_over(&kept, report.due),
         kept,
-        inputs,
-        answers,
-        out,
+        inputs: closed.inputs,
+        answers: closed.answers,
+        out: report.out,
     }))
 }
 
@@ -107,37 +91,29 @@ pub(super) fn finish<
     rt: &R,
     alloc: Global,
     station: Station<AIRCRAFT, L>,
-    receivers: Vec<Receiver<'a, R, L>>,
-    reported: Left<L, O, Beside<T, A>>,
+    left: Left<'a, L, R, Output<O>, Beside<T, A>>,
     duties: Duties,
     answers: Vec<Answer>,
     beside: &mut Beside<T, A>,
 ) -> Result<Ended<'a, R, O>, Fault<'static>>
-    requires answered { All (λ r. is_some r.answer ≡ true) receivers.items }
-    requires many { length answers.items ≡ length receivers.items }
-    requires numbered { AreNumbered L.seats reported.seat (map (λ r. r.seat) receivers.items) }
+    requires { CanClose L.seats (λ r. r.seat) (λ r. r.answer) left.report.seat left.receivers.items answers.items }
     ensures unstarted { IfErr result IsUnstarted }
     ensures ended { (begun : Begun) (before : SinkState) (was : Option Recording) →
         begun.duties ≡ duties → begun.answers ≡ answers.items →
-        IsServedBy begun L.start (map (λ r. r.seat) receivers.entry.items)
-        (map state_of (map (λ r. r.source) receivers.entry.items))
-        (map (λ r. r.answer) receivers.entry.items) →
-        ReportsByAClock L.start duties reported.due reported.asked_at
-        (newcomer begun.given.entries (length begun.sources)) reported.seat
-        before (buffered_of O.contents reported.out) was reported.beside.record reported.has_failed →
+        IsServedBy begun L.start (map (λ r. r.seat) left.entry.receivers.items)
+        (map state_of (map (λ r. r.source) left.entry.receivers.items))
+        (map (λ r. r.answer) left.entry.receivers.items) →
+        ReportsByAClock L.start duties left.entry.report.due left.entry.report.asked_at
+        (newcomer begun.given.entries (length begun.sources)) left.entry.report.seat
+        before (buffered_of O.contents left.entry.report.out) was left.entry.report.beside.record left.entry.report.has_failed →
         IfOk result (EndsStation O.contents begun before was beside.new.record) }
 {
-    let (reporter, written) = print_last(rt, &station, duties.tables.format, reported, beside);
-    let closed = close(rt, alloc, station, receivers, reporter, answers)?;
-    let Closed {
-        journal,
-        inputs,
-        answers,
-    } = closed;
+    let (reporter, written) = print_last(rt, &station, duties.tables.format, left.report, beside);
+    let closed = close(rt, alloc, station, left.receivers, reporter, answers)?;
     Ok(Ended::Finishes(Finished {
-        journal,
-        inputs,
-        answers,
+        journal: closed.journal,
+        inputs: closed.inputs,
+        answers: closed.answers,
         written,
     }))
 }
@@ -151,9 +127,7 @@ fn close<'a, L: StationName, R: Wait>(
     reporter: Seat<AIRCRAFT, L>,
     before: Vec<Answer>,
 ) -> Result<Closed<'a, R>, Fault<'static>>
-    requires answered { All (λ r. is_some r.answer ≡ true) receivers.items }
-    requires many { length before.items ≡ length receivers.items }
-    requires numbered { AreNumbered L.seats reporter (map (λ r. r.seat) receivers.items) }
+    requires { CanClose L.seats (λ r. r.seat) (λ r. r.answer) reporter receivers.items before.items }
     ensures unstarted { IfErr result IsUnstarted }
     ensures log { IfOk result (λ closed. closed.journal.log ≡ log_of L.start closed.journal.log.entries) }
     ensures closed { IfOk result (λ closed. IsClosed L.start (record {

@@ -1,20 +1,27 @@
 //! How a station begins: a receiver for each path, and the reporter's seat.
-ghost use Rattle.std.specs.Prelude.{◌≡◌, ◌+◌, ◌≤◌, IfOk, length, map, reverse};
-ghost use Rattle.station_journal.specs.Resume.{IsSound};
-ghost use Rattle.station_desk.specs.History.{base_of};
+ghost use Rattle.std.specs.Prelude.{◌≡◌, IfErr, IfOk, length, map};
 ghost use Rattle.station_shared.specs.Seats.{newcomer, newcomers};
-ghost use Rattle.station_main.specs.Limits.{program_limits};
+ghost use Rattle.station_main.specs.Rounds.{MayBegin, given_of};
+ghost use Rattle.station_main.specs.Run.{IsUnstarted};
 
+use crate::faults::Fault;
 use crate::kept::Kept;
 use crate::limits::{AIRCRAFT, LIMITS};
 use crate::threads::{Input, Receiver};
 use station_journal::{NoMemory, ResumeFault};
 use station_shared::{Places, Seat, Station, StationName, Worker};
-use std::alloc::{AllocError, Global};
+use std::alloc::Global;
 use std::sync::Wait;
 use std::sync::ledger::Blank;
 
-// Makes the station that goes on from the kept entries, a receiver for each input, and the reporter's seat.
+/// A station with a receiver for each input, and the reporter's seat.
+pub(super) type Begun<'a, L, R> = (
+    Station<AIRCRAFT, L>,
+    Vec<Receiver<'a, R, L>>,
+    Seat<AIRCRAFT, L>,
+);
+
+/// Makes the station that goes on from the kept entries. Refused if out of memory.
 pub(super) fn begin<'a, L: StationName, R: Wait>(
     rt: &R,
     alloc: Global,
@@ -22,24 +29,10 @@ pub(super) fn begin<'a, L: StationName, R: Wait>(
     inputs: Vec<Input<'a, R>>,
     blank: Blank,
     places: Places<AIRCRAFT>,
-) -> Result<
-    (
-        Station<AIRCRAFT, L>,
-        Vec<Receiver<'a, R, L>>,
-        Seat<AIRCRAFT, L>,
-    ),
-    NoMemory,
->
-    requires few { length inputs.items ≤ 8 }
+) -> Result<Begun<'a, L, R>, Fault<'static>>
     requires ledger { (blank.name ≡ L.name) × (blank.parts ≡ L.parts) }
-    requires seats { (L.parts ≡ length inputs.items + 1)
-        × (L.seats ≡ length inputs.items + 1)
-        × (places.places ≡ 1) }
-    requires start { (L.start.history ≡ places.history)
-        × (L.start.resumed ≡ length kept.recent.entries.items) }
-    requires base { base_of places.history ≡ kept.recent.base }
-    requires limits { L.start.limits ≡ program_limits }
-    requires sound { IsSound program_limits kept.recent.base (reverse kept.recent.entries.items) }
+    requires may { MayBegin L.start L.parts L.seats places (given_of kept) (length inputs.items) }
+    ensures unstarted { IfErr result IsUnstarted }
     ensures many { IfOk result (λ made. length made.1.items ≡ length inputs.entry.items) }
     ensures sources { IfOk result (λ made. map (λ r. r.source) made.1.items ≡ inputs.entry.items) }
     ensures seats { IfOk result (λ made. map (λ r. r.seat) made.1.items
@@ -52,7 +45,7 @@ pub(super) fn begin<'a, L: StationName, R: Wait>(
     let (station, mut seats) = match made {
         Ok(made) => made,
         Err(refused) => match refused.fault {
-            ResumeFault::NoMemory => return Err(AllocError),
+            ResumeFault::NoMemory => return Err(Fault::NoMemory),
             _ => unreachable!(),
         },
     };
@@ -63,7 +56,7 @@ pub(super) fn begin<'a, L: StationName, R: Wait>(
         Ok(receivers) => Ok((station, receivers, reporter)),
         Err(_) => {
             station.end(rt);
-            Err(AllocError)
+            Err(Fault::NoMemory)
         }
     }
 }

@@ -1,3 +1,4 @@
+use Rattle.std.specs.Prelude.{◌≡◌, None}
 use Rattle.station_main.proofs.ReportLemmas.{ReportsTo}
 use Rattle.station_main.proofs.reporter.report_at.Given as goal
 
@@ -5,5 +6,8 @@ use Rattle.station_main.proofs.reporter.report_at.Given as goal
 abbrev pub invariant-loop : goal.invariant-loop
 invariant-loop g l =
     let S = g.S.Sink in
-    ReportsTo g.L.StationName.start l.duties.tables l.duties.due l.due (g.M.Moments.given l.fn.moments) (g.M.Moments.given l.moments) l.fn.seat l.seat (S.state l.fn.out) (S.state l.out)
-    l.fn.beside.record l.beside.record l.has_failed
+    record {
+      asked : l.reported.asked_at ≡ None;
+      so_far : ReportsTo g.L.StationName.start l.duties.tables l.duties.due l.reported.due (g.M.Moments.given l.fn.moments) (g.M.Moments.given l.moments) l.fn.reporter.seat l.reported.seat (S.state l.fn.reporter.out) (S.state l.reported.out)
+          l.fn.reporter.beside.record l.reported.beside.record l.reported.has_failed;
+    }

@@ -8,8 +8,8 @@ use Rattle.station_main.specs.Telling.{Told, told_of}
 use Rattle.station_main.proofs.run_job.run_rounds.Given as goal
 
 -- all rounds leave what the rounds to come leave
-abbrev pub invariant-loop-more : goal.invariant-loop-more
-invariant-loop-more g l =
+abbrev pub invariant-loop-ran : goal.invariant-loop-ran
+invariant-loop-ran g l =
     let asked : Asked = record { tables = l.asked.tables; paths = map string_bytes l.asked.paths.now.items; hand_over_at = l.asked.hand_over_at } in
     let contents = g.O.Write.contents in
     let told = told_of g.E.Write.contents in
@@ -20,5 +20,5 @@ invariant-loop-more g l =
           Runs asked (l.fn.asked.rounds - 1) nothing (contents l.fn.out) after l.fn.beside.record left (told l.fn.err) err_new status;
     }
 
-abbrev pub decreases-loop-more : goal.decreases-loop-more
-decreases-loop-more g l = l.more
+abbrev pub decreases-loop-ran : goal.decreases-loop-ran
+decreases-loop-ran g l = l.more

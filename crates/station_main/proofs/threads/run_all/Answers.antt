@@ -1,7 +1,7 @@
 use denote.Param.Send.{param_send, arg_send}
 use denote.Exit.{no}
 use Rattle.station_portions.proofs.portions.Portions.TheSendSync.{the_send}
-use Rattle.std.proofs.Common.{◌≡◌, ◌<◌, ap, arith, is_some, length}
+use Rattle.std.proofs.Common.{◌≡◌, arith, length}
 use Rattle.station_main.proofs.RunJobLemmas.{whole_list}
 use Rattle.station_main.proofs.threads.run_all.Goals as goal
 
@@ -15,7 +15,4 @@ returns g c =
     let same : length ws ≡ length items = omega (arith, c.run_receivers.auto.workers) in
     let len : c.args.receivers.len ≡ length items = omega arith in
     let worked = rw c.as_mut_slice.ensures.value at c.run_receivers.ensures in
-    rw (whole_list c.args.receivers.len ws items same len) (record {
-      answered = λ k d h. let inside : k < length items = omega (arith, same) in ap is_some (worked k d inside).answered;
-      worked = record { many = same; each = λ i d h. worked i d h };
-    })
+    rw (whole_list c.args.receivers.len ws items same len) (record { many = same; each = λ i d h. worked i d h })

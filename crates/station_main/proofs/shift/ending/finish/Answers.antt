@@ -7,16 +7,20 @@ use Rattle.station_main.proofs.SeatNumberLemmas.{last_numbered}
 use Rattle.station_main.proofs.RunJobLemmas.{leaves}
 use Rattle.station_main.proofs.shift.ending.finish.Goals as goal
 
-pub close-requires-clause-numbered : goal.close-requires-clause-numbered
-close-requires-clause-numbered g c = record {
-  many = c.requires.numbered.many;
-  last = last_numbered _ _ _ _ _ _ _ _ _ _ c.print_last-reporter.ensures ∙ c.requires.numbered.last;
-  each = c.requires.numbered.each;
+pub close-requires : goal.close-requires
+close-requires g c = record {
+  answered = c.requires.answered;
+  many = c.requires.many;
+  numbered = record {
+    many = c.requires.numbered.many;
+    last = last_numbered _ _ _ _ _ _ _ _ _ _ c.print_last-reporter.ensures ∙ c.requires.numbered.last;
+    each = c.requires.numbered.each;
+  };
 }
 
 pub returns-clause-ended : goal.returns-clause-ended
 returns-clause-ended g c = λ begun before was duties_are answers_are served reports.
-    let receivers = c.args.receivers.items in
+    let receivers = c.args.left.receivers.items in
     let closing : Closing = record { reporter = c.print_last-reporter.result.0; receivers = map (λ r. r.seat) receivers; journal = c.in_ok-closed.closed.journal.log.entries } in (
       g.L.StationName.start,
       closing,

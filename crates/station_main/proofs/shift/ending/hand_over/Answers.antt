@@ -9,15 +9,15 @@ use Rattle.station_main.proofs.shift.ending.hand_over.Goals as goal
 
 pub returns-clause-ended : goal.returns-clause-ended
 returns-clause-ended g c = λ begun at before was duties_are answers_are served reports.
-    let receivers = c.args.receivers.items in
-    let closing : Closing = record { reporter = c.args.reported.seat; receivers = map (λ r. r.seat) receivers; journal = c.in_ok-closed.closed.journal.log.entries } in
+    let receivers = c.args.left.receivers.items in
+    let closing : Closing = record { reporter = c.args.left.report.seat; receivers = map (λ r. r.seat) receivers; journal = c.in_ok-closed.closed.journal.log.entries } in
     record {
       start = g.L.StationName.start;
       closing = closing;
       serves = serves_by begun g.L.StationName.start closing (map state_of (map (λ r. r.source) receivers)) (map state_of c.in_ok-closed.closed.inputs.items) (map (λ r. r.answer) receivers) c.in_ok-closed.closed.answers.items served
           c.in_ok-closed.ensures.inputs (subst (λ before. AddsAll before (map (λ r. r.answer) receivers) c.in_ok-closed.closed.answers.items) (sym answers_are) c.in_ok-closed.ensures.sums) c.in_ok-closed.ensures.closed;
       at = at;
-      shown = c.args.reported.beside.record;
+      shown = c.args.left.report.beside.record;
       reports = reports_by _ _ _ _ _ _ _ _ _ _ _ _ _ duties_are c.after_hand_over.ensures.due reports;
       tables = c.after_hand_over.ensures.tables ∙ sym (ap (λ (d : Duties). d.tables) duties_are);
       hand_over_at = c.after_hand_over.ensures.at ∙ sym (ap (λ (d : Duties). d.hand_over_at) duties_are);

@@ -5,7 +5,7 @@ use Rattle.station_main.proofs.RunJobLemmas.{length_new_seats}
 use Rattle.station_main.proofs.shift.opening.begin.Goals as goal
 
 pub unreachable-requires : goal.unreachable-requires
-unreachable-requires g c = wants_memory program_limits c.args.kept.recent.base c.args.kept.recent.entries.items c.in-Err.refused.fault c.requires.sound c.in-Err.ensures.refused.1 c.in_default.not-NoMemory
+unreachable-requires g c = wants_memory program_limits c.args.kept.recent.base c.args.kept.recent.entries.items c.in-Err.refused.fault c.requires.may.sound c.in-Err.ensures.refused.1 c.in_default.not-NoMemory
 
 pub unreachable-requires-in_default-pop : goal.unreachable-requires-in_default-pop
 unreachable-requires-in_default-pop g c = omega (arith, c.in_default-pop.ensures.cases.0, ap length c.in-Ok.ensures.made, length_new_seats c.args.kept.recent.entries.items (c.len.result + 1 - c.args.places.places) (c.len.result + 1))
@@ -18,12 +18,12 @@ receivers-requires g c =
 pub returns-in-Ok-receivers-clause-reporter : goal.returns-in-Ok-receivers-clause-reporter
 returns-in-Ok-receivers-clause-reporter g c =
     let many : c.len.result ≡ length c.args.inputs.items = omega (arith, c.len.ensures) in
-    let made = seats_made c.args.kept.recent.entries.items c.len.result c.args.places.places _ c.requires.seats.2 c.in-Ok.ensures.made in
+    let made = seats_made c.args.kept.recent.entries.items c.len.result c.args.places.places _ c.requires.may.seats_are.2 c.in-Ok.ensures.made in
     reporter_seat c.args.kept.recent.entries.items c.len.result (length c.args.inputs.items) _ c.pop.new.self.items c.in-Some.reporter c.in-Some.ensures.items made many
 
 pub returns-in-Ok-receivers-clause-seats : goal.returns-in-Ok-receivers-clause-seats
 returns-in-Ok-receivers-clause-seats g c =
     let many : c.len.result ≡ length c.args.inputs.items = omega (arith, c.len.ensures) in
-    let made = seats_made c.args.kept.recent.entries.items c.len.result c.args.places.places _ c.requires.seats.2 c.in-Ok.ensures.made in
+    let made = seats_made c.args.kept.recent.entries.items c.len.result c.args.places.places _ c.requires.may.seats_are.2 c.in-Ok.ensures.made in
     c.in-Ok-receivers.ensures.seats
     ∙ receiver_seats c.args.kept.recent.entries.items c.len.result (length c.args.inputs.items) _ c.pop.new.self.items c.in-Some.reporter c.in-Some.ensures.items made many
