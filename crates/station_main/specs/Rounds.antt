@@ -49,14 +49,17 @@ pub record GoesOnFrom (given : Given) (start : Start) : Type 0 where
   pub base : base_of start.history ≡ given.base
   pub resumed : start.resumed ≡ length given.entries
 
--- a station that goes on from there, with n receivers
+-- a station with n receivers may be begun
 pub record MayBegin (start : Start) (parts seats : ℕ) (places : Prepared) (given : Given) (n : ℕ) : Type 0 where
+  -- there are at most eight
   pub few : n ≤ 8
   -- each receiver and the reporter have a part of the ledger and a seat, and the reporter alone has a place
   pub seats_are : (parts ≡ n + 1) × (seats ≡ n + 1) × (places.places ≡ 1)
+  -- its history is that of the places
   pub history : start.history ≡ places.history
+  -- it goes on from there under the limits of the program
   pub goes_on : GoesOnFrom given start
-  -- what it goes on from is a legal list
+  -- what it goes on from is sound under them
   pub sound : IsSound program_limits given.base (reverse given.entries)
 
 -- what was asked of a run, and how many entries of its journal make a station hand over

@@ -52,11 +52,13 @@ pub record AreNumbered (n : ℕ) (reporter : Seated) (receivers : List Seated) :
   pub last : reporter.number ≡ length receivers
   pub each : (i : ℕ) (d : Seated) → i < length receivers → (slice_index_or receivers i d).number ≡ i
 
--- a station whose threads have ended, and of whose sources the stations before it counted this: each of its receivers has an
--- answer, one for each of those before, and its seats have their numbers
+-- a station may be closed whose threads have ended
 pub record CanClose {W : Type 0} (seats : ℕ) (seat : W → Seated) (answer : W → Option (Result Tally PumpFault)) (reporter : Seated) (receivers : List W) (before : List (Result Tally PumpFault)) : Type 0 where
+  -- each receiver has its answer
   pub answered : All (λ w. is_some (answer w) ≡ true) receivers
+  -- as many were counted by the stations before it
   pub many : length before ≡ length receivers
+  -- the seats have their numbers
   pub numbered : AreNumbered seats reporter (map seat receivers)
 
 -- its seats at the end, the reporter's and those of the receivers in the order of their inputs, and its journal
