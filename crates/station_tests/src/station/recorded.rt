@@ -1,0 +1,89 @@
+//! The record of a long journal, written portion by portion.
+ghost use Rattle.std.specs.Prelude.{◌≡◌, length};
+ghost use Rattle.station_desk.specs.History.{base_of};
+
+use super::look_of;
+use crate::fakes::new_places;
+use station_desk::Places;
+use station_journal::{Entry, Limits};
+use station_record::write_seen;
+use station_report::ToWrite;
+use station_shared::{Seat, Station, StationName};
+use std::alloc::Global;
+use std::marker::Brand;
+use std::process::Abort;
+use std::sync::Wait;
+use std::sync::ledger::Blank;
+
+const MANY: Limits = Limits {
+    entries: 131_072,
+    aircraft: 2,
+};
+
+// The lines of the ticks after the first `recorded`, and the one that asks for the table.
+fn lines_after(rt: &impl Abort, alloc: Global, recorded: u64, count: u64) -> String {
+    let mut text = String::new(alloc);
+    for at in recorded..count {
+        let line = format!(in alloc; "+{}\n", at.saturating_add(1)).expect(rt, "a line");
+        text.push_str(line.as_str()).expect(rt, "room for a line");
+    }
+    text.push_str("?\n").expect(rt, "room for a line");
+    text
+}
+
+// Writes what the seat has seen beyond the first `recorded` entries. The list has room for fewer of them.
+fn writes_the_rest<L: StationName, R: Wait + Abort>(
+    rt: &R,
+    alloc: Global,
+    station: &Station<2, L>,
+    seat: &Seat<2, L>,
+    recorded: u64,
+    count: u64,
+)
+    requires { count ≡ length seat.now.seen }
+{
+    let mut list = Vec::<Entry>::with_capacity(alloc, 16_384).expect(rt, "room for a portion");
+    let mut sink = ToWrite::new(Vec::<u8>::new(alloc));
+    let written = write_seen(rt, station, seat, recorded, count, &mut list, &mut sink);
+    assert_eq!(rt; written, Ok(()));
+    let lines = lines_after(rt, alloc, recorded, count);
+    assert!(rt; sink.into_inner().as_slice() == lines.as_bytes());
+}
+
+// The first of two seats ticks 70,000 times.
+fn tick_and_write<L: StationName, R: Wait + Abort>(
+    rt: &R,
+    alloc: Global,
+    blank: Blank,
+    places: Places<2>,
+)
+    requires ledger { (blank.name ≡ L.name) × (blank.parts ≡ L.parts) }
+    requires seats { (L.parts ≡ 2) × (L.seats ≡ 2) × (places.places ≡ 2) }
+    requires start { (L.start.history ≡ places.history) × (L.start.resumed ≡ 0) }
+    requires base { base_of places.history ≡ 0 }
+    requires limits { L.start.limits ≡ record { entries = 131072; aircraft = 2 } }
+{
+    let Ok((station, mut seats)) = Station::<2, L>::new(rt, alloc, MANY, 2, blank, places) else {
+        panic!(rt; "no station");
+    };
+    let _other = seats.pop().expect(rt, "the second seat");
+    let mut seat = seats.pop().expect(rt, "the first seat");
+    for at in 1..=70_000 {
+        let answer = station.tick(rt, &mut seat, at);
+        assert!(rt; answer.is_ok());
+    }
+    let look = look_of(rt, seat);
+    let count = look.entries();
+    assert_eq!(rt; count, 70_000);
+    let seat = look.done();
+    writes_the_rest(rt, alloc, &station, &seat, 0, count);
+    writes_the_rest(rt, alloc, &station, &seat, 20_000, count);
+    writes_the_rest(rt, alloc, &station, &seat, 69_999, count);
+    station.end(rt);
+}
+
+#[test]
+fn a_record_has_all_that_a_seat_has_seen(rt: HostRuntime) {
+    let places = new_places(&rt, rt.alloc(), 2);
+    tick_and_write::<Brand, _>(&rt, rt.alloc(), Blank::new(2), places);
+}
