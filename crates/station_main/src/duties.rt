@@ -32,6 +32,7 @@ impl Duties {
         ensures due { result.due ≡ after_table tables.pace last_tick }
         ensures at { result.hand_over_at ≡ hand_over_at }
         ensures pause { result.not_before ≡ 0 }
+        ensures ends { result.ends_with_output ≡ ends_with_output }
     {
         Duties {
             tables,
@@ -49,6 +50,7 @@ impl Duties {
         ensures at { result.hand_over_at ≡ self.hand_over_at }
         ensures pause { result.not_before
             ≡ not_before self.hand_over_at (length kept.now.recent.entries.items) kept.now.last_tick }
+        ensures ends { result.ends_with_output ≡ self.ends_with_output }
     {
         let is_crowded = kept.recent.entries.len() as u64 > self.hand_over_at / 2;
         Duties {
