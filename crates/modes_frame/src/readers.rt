@@ -11,6 +11,7 @@ use crate::parity_by_place::remainder_by_place;
 
 /// Whom a frame speaks for, by its downlink format and the remainder of the whole frame (ICAO Annex 10 Volume IV,
 /// 3.1.2.3.3). The address is below 2^24. [`CheckFault`] lists when a frame speaks for nobody.
+#[inline(always)]
 #[tactic(auto, unfolding(crate::specs::Claims::claim_of))]
 pub fn claim(frame: &Frame) -> Result<Claim, CheckFault>
     ensures value { result ≡ claim_of frame.now }

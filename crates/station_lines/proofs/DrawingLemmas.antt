@@ -88,12 +88,19 @@ module _ {X E : Type 0} (Took : X → List Cut → Result (Unit {0}) E → X →
       StopsWithin-longer (take n bytes) (drop n bytes) bytes x z stop (sym (take-append-drop n bytes))
       (record { lines = each.lines; left_out = []; ended = each.ended ∙ ap (λ ls. ended_cuts before ++ ls) (sym (append-nil each.lines)); took = each.took })
 
-  -- all of these bytes, or those up to a line that stopped the taking
-  pub TakesBytes-each : (bytes : List ℕ) (n : ℕ) (held : Cut) (x z : X) (r : Result (Unit {0}) E) → OnOk r (n ≡ length bytes) → TakesEach Took before (take n bytes) held x z r → TakesBytes Took before bytes held x z r
-  TakesBytes-each bytes n held x z (Ok done) whole each =
-      let same : n ≡ length bytes = whole in
-      subst (λ (bs : List ℕ). TakesEach Took before bs held x z (Ok tt)) (take_all n bytes (omega arith)) each
-  TakesBytes-each bytes n held x z (Err stop) whole each = StopsWithin-each bytes n held x z stop each
+  -- nothing more, but the lines that were kept
+  module _ (joined : (x y z : X) (cs ds : List Cut) (r : Result (Unit {0}) E) → Took x cs (Ok tt) y → Took y ds r z → Took x (cs ++ ds) r z) where
+    pub took-settled : (x y z : X) (cs : List Cut) (r : Result (Unit {0}) E) → Took x cs (Ok tt) y → Took y [] r z → Took x cs r z
+    took-settled x y z cs r p q = subst (λ (ls : List Cut). Took x ls r z) (append-nil cs) (joined x y z cs [] r p q)
+
+    pub TakesBytes-settled : (bytes : List ℕ) (held : Cut) (x y z : X) (r : Result (Unit {0}) E) → TakesEach Took before bytes held x y (Ok tt) → Took y [] r z → TakesBytes Took before bytes held x z r
+    TakesBytes-settled bytes held x y z (Ok done) each kept = record { lines = each.lines; ended = each.ended; begun = each.begun; took = took-settled x y z each.lines (Ok tt) each.took kept }
+    TakesBytes-settled bytes held x y z (Err stop) each kept = record {
+      lines = each.lines;
+      left_out = [];
+      ended = each.ended ∙ ap (λ ls. ended_cuts before ++ ls) (sym (append-nil each.lines));
+      took = took-settled x y z each.lines (Err stop) each.took kept;
+    }
 
   -- bytes after which more bytes were taken
   module _ (joined : (x y z : X) (cs ds : List Cut) (r : Result (Unit {0}) E) → Took x cs (Ok tt) y → Took y ds r z → Took x (cs ++ ds) r z)
@@ -120,10 +127,6 @@ module _ {X E : Type 0} (Took : X → List Cut → Result (Unit {0}) E → X →
     pub TakesEach-next : {held_now : Cut} (r : Result (Unit {0}) E) → TakesEach Took (before ++ take i bytes) (take n (take (length bytes - i) (drop i bytes))) held_now y z r → TakesEach Took before (take (i + n) bytes) held_now x z r
     TakesEach-next {held_now} r more =
         subst (λ (bs : List ℕ). TakesEach Took before bs held_now x z r) (sym (next_piece bytes i n)) (TakesEach-more joined so_far r more)
-
-    pub StopsWithin-next : (stop : E) → StopsWithin Took (before ++ take i bytes) (take n (take (length bytes - i) (drop i bytes))) y z stop → StopsWithin Took before bytes x z stop
-    StopsWithin-next stop more =
-        StopsWithin-longer _ (drop (i + n) bytes) bytes x z stop (sym (take-append-drop (i + n) bytes) ∙ ap (λ bs. bs ++ drop (i + n) bytes) (next_piece bytes i n)) (StopsWithin-more joined so_far stop more)
 
 -- ---- reads
 
@@ -251,3 +254,8 @@ module _ {X E : Type 0} (Took : X → List Cut → Result (Unit {0}) E → X →
   pub Taken-end : (stopped : Result (Unit {0}) E) (turns : ℕ) (z : X) → is_over ≡ true → before ≤ turns → TakesLast Took so_far.given y z stopped → Taken Took old mid turns (ending_as (ended_by stopped)) x z (stopped_as (ended_by stopped))
   Taken-end (Ok done) turns z found within last = Taken-over AtEnd (Ok tt) turns z refl within last (refl, so_far.ends ∙ ap (λ b. counted (not b) old.ends) found, so_far.over found)
   Taken-end (Err stop) turns z found within last = Taken-over LineStopped (Err stop) turns z refl within last tt
+
+-- what holds unless a line stopped the call
+pub ended-settled : {E : Type 0} (P : Type 0) (r : Result (Unit {0}) E) → OnOk r P → OnOk (stopped_as (ended_by r)) P
+ended-settled P (Ok done) holds = holds
+ended-settled P (Err stop) holds = tt

@@ -19,5 +19,5 @@ pub use parsed_line::{ParsedLine, parse_heard, parse_said};
 pub use piece::PIECE;
 pub use pumping::{PumpFault, pump};
 pub use source::Source;
-pub use taking::{Ended, LineTaker, PieceTaker, take_all, take_each, take_lines};
+pub use taking::{Ended, LineTaker, take_lines};
 pub use tally::Tally;

@@ -1,4 +1,4 @@
-pub mod ParsedLemmas
+pub mod KeptLemmas
 pub mod CloseLemmas
 pub mod CountLemmas
 pub mod LookLemmas

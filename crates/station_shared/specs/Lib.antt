@@ -1,5 +1,5 @@
 pub mod Closing
-pub mod ParsedLaws
-pub mod ParsedLines
+pub mod KeptLaws
+pub mod KeptLines
 pub mod Seats
 pub mod Workers

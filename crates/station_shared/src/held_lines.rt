@@ -1,7 +1,7 @@
 //! Lines that are parsed, taken one after another while the lock of a station is kept.
 ghost use Rattle.std.specs.Prelude.{◌≡◌, ℕ, ◌+◌, ◌^◌, ◌<◌, ◌≤◌, List, [], ◌∷◌, Ok, length};
 ghost use Rattle.modes_frame.specs.declared.cutter.Cut.{Cut};
-ghost use Rattle.station_shared.specs.ParsedLines.{TakesFront, parsed_all};
+ghost use Rattle.station_shared.specs.KeptLines.{TakesFirst, parsed_all};
 ghost use Rattle.station_lines.specs.Calls.{heard};
 ghost use Rattle.station_lines.specs.ParsedLines.{parsed_of};
 ghost use Rattle.station_lines.specs.Pump.{Pumps, PumpsFrame};
@@ -61,7 +61,7 @@ fn take_frame<const N: usize, L: StationName, R: Wait>(
 }
 
 // Takes one line.
-pub(crate) fn take_line<const N: usize, L: StationName, R: Wait>(
+fn take_line<const N: usize, L: StationName, R: Wait>(
     rt: &R,
     flags: &LimitFlags,
     desk: &mut CountedDesk<N, L>,
@@ -99,9 +99,9 @@ fn take_parsed<const N: usize, L: StationName, R: Wait>(
     requires met { IsPrefix seat.old.seen desk.old.log.entries }
     ensures lines { tally.new.lines ≤ tally.old.lines + length ahead.now }
     ensures taken { (lines : List Cut) → ahead.now ≡ parsed_all lines →
-        TakesFront (Pumps (SeatSteps L.start)) lines
-        (record { feed = seat.old; tally = tally.old })
-        (record { feed = seat.new; tally = tally.new }) result }
+        TakesFirst (Pumps (SeatSteps L.start)) lines
+        (record { feed = seat.old; tally = tally.old }) result
+        (record { feed = seat.new; tally = tally.new }) [] }
 {
     for parsed in ahead {
         take_line(rt, flags, desk, seat, tally, parsed)?;
@@ -120,9 +120,9 @@ pub(crate) fn take_held<const N: usize, L: StationName, R: Wait>(
     requires room { tally.old.lines + length ahead.now < 2 ^ 64 }
     ensures lines { tally.new.lines ≤ tally.old.lines + length ahead.now }
     ensures taken { (lines : List Cut) → ahead.now ≡ parsed_all lines →
-        TakesFront (Pumps (SeatSteps L.start)) lines
-        (record { feed = seat.old; tally = tally.old })
-        (record { feed = seat.new; tally = tally.new }) result }
+        TakesFirst (Pumps (SeatSteps L.start)) lines
+        (record { feed = seat.old; tally = tally.old }) result
+        (record { feed = seat.new; tally = tally.new }) [] }
 {
     if ahead.is_empty() {
         return Ok(());

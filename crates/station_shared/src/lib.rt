@@ -1,11 +1,11 @@
 //! The station: a desk behind a lock, which many threads feed and look at.
 #![tactic(auto)]
 
-mod batch;
 pub mod close;
 mod counted_desk;
 mod held_lines;
 mod held_pump;
+mod kept_lines;
 pub mod limits_met;
 pub mod look;
 mod receipt;

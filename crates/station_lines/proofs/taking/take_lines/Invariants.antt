@@ -3,7 +3,7 @@ use Rattle.station_lines.specs.Source.{longest_piece}
 use Rattle.station_lines.proofs.DrawingLemmas.{GivenSoFar}
 use Rattle.station_lines.proofs.taking.take_lines.Given as goal
 
--- the lines that the bytes so far ended were taken, and no read failed or found the end
+-- the lines that the bytes so far ended were taken, none is kept, and no read failed or found the end
 abbrev pub invariant-loop-left : goal.invariant-loop-left
 invariant-loop-left g l =
     let S = g.S.Source in
@@ -11,6 +11,7 @@ invariant-loop-left g l =
     record {
       within : l.left ≤ l.fn.turns;
       room : T.counted l.taker ≤ longest_piece * (l.fn.turns - l.left);
+      settled : T.is_settled l.taker;
       so_far : GivenSoFar T.took (S.state l.fn.from) (S.state l.from) (l.fn.turns - l.left) false l.cutter l.fn.taker l.taker;
     }
 

@@ -7,7 +7,7 @@ use Rattle.station_lines.specs.Calls.{heard}
 use Rattle.station_lines.specs.ParsedLines.{parsed_of}
 use Rattle.station_lines.specs.Pump.{Pumps}
 use Rattle.station_shared.specs.Workers.{SeatSteps}
-use Rattle.station_shared.proofs.ParsedLemmas.{parsed_line, line_more}
+use Rattle.station_shared.proofs.KeptLemmas.{parsed_line, line_more}
 use Rattle.station_lines.specs.PumpLaws.{Pumps-then}
 use Rattle.station_shared.proofs.held_lines.take_parsed.Goals as goal
 
@@ -20,9 +20,9 @@ returns-in_err-take_line-clause-taken g c lines h =
     let exit = err_from_is_err_and c.from_residual.result c.from_residual.ensures.1 in
     rw (exit.1, exit.2) (record {
       lines = take i lines ++ line ∷ [];
-      left_out = drop (i + 1) lines;
+      others = drop (i + 1) lines;
       parts = sym (take-append-drop (i + 1) lines) ∙ ap (λ l. l ++ drop (i + 1) lines) (line_more c.args.ahead.now lines i h c.loop-parsed-test.true);
-      all_taken = tt;
+      left = tt;
       took = Pumps-then gives _ _ _ (take i lines) (line ∷ []) _ (c.loop-parsed.invariant.taken lines h) pumps;
     })
 
@@ -48,8 +48,8 @@ returns-clause-taken g c lines h =
     let whole : take i lines ≡ lines = take_all i lines (omega (arith, many, c.loop-parsed-test.false)) in
     record {
       lines = lines;
-      left_out = [];
+      others = [];
       parts = sym (append-nil lines);
-      all_taken = refl;
+      left = refl;
       took = subst (λ (ls : List Cut). Pumps (SeatSteps g.L.StationName.start) (record { feed = c.args.seat.now; tally = c.args.tally.now }) ls (Ok tt) (record { feed = c.loop-parsed.seat; tally = c.loop-parsed.tally })) whole (c.loop-parsed.invariant.taken lines h);
     }
