@@ -1,4 +1,5 @@
 //! Pumps over a desk.
+use crate::comparing::{same, same_at};
 use crate::fakes::{IDENTIFICATION_BYTES, Pieces, counted, frame_of, new_desk, new_desk_or_again};
 use station_desk::{Desk, DeskFeed, pump_desk};
 use station_journal::{Entry, Journal, Rows};
@@ -43,7 +44,7 @@ fn sources_are_pumped_to_their_end_or_fault(rt: HostRuntime) {
         (spaces, 2001, Ok(too_long)),
         (spaces, 2000, Err(PumpFault::TooManyTurns(none))),
     ] {
-        assert_eq!(rt; pumped(&rt, rt.alloc(), source, turns).0, want, "{turns}");
+        same_at(&rt, pumped(&rt, rt.alloc(), source, turns).0, want, turns);
     }
 }
 
@@ -64,10 +65,10 @@ fn plain_lines_are_taken_however_they_are_read(rt: HostRuntime) {
 fn frames_of_a_lent_desk_are_heard_by_its_seat(rt: HostRuntime) {
     let source = Pieces::new(b"*8D4840D6202CC371C32CE0576098;\n*2A00516D492B80;\n");
     let (answer, journal) = pumped(&rt, rt.alloc(), source, 9);
-    assert_eq!(rt; answer, Ok(counted([1, 1], [0, 0], [0, 0, 0, 0])));
+    same(&rt, answer, Ok(counted([1, 1], [0, 0], [0, 0, 0, 0])));
     let frame = frame_of(&rt, &IDENTIFICATION_BYTES);
-    assert_eq!(rt; journal.get(0), Some(Entry::Heard { seat: 3, frame }));
-    assert_eq!(rt; journal.len(), 1);
+    same(&rt, journal.get(0), Some(Entry::Heard { seat: 3, frame }));
+    same(&rt, journal.len(), 1);
 }
 
 // The answer of a pump that feeds the desk as seat 0. One that is out of memory, at its first line, leaves the desk
@@ -84,8 +85,8 @@ fn pumped_or_again<R: Abort + Wait>(
         let Err(PumpFault::NoMemory(tally)) = answer else {
             return answer;
         };
-        assert_eq!(rt; tally, counted([0, 1], [0, 0], [0, 0, 0, 0]));
-        assert_eq!(rt; (desk.journal().len(), Rows::len(desk)), (0, 0));
+        same(rt, tally, counted([0, 1], [0, 0], [0, 0, 0, 0]));
+        same(rt, (desk.journal().len(), Rows::len(desk)), (0, 0));
     }
     panic!(rt; "out of memory twice")
 }
@@ -98,7 +99,7 @@ fn lines_are_counted_by_kind(rt: HostRuntime) {
     for (turns, want) in [(9, Ok(want)), (0, Err(PumpFault::TooManyTurns(none)))] {
         let mut desk = new_desk_or_again(&rt, rt.alloc(), 16_777_216);
         let answer = pumped_or_again(&rt, &mut desk, lines, turns);
-        assert_eq!(rt; answer, want, "{turns}");
+        same_at(&rt, answer, want, turns);
         let _journal = desk.end(&rt);
     }
 }

@@ -1,4 +1,5 @@
 //! Sources over readers.
+use crate::comparing::{holds, same};
 use crate::readers::{MANY_BYTES, Torn, read_bytes};
 use station_lines::{FromBuffer, FromRead, Source};
 use station_report::Failed;
@@ -12,9 +13,9 @@ type Known = (bool, Result<usize, Failed>, &'static [u8]);
 fn read_as_known<S: Source + Drop>(rt: &impl Abort, mut from: S, reads: &[Known]) {
     for (is_at_hand, answer, bytes) in reads {
         let mut buffer = [0u8; 3];
-        assert_eq!(rt; from.is_at_hand(), *is_at_hand);
-        assert_eq!(rt; from.read(&mut buffer), *answer);
-        assert!(rt; buffer.starts_with(bytes));
+        same(rt, from.is_at_hand(), *is_at_hand);
+        same(rt, from.read(&mut buffer), *answer);
+        holds(rt, buffer.starts_with(bytes));
     }
 }
 
@@ -69,11 +70,12 @@ fn a_failed_read_comes_after_the_bytes_at_hand(rt: HostRuntime) -> Result<(), Fa
 #[test]
 fn readers_are_read_to_their_ends(rt: HostRuntime) -> Result<(), Fail> {
     let mut plain = FromRead::new(MANY_BYTES.as_slice());
-    assert_eq!(rt; read_bytes(&mut plain, 9999), (9000, Ok(0)));
+    same(&rt, read_bytes(&mut plain, 9999), (9000, Ok(0)));
     let reader = BufReader::with_capacity(rt.alloc(), 4, MANY_BYTES.as_slice())?;
-    assert_eq!(rt;
+    same(
+        &rt,
         read_bytes(&mut FromBuffer::new(reader), 9999),
-        (9000, Ok(0))
+        (9000, Ok(0)),
     );
     Ok(())
 }

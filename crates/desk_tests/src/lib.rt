@@ -4,6 +4,8 @@
 #[cfg(test)]
 mod command;
 #[cfg(test)]
+mod comparing;
+#[cfg(test)]
 mod desk;
 #[cfg(test)]
 mod desk_pump;

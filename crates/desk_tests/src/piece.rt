@@ -1,4 +1,5 @@
 //! Reads gathered to pieces while bytes are at hand.
+use crate::comparing::{same, same_at};
 use arrayvec::ArrayVec;
 use modes_frame::Cut;
 use station_lines::{
@@ -69,8 +70,8 @@ fn reads_go_on_while_bytes_are_at_hand(rt: HostRuntime) -> Result<(), Fail> {
     ] {
         let reader = BufReader::with_capacity(rt.alloc(), 2048, BYTES.as_slice())?;
         let (ended, lengths) = gathered(&mut FromBuffer::new(reader), turns);
-        assert_eq!(rt; ended, want, "{turns}");
-        assert_eq!(rt; lengths.as_slice(), pieces, "{turns}");
+        same_at(&rt, ended, want, turns);
+        same_at(&rt, lengths.as_slice(), pieces, turns);
     }
     Ok(())
 }
@@ -79,8 +80,8 @@ fn reads_go_on_while_bytes_are_at_hand(rt: HostRuntime) -> Result<(), Fail> {
 fn reads_end_with_the_turns(rt: HostRuntime) -> Result<(), Fail> {
     let reader = BufReader::with_capacity(rt.alloc(), 2048, BYTES.as_slice())?;
     let (ended, lengths) = gathered(&mut FromBuffer::new(reader), 3);
-    assert_eq!(rt; ended, Ended::TurnsOver);
-    assert_eq!(rt; lengths.as_slice(), [1536].as_slice());
+    same(&rt, ended, Ended::TurnsOver);
+    same(&rt, lengths.as_slice(), [1536].as_slice());
     Ok(())
 }
 
@@ -91,7 +92,7 @@ fn a_source_that_does_not_know_is_read_once(rt: HostRuntime) {
         (9, Ended::AtEnd, &[512, 512, 512, 512, 512, 440, 0, 0]),
     ] {
         let (ended, lengths) = gathered(&mut FromRead::new(BYTES.as_slice()), turns);
-        assert_eq!(rt; ended, want, "{turns}");
-        assert_eq!(rt; lengths.as_slice(), pieces, "{turns}");
+        same_at(&rt, ended, want, turns);
+        same_at(&rt, lengths.as_slice(), pieces, turns);
     }
 }

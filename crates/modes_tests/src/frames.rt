@@ -2,6 +2,7 @@
 mod bytes;
 mod plain;
 
+use crate::comparing::{same, same_at};
 use crate::known::{ALL_CALL, KLM1023, frame};
 use modes_frame::readers::claim;
 use modes_frame::{
@@ -33,8 +34,8 @@ fn lines_say_a_frame_or_their_first_fault(rt: HostRuntime) -> Result<(), Fail> {
         ("@01234567x9AB0000;", Err(LineFault::BadDigit(9))),
         ("*8D4840D6202CC3;", Err(LineFault::WrongLength(17))),
     ] {
-        assert_eq!(rt; read_line(line.as_bytes()), want, "{line}");
-        assert_eq!(rt; read_line(line.as_bytes()), want, "{line}");
+        same_at(&rt, read_line(line.as_bytes()), want, line);
+        same_at(&rt, read_line(line.as_bytes()), want, line);
     }
     Ok(())
 }
@@ -51,10 +52,11 @@ fn a_cut_line_reads_as_its_bytes(rt: HostRuntime) -> Result<(), Fail> {
     for bytes in [" *0000;\t\n", "*0000\n", " \r\n", "\n"] {
         match Cutter::new().push_line(bytes.as_bytes()).1 {
             Some(Cut::Whole(cut)) => {
-                assert_eq!(rt;
+                same_at(
+                    &rt,
                     modes_frame::read_cut(&cut),
                     read_line(cut.bytes()),
-                    "{bytes}"
+                    bytes,
                 )
             }
             _ => return Err("no line".into()),
@@ -85,7 +87,7 @@ fn bits_are_counted_in_the_order_in_which_they_are_sent(rt: HostRuntime) -> Resu
     for n in 1..=frame.bits() {
         number = number << 1 | u128::from(frame.bit(n));
     }
-    assert_eq!(rt; number, 0x8D48_40D6_202C_C371_C32C_E057_6098);
+    same(&rt, number, 0x8D48_40D6_202C_C371_C32C_E057_6098);
     Ok(())
 }
 
@@ -101,9 +103,9 @@ fn remainders_are_what_was_laid_over_the_parity(rt: HostRuntime) -> Result<(), F
         ("*800014B4000000000000003EAE64;", 0x48_40D6, 0x48_40D6),
     ] {
         let frame = frame(line)?;
-        assert_eq!(rt; remainder(&frame), want, "{line}");
+        same_at(&rt, remainder(&frame), want, line);
         let overlaid = want != 0;
-        assert_eq!(rt; claim(&frame), Ok(Claim { address, overlaid }), "{line}");
+        same_at(&rt, claim(&frame), Ok(Claim { address, overlaid }), line);
     }
     Ok(())
 }
@@ -143,10 +145,10 @@ fn frames_speak_for_an_address(rt: HostRuntime) -> Result<(), Fail> {
     ] {
         let wanted = Ok(Claim { address, overlaid });
         let heard = frame(line)?;
-        assert_eq!(rt; claim(&heard), wanted, "{line}");
+        same_at(&rt, claim(&heard), wanted, line);
         let checked = CheckedFrame::of(heard);
-        assert_eq!(rt; checked.claim(), wanted, "{line}");
-        assert_eq!(rt; *checked.frame(), heard);
+        same_at(&rt, checked.claim(), wanted, line);
+        same(&rt, *checked.frame(), heard);
     }
     Ok(())
 }
@@ -170,7 +172,7 @@ fn frames_speak_for_nobody_with_their_first_fault(rt: HostRuntime) -> Result<(),
             CheckFault::Unsupported(24),
         ),
     ] {
-        assert_eq!(rt; claim(&frame(line)?), Err(fault), "{line}");
+        same_at(&rt, claim(&frame(line)?), Err(fault), line);
     }
     Ok(())
 }
@@ -219,7 +221,7 @@ fn bytes_are_cut_one_by_one(rt: HostRuntime) {
 #[test]
 fn bytes_are_cut_in_pieces(rt: HostRuntime) {
     let mut cutter = Cutter::new();
-    assert_eq!(rt; cutter.push(b'*'), None);
+    same(&rt, cutter.push(b'*'), None);
     for (bytes, count, want) in [
         (
             b"0000;\n\n*00".as_slice(),
@@ -235,5 +237,5 @@ fn bytes_are_cut_in_pieces(rt: HostRuntime) {
         let (taken, cut) = cutter.push_line(bytes);
         assert_eq!(rt; (taken, answer(&cut)), (count, want), "{bytes:?}");
     }
-    assert_eq!(rt; cutter.finish(), None);
+    same(&rt, cutter.finish(), None);
 }

@@ -1,5 +1,6 @@
 //! Sources that are taken in portions.
 
+use crate::comparing::{holds, same};
 use station_lines::Source;
 use station_portions::{PathEnd, Reopen, connect};
 use station_report::Failed;
@@ -71,17 +72,17 @@ fn a_line_begun_before_a_hand_over_is_given_after_it(rt: HostRuntime) -> Result<
     };
     let handle = reader.start(&rt, rt, script)?;
     let mut first = [0u8; 6];
-    assert!(rt; portions.read(&mut first) == Ok(6));
-    assert_eq!(rt; &first, b"*one;\n");
+    holds(&rt, portions.read(&mut first) == Ok(6));
+    same(&rt, &first, b"*one;\n");
     hand_over.request();
-    assert!(rt; portions.read(&mut first) == Ok(0));
-    assert!(rt; portions.is_between_lines() && portions.end().is_none());
+    holds(&rt, portions.read(&mut first) == Ok(0));
+    holds(&rt, portions.is_between_lines() && portions.end().is_none());
     hand_over.resume();
     is_released.store(true, Ordering::SeqCst);
     let mut rest = Vec::new(alloc);
     read_portion(&mut portions, &mut rest)?;
-    assert_eq!(rt; rest.as_slice(), b"*two;\n*three;\n".as_slice());
-    assert!(rt; portions.end() == Some(PathEnd::AtEnd));
+    same(&rt, rest.as_slice(), b"*two;\n*three;\n".as_slice());
+    holds(&rt, portions.end() == Some(PathEnd::AtEnd));
     handle.join(&rt);
     Ok(())
 }
@@ -106,12 +107,15 @@ fn a_hand_over_doesn_t_wait_for_a_silent_path(rt: HostRuntime) -> Result<(), Fai
     })?;
     let mut bytes = Vec::new(alloc);
     read_portion(&mut portions, &mut bytes)?;
-    assert!(rt; bytes.is_empty() && portions.end().is_none());
+    holds(&rt, bytes.is_empty() && portions.end().is_none());
     other.join(&rt);
     hand_over.resume();
     is_released.store(true, Ordering::SeqCst);
     read_portion(&mut portions, &mut bytes)?;
-    assert!(rt; bytes.is_empty() && portions.end() == Some(PathEnd::AtEnd));
+    holds(
+        &rt,
+        bytes.is_empty() && portions.end() == Some(PathEnd::AtEnd),
+    );
     handle.join(&rt);
     Ok(())
 }
@@ -152,15 +156,15 @@ fn a_long_line_is_cut_short_and_a_begun_one_dropped_at_a_failed_read(
     };
     let handle = reader.start(&rt, rt, path)?;
     let mut bytes = [0u8; 1024];
-    assert!(rt; portions.read(&mut bytes) == Ok(512 + 7));
-    assert!(rt; bytes.as_slice().starts_with([b'a'; 512].as_slice()));
-    assert_eq!(rt; &bytes[512..512 + 7], b"\n*one;\n".as_slice());
-    assert!(rt; portions.read(&mut bytes) == Err(Failed));
-    assert!(rt; portions.read(&mut bytes) == Err(Failed));
-    assert!(rt; portions.end() == Some(PathEnd::ReadFailed));
+    holds(&rt, portions.read(&mut bytes) == Ok(512 + 7));
+    holds(&rt, bytes.as_slice().starts_with([b'a'; 512].as_slice()));
+    same(&rt, &bytes[512..512 + 7], b"\n*one;\n".as_slice());
+    holds(&rt, portions.read(&mut bytes) == Err(Failed));
+    holds(&rt, portions.read(&mut bytes) == Err(Failed));
+    holds(&rt, portions.end() == Some(PathEnd::ReadFailed));
     let mut path = handle.join(&rt);
-    assert!(rt; path.end == PathEnd::ReadFailed && path.from.is_over);
-    assert!(rt; portions.gave_all(&mut path));
+    holds(&rt, path.end == PathEnd::ReadFailed && path.from.is_over);
+    holds(&rt, portions.gave_all(&mut path));
     Ok(())
 }
 
@@ -232,13 +236,14 @@ fn a_path_is_read_again_each_time_that_it_ends(rt: HostRuntime) -> Result<(), Fa
             break;
         }
     }
-    assert_eq!(rt;
+    same(
+        &rt,
         bytes.as_slice(),
-        b"*one;\n*two;\n*four;\n*four;\n".as_slice()
+        b"*one;\n*two;\n*four;\n*four;\n".as_slice(),
     );
-    assert!(rt; portions.end().is_none());
+    holds(&rt, portions.end().is_none());
     hand_over.request();
-    assert!(rt; portions.read(&mut buffer) == Ok(0));
+    holds(&rt, portions.read(&mut buffer) == Ok(0));
     Ok(())
 }
 
@@ -267,8 +272,8 @@ fn a_path_of_many_lines_is_given_to_its_end(rt: HostRuntime) -> Result<(), Fail>
     let handle = reader.start(&rt, rt, Repeated { times: 10_000 })?;
     let mut bytes = Vec::new(alloc);
     read_portion(&mut portions, &mut bytes)?;
-    assert_eq!(rt; bytes.len(), 70_000);
-    assert!(rt; portions.end() == Some(PathEnd::AtEnd));
+    same(&rt, bytes.len(), 70_000);
+    holds(&rt, portions.end() == Some(PathEnd::AtEnd));
     handle.join(&rt);
     Ok(())
 }

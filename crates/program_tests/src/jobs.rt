@@ -28,16 +28,39 @@ mod through_time;
 mod ticks;
 mod words;
 
-use station_main::{Alarms, PathHost, StandardError, exit_code, obey, own_words};
+use crate::comparing::{holds, same};
+use bounds::*;
+use station_main::{Alarms, StandardError, exit_code, obey, own_words};
 use std::alloc::{AllocError, Global};
-use std::env::{Env, FillError};
-use std::fs::File;
+use std::env::FillError;
 use std::io::{self, Read, Write};
-use std::process::{Abort, ExitCode};
-use std::rt::Files;
-use std::sync::Wait;
-use std::thread::Threads;
-use std::time::Clock;
+use std::process::ExitCode;
+
+// What a trial asks of its runtime.
+mod bounds {
+    pub use station_main::PathHost;
+    pub use std::env::Env;
+    pub use std::fs::File;
+    pub use std::process::Abort;
+    pub use std::rt::Files;
+    pub use std::sync::Wait;
+    pub use std::thread::Threads;
+    pub use std::time::Clock;
+}
+
+// The trials of the program over a runtime, one for each test. A method's proof knows the bounds of its runtime alone. Over
+// `HostRuntime` itself it would take four times as long.
+#[derive(Clone, Copy)]
+struct Trials<'a, R, W> {
+    rt: &'a R,
+    own: W,
+}
+
+impl<'a> Trials<'a, HostRuntime, HostRuntime> {
+    fn on(rt: &'a HostRuntime) -> Self {
+        Trials { rt, own: *rt }
+    }
+}
 
 const NO_LINES: &[u8] = b"";
 
@@ -219,24 +242,35 @@ impl Env for NotText {
     }
 }
 
+impl<
+    R: Threads + Wait + Clock + Files<File = File, Dir: Send> + Sync + AllocGlobal + Abort + Env,
+    W: Wait + Clock + PathHost + Copy + Send + 'static,
+> Trials<'_, R, W> {
+    fn a_word_that_is_not_utf8_is_refused(self) {
+        let (rt, own) = (self.rt, self.own);
+        let words = own_words(&(NotText, rt.alloc()));
+        let alloc = rt.alloc();
+        let (mut out, mut err) = (Vec::new(alloc), Vec::new(alloc));
+        let code = exit_code(
+            rt,
+            own,
+            alloc,
+            words,
+            NO_LINES,
+            &mut out,
+            unread_alarms(alloc),
+            &mut err,
+        );
+        holds(rt, code == ExitCode::from(2) && out.is_empty());
+        same(
+            rt,
+            text(&err),
+            "error: a word of the command line is not UTF-8\n",
+        );
+    }
+}
+
 #[test]
 fn a_word_that_is_not_utf8_is_refused(rt: HostRuntime) {
-    let words = own_words(&(NotText, rt.alloc()));
-    let alloc = rt.alloc();
-    let (mut out, mut err) = (Vec::new(alloc), Vec::new(alloc));
-    let code = exit_code(
-        &rt,
-        rt,
-        alloc,
-        words,
-        NO_LINES,
-        &mut out,
-        unread_alarms(alloc),
-        &mut err,
-    );
-    assert!(rt; code == ExitCode::from(2) && out.is_empty());
-    assert_eq!(rt;
-        text(&err),
-        "error: a word of the command line is not UTF-8\n"
-    );
+    Trials::on(&rt).a_word_that_is_not_utf8_is_refused()
 }

@@ -2,4 +2,6 @@
 #![tactic(auto)]
 
 #[cfg(test)]
+mod comparing;
+#[cfg(test)]
 mod jobs;

@@ -3,6 +3,7 @@ ghost use Rattle.std.specs.Prelude.{◌≡◌, ◌<◌, ◌≤◌};
 ghost use Rattle.station_desk.specs.History.{base_of};
 ghost use Rattle.station_desk.specs.Desk.{most_aircraft};
 
+use crate::comparing::holds;
 use station_desk::Places;
 use station_shared::LimitsMet;
 use std::alloc::Global;
@@ -48,7 +49,7 @@ pub fn limits_met(journal: bool, table: bool) -> LimitsMet {
 /// Pushes an item, for which there is memory.
 pub fn push<T: Drop>(rt: &impl Abort, items: &mut Vec<T>, item: T) {
     let pushed = items.push(item).is_ok();
-    assert!(rt; pushed);
+    holds(rt, pushed);
 }
 
 /// Waits until another thread sets the word, and says whether it did. It looks at most 10,000,000 times.

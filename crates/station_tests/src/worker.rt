@@ -6,6 +6,7 @@ mod long;
 mod refused;
 mod torn;
 
+use crate::comparing::{holds, same};
 use crate::fakes::{becomes_set, new_places, push};
 use station_desk::Places;
 use station_journal::Limits;
@@ -144,12 +145,12 @@ fn has_ended<S: Source, L: StationName>(rt: &impl Abort, worker: &Worker<8, S, L
         Some(Ok(counted)) => (counted, true),
         Some(Err(PumpFault::Read(counted))) => (counted, false),
         Some(Err(PumpFault::NoMemory(counted))) => {
-            assert_eq!(rt; (counted, worker.seat.accepted()), (REFUSED_LINE, 0));
+            same(rt, (counted, worker.seat.accepted()), (REFUSED_LINE, 0));
             return false;
         }
         _ => panic!(rt; "another answer"),
     };
-    assert_eq!(rt; (counted, worker.seat.accepted()), (ONE_LINE, 1));
+    same(rt, (counted, worker.seat.accepted()), (ONE_LINE, 1));
     has_ended
 }
 
@@ -174,7 +175,7 @@ fn close_all<const N: usize, L: StationName, R: Wait + Abort>(
     for count in closed.accepted.as_slice() {
         accepted = accepted.saturating_add(*count);
     }
-    assert_eq!(rt; (closed.journal.len(), accepted), (entries, entries));
+    same(rt, (closed.journal.len(), accepted), (entries, entries));
     entries
 }
 
@@ -239,9 +240,9 @@ fn is_meeting<L: StationName + Send + Sync, R: Threads + Wait + Abort + Sync>(
     run_both(rt, &station, workers.as_mut_slice());
     let have_ended = have_ended(rt, &mut seats, workers);
     push(rt, &mut seats, looking.expect(rt, "the seat that looks"));
-    assert_eq!(rt; seats.len(), 3);
+    same(rt, seats.len(), 3);
     let entries = close_all(rt, station, seats);
-    assert!(rt; entries == 2 || !have_ended);
+    holds(rt, entries == 2 || !have_ended);
     have_ended
 }
 
@@ -251,6 +252,6 @@ fn receivers_are_seen_while_both_still_read(rt: HostRuntime) {
     if !is_meeting::<Brand, _>(&rt, rt.alloc(), Blank::new(3), places) {
         let places = new_places(&rt, rt.alloc(), 3);
         let have_met = is_meeting::<Brand, _>(&rt, rt.alloc(), Blank::new(3), places);
-        assert!(rt; have_met);
+        holds(&rt, have_met);
     }
 }

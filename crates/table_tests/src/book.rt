@@ -6,6 +6,7 @@ mod repeats;
 
 use crate::calls::Call::{self, Hear, Tick};
 use crate::calls::{entry, frame, once};
+use crate::comparing::{holds, same};
 use crate::known::{ALL_CALL, IDENTIFICATION, SHORT_AIR};
 use station_book::Book;
 use station_journal::{Aircraft, Entry, Journal, Limits, PlacedRows, Refusal, Rows};
@@ -14,11 +15,11 @@ use std::process::Abort;
 use std::test::Fail;
 
 fn same_rows<const N: usize>(rt: &impl Abort, rows: &[Aircraft], book: &Book<N>) {
-    assert_eq!(rt; rows.len(), book.len());
+    same(rt, rows.len(), book.len());
     for (i, row) in rows.iter().enumerate() {
         if i < book.len() {
-            assert_eq!(rt; book.row(i), *row);
-            assert_eq!(rt; book.get(row.address), Some(*row));
+            same(rt, book.row(i), *row);
+            same(rt, book.get(row.address), Some(*row));
         }
     }
 }
@@ -26,7 +27,7 @@ fn same_rows<const N: usize>(rt: &impl Abort, rows: &[Aircraft], book: &Book<N>)
 // The book has the time of each row's position that a search of the journal finds.
 fn same_times<const N: usize>(rt: &impl Abort, journal: &Journal, book: &Book<N>) {
     for i in 0..book.len() {
-        assert_eq!(rt; book.placed(i), journal.placed(book.row(i).address));
+        same(rt, book.placed(i), journal.placed(book.row(i).address));
     }
 }
 
@@ -36,10 +37,10 @@ fn same_verdict<const N: usize>(
     entry: &Entry,
     answer: Result<(), Refusal>,
 ) {
-    assert_eq!(rt; book.verdict_of(&station_book::Call::of(entry)), answer);
+    same(rt, book.verdict_of(&station_book::Call::of(entry)), answer);
     match entry {
-        Entry::Tick { seat: _, at } => assert_eq!(rt; book.verdict_tick(*at), answer),
-        Entry::Heard { seat: _, frame } => assert_eq!(rt; book.verdict(frame), answer),
+        Entry::Tick { seat: _, at } => same(rt, book.verdict_tick(*at), answer),
+        Entry::Heard { seat: _, frame } => same(rt, book.verdict(frame), answer),
     }
 }
 
@@ -52,7 +53,7 @@ fn give<const N: usize>(
 ) -> Result<(), Refusal> {
     let answer = match once(journal, entry) {
         Ok(place) => {
-            assert_eq!(rt; place, book.entries());
+            same(rt, place, book.entries());
             Ok(())
         }
         Err(refusal) => Err(refusal),
@@ -61,7 +62,7 @@ fn give<const N: usize>(
     if answer.is_ok() {
         book.offer(entry);
     }
-    assert_eq!(rt; book.entries(), journal.len());
+    same(rt, book.entries(), journal.len());
     answer
 }
 
@@ -82,7 +83,7 @@ fn compare<const N: usize>(
         let rows = journal.all(alloc)?;
         same_rows(rt, rows.as_slice(), &book);
         same_times(rt, &journal, &book);
-        assert_eq!(rt; book.now(), journal.now());
+        same(rt, book.now(), journal.now());
     }
     Ok(book)
 }
@@ -96,8 +97,11 @@ fn an_aircraft_lives_for_sixty_seconds(rt: HostRuntime) -> Result<(), Fail> {
         &[Tick(1000), Hear(IDENTIFICATION), Tick(61_000)],
     )?;
     let row = book.get(0x4840D6).ok_or("no aircraft")?;
-    assert!(rt; row.callsign.ok_or("no callsign")?.bytes() == b"KLM1023".as_slice());
-    assert_eq!(rt; row.heard, 1000);
+    holds(
+        &rt,
+        row.callsign.ok_or("no callsign")?.bytes() == b"KLM1023".as_slice(),
+    );
+    same(&rt, row.heard, 1000);
     let over = [
         Tick(1000),
         Hear(IDENTIFICATION),
@@ -106,9 +110,13 @@ fn an_aircraft_lives_for_sixty_seconds(rt: HostRuntime) -> Result<(), Fail> {
         Tick(61_001),
     ];
     let book: Book<4> = compare(&rt, alloc, &over)?;
-    assert_eq!(rt; book.len(), 0);
-    assert_eq!(rt; book.now(), 61_001);
-    assert_eq!(rt; book.verdict_tick(61_001), Err(Refusal::NotLater(61_001)));
+    same(&rt, book.len(), 0);
+    same(&rt, book.now(), 61_001);
+    same(
+        &rt,
+        book.verdict_tick(61_001),
+        Err(Refusal::NotLater(61_001)),
+    );
     Ok(())
 }
 
@@ -125,9 +133,13 @@ fn the_last_tick_of_all(rt: HostRuntime) -> Result<(), Fail> {
             Tick(u64::MAX),
         ],
     )?;
-    assert_eq!(rt; book.entries(), 2);
-    assert_eq!(rt; book.verdict_tick(5), Err(Refusal::NotLater(u64::MAX)));
-    assert_eq!(rt; Book::<4>::new().verdict_tick(0), Err(Refusal::NotLater(0)));
+    same(&rt, book.entries(), 2);
+    same(&rt, book.verdict_tick(5), Err(Refusal::NotLater(u64::MAX)));
+    same(
+        &rt,
+        Book::<4>::new().verdict_tick(0),
+        Err(Refusal::NotLater(0)),
+    );
     Ok(())
 }
 
@@ -136,11 +148,12 @@ fn a_full_book_frees_a_place_at_a_tick(rt: HostRuntime) -> Result<(), Fail> {
     let alloc = rt.alloc();
     let calls = [Hear(IDENTIFICATION), Hear(ALL_CALL), Hear(IDENTIFICATION)];
     let book: Book<1> = compare(&rt, alloc, &calls)?;
-    assert_eq!(rt; book.entries(), 1);
-    assert_eq!(rt; book.verdict(&frame(ALL_CALL)?), Err(Refusal::BookFull));
-    assert_eq!(rt;
+    same(&rt, book.entries(), 1);
+    same(&rt, book.verdict(&frame(ALL_CALL)?), Err(Refusal::BookFull));
+    same(
+        &rt,
         book.verdict(&frame(IDENTIFICATION)?),
-        Err(Refusal::Repeated)
+        Err(Refusal::Repeated),
     );
     let calls = [
         Hear(IDENTIFICATION),
@@ -151,9 +164,9 @@ fn a_full_book_frees_a_place_at_a_tick(rt: HostRuntime) -> Result<(), Fail> {
         Hear(ALL_CALL),
     ];
     let book: Book<1> = compare(&rt, alloc, &calls)?;
-    assert_eq!(rt; book.entries(), 4);
-    assert!(rt; book.get(0x4840D6).is_none());
-    assert!(rt; book.get(0x510AF9).is_some());
+    same(&rt, book.entries(), 4);
+    holds(&rt, book.get(0x4840D6).is_none());
+    holds(&rt, book.get(0x510AF9).is_some());
     Ok(())
 }
 
@@ -190,15 +203,16 @@ fn overlaid_replies_speak_for_live_aircraft(rt: HostRuntime) -> Result<(), Fail>
     let alloc = rt.alloc();
     for (reply, altitude, squawk) in OVERLAID {
         let book: Book<4> = compare(&rt, alloc, &[Hear(reply)])?;
-        assert_eq!(rt; book.entries(), 0);
-        assert_eq!(rt;
+        same(&rt, book.entries(), 0);
+        same(
+            &rt,
             book.verdict_of(&station_book::Call::of(&entry(Hear(reply))?)),
-            Err(Refusal::Unknown(0x4840D6))
+            Err(Refusal::Unknown(0x4840D6)),
         );
         let book: Book<4> = compare(&rt, alloc, &[Hear(IDENTIFICATION), Hear(reply)])?;
         let row = book.get(0x4840D6).ok_or("no aircraft")?;
-        assert_eq!(rt; row.altitude, altitude);
-        assert_eq!(rt; squawk_of(&row), squawk);
+        same(&rt, row.altitude, altitude);
+        same(&rt, squawk_of(&row), squawk);
     }
     Ok(())
 }
@@ -208,8 +222,8 @@ fn a_book_of_512_aircraft_is_made(rt: HostRuntime) -> Result<(), Fail> {
     let mut book = Book::<512>::new();
     book.offer(&entry(Tick(5))?);
     book.offer(&entry(Hear(IDENTIFICATION))?);
-    assert_eq!(rt; book.len(), 1);
-    assert_eq!(rt; book.now(), 5);
+    same(&rt, book.len(), 1);
+    same(&rt, book.now(), 5);
     Ok(())
 }
 
@@ -233,8 +247,8 @@ fn hints_that_are_out_of_date(rt: HostRuntime) -> Result<(), Fail> {
     ];
     let book: Book<4> = compare(&rt, rt.alloc(), &calls)?;
     let row = book.get(0x4840D6).ok_or("no aircraft")?;
-    assert_eq!(rt; row.address, 0x4840D6);
-    assert!(rt; row.callsign.is_some());
-    assert_eq!(rt; book.len(), 3);
+    same(&rt, row.address, 0x4840D6);
+    holds(&rt, row.callsign.is_some());
+    same(&rt, book.len(), 3);
     Ok(())
 }

@@ -8,6 +8,7 @@ mod stories;
 
 use crate::calls::Call::{self, Hear, HearToo, Tick};
 use crate::calls::{entry, once};
+use crate::comparing::{holds, same};
 use crate::known::{
     ALL_CALL, FORMAT_1, IDENTIFICATION, IDENTITY, NOBODY, ONES, SHORT_AIR, SPEED, SPOILED,
     SPOILED_REPLY, ZEROS,
@@ -48,9 +49,9 @@ fn played(rt: &impl Abort, alloc: Global, limits: Limits, script: Script) -> Res
     let mut journal = Journal::new(alloc, limits);
     for (call, answer) in script {
         let entry = entry(*call)?;
-        assert_eq!(rt; once(&mut journal, &entry), *answer);
+        same(rt, once(&mut journal, &entry), *answer);
         if let Ok(place) = answer {
-            assert!(rt; is_at(&journal, *place, &entry));
+            holds(rt, is_at(&journal, *place, &entry));
         }
     }
     Ok(journal)
@@ -77,7 +78,7 @@ fn retried(rt: &impl Abort, journal: &mut Journal, entry: &Entry) -> Result<u64,
     let before = shown(journal);
     match once(journal, entry) {
         Err(Refusal::NoMemory) => {
-            assert_eq!(rt; shown(journal), before);
+            same(rt, shown(journal), before);
             once(journal, entry)
         }
         answer => answer,
@@ -91,7 +92,7 @@ fn go_on(
     script: &[(Call, Result<u64, Refusal>)],
 ) -> Result<(), Fail> {
     for (call, answer) in script {
-        assert_eq!(rt; retried(rt, journal, &entry(*call)?), *answer);
+        same(rt, retried(rt, journal, &entry(*call)?), *answer);
     }
     Ok(())
 }
@@ -144,10 +145,10 @@ const IN_ORDER: Script = &[
 #[test]
 fn refusals_in_their_order(rt: HostRuntime) -> Result<(), Fail> {
     let journal = replayed(&rt, rt.alloc(), ONE_ENTRY, IN_ORDER)?;
-    assert_eq!(rt; journal.len(), 1);
-    assert_eq!(rt; journal.get(0), Some(entry(Hear(IDENTIFICATION))?));
-    assert_eq!(rt; journal.get(1), None);
-    assert_eq!(rt; journal.limits(), ONE_ENTRY);
+    same(&rt, journal.len(), 1);
+    same(&rt, journal.get(0), Some(entry(Hear(IDENTIFICATION))?));
+    same(&rt, journal.get(1), None);
+    same(&rt, journal.limits(), ONE_ENTRY);
     Ok(())
 }
 
@@ -202,7 +203,7 @@ fn an_entry_goes_into_the_room_reserved(rt: HostRuntime) -> Result<(), Fail> {
     let mut journal = Journal::new(rt.alloc(), MANY);
     journal.room()?;
     journal.push_reserved(Entry::Tick { seat: 3, at: 5 });
-    assert_eq!(rt; journal.get(0), Some(Entry::Tick { seat: 3, at: 5 }));
-    assert_eq!(rt; journal.now(), 5);
+    same(&rt, journal.get(0), Some(Entry::Tick { seat: 3, at: 5 }));
+    same(&rt, journal.now(), 5);
     Ok(())
 }

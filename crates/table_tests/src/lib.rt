@@ -6,6 +6,8 @@ mod book;
 #[cfg(test)]
 mod calls;
 #[cfg(test)]
+mod comparing;
+#[cfg(test)]
 mod journal;
 #[cfg(test)]
 mod known;

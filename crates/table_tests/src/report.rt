@@ -6,6 +6,7 @@ ghost use Rattle.station_report.specs.Text.{IsPrintableRow};
 mod json;
 mod sinks;
 
+use crate::comparing::{holds_at, same, same_at};
 use modes_cpr::{Degrees, Position};
 use modes_fields::Velocity;
 use modes_fields::readers::{callsign, squawk};
@@ -126,15 +127,16 @@ type Row<'a> = (Aircraft, u64, &'a str);
 
 fn have_their_lines(rt: &impl Abort, alloc: Global, rows: &[Row<'_>]) -> Result<(), Fail> {
     for (aircraft, now, line) in rows {
-        assert!(rt; is_printable(*now, *aircraft), "{line}");
+        holds_at(rt, is_printable(*now, *aircraft), line);
         let mut sink = ToWrite::new(Vec::new(alloc));
-        assert_eq!(rt;
+        same_at(
+            rt,
             table(&One(*aircraft, None), *now, &mut sink),
             Ok(()),
-            "{line}"
+            line,
         );
         let text = format!(in alloc; "now {now} aircraft 1\n{HEADER}{line}\n")?;
-        assert_eq!(rt; sink.into_inner().as_slice(), text.as_bytes(), "{line}");
+        same_at(rt, sink.into_inner().as_slice(), text.as_bytes(), line);
     }
     Ok(())
 }
@@ -227,9 +229,9 @@ fn altitudes_and_positions_have_their_columns(rt: HostRuntime) -> Result<(), Fai
 fn a_table_without_rows_is_two_lines(rt: HostRuntime) -> Result<(), Fail> {
     let mut sink = ToWrite::new(Vec::new(rt.alloc()));
     let rows = Vec::<Aircraft>::new(rt.alloc());
-    assert_eq!(rt; table(&rows, 0, &mut sink), Ok(()));
+    same(&rt, table(&rows, 0, &mut sink), Ok(()));
     let text = format!(in rt.alloc(); "now 0 aircraft 0\n{HEADER}")?;
-    assert_eq!(rt; sink.into_inner().as_slice(), text.as_bytes());
+    same(&rt, sink.into_inner().as_slice(), text.as_bytes());
     Ok(())
 }
 
@@ -241,13 +243,13 @@ fn rows_are_in_the_order_given(rt: HostRuntime) -> Result<(), Fail> {
     };
     let mut sink = ToWrite::new(Vec::new(rt.alloc()));
     let rows = Vec::from_array(rt.alloc(), [BARE, other])?;
-    assert_eq!(rt; table(&rows, 0, &mut sink), Ok(()));
+    same(&rt, table(&rows, 0, &mut sink), Ok(()));
     let text = concat!(
         "now 0 aircraft 2\n",
         "  ADDR CALLSIGN    ALT SQWK     VELOCITY   VERT        LAT        LON AGE\n",
         "4840D6 -             -    -            -      -          -          -   0\n",
         "485020 -             -    -            -      -          -          -   0\n",
     );
-    assert_eq!(rt; sink.into_inner().as_slice(), text.as_bytes());
+    same(&rt, sink.into_inner().as_slice(), text.as_bytes());
     Ok(())
 }

@@ -4,6 +4,7 @@ use super::{
     ALL_CALL, EVEN_PLACE, IDENTIFICATION, ODD_PLACE, OVERLAID_AFTER_A_LIFE,
     OVERLAID_AT_THE_END_OF_A_LIFE, PLACES, REFUSED, TICKS, VELOCITY, call, shows_its_journal,
 };
+use crate::comparing::{holds_at, same, same_at};
 use crate::fakes::new_desk;
 use station_desk::Desk;
 use station_journal::Rows;
@@ -11,11 +12,11 @@ use std::process::Abort;
 
 // Both desks show the same time and rows.
 fn show_the_same<const N: usize>(rt: &impl Abort, one: &Desk<N>, other: &Desk<N>, line: &str) {
-    assert_eq!(rt; one.now(), other.now(), "{line}");
-    assert_eq!(rt; Rows::len(one), Rows::len(other), "{line}");
+    same_at(rt, one.now(), other.now(), line);
+    same_at(rt, Rows::len(one), Rows::len(other), line);
     for i in 0..Rows::len(one) {
         if i < Rows::len(other) {
-            assert_eq!(rt; Rows::row(one, i), Rows::row(other, i), "{line}");
+            same_at(rt, Rows::row(one, i), Rows::row(other, i), line);
         }
     }
 }
@@ -35,7 +36,7 @@ fn desk_that_forgets_answers_as_one_that_does_not(rt: HostRuntime) {
         for (line, _) in calls {
             let want = call(&rt, &mut whole, 0, line);
             let answer = call(&rt, &mut short, 0, line);
-            assert_eq!(rt; answer.err(), want.err(), "{line}");
+            same_at(&rt, answer.err(), want.err(), line);
             short.forget_old();
             show_the_same(&rt, &short, &whole, line);
             shows_its_journal(&rt, &short, line);
@@ -52,13 +53,14 @@ fn entries_of_70_seconds_are_kept(rt: HostRuntime) {
     for (last, now, count, base) in [("+75000", 75_000, 3, 1), ("+75001", 75_001, 1, 5_000)] {
         let mut desk: Desk<512> = new_desk(&rt, rt.alloc(), 16_777_216);
         for line in ["+1", EVEN_PLACE, "+5000", ODD_PLACE, last] {
-            assert!(rt; call(&rt, &mut desk, 0, line).is_ok(), "{line}");
+            holds_at(&rt, call(&rt, &mut desk, 0, line).is_ok(), line);
         }
         desk.forget_old();
         let journal = desk.journal();
-        assert_eq!(rt;
+        same(
+            &rt,
             (journal.len(), journal.base(), journal.now()),
-            (count, base, now)
+            (count, base, now),
         );
         let _journal = desk.end(&rt);
     }
@@ -78,7 +80,7 @@ fn desk_that_forgets_never_fills_up(rt: HostRuntime) {
         ("+320000", 2),
         (IDENTIFICATION, 1),
     ] {
-        assert_eq!(rt; call(&rt, &mut desk, 0, line), Ok(want), "{line}");
+        same_at(&rt, call(&rt, &mut desk, 0, line), Ok(want), line);
         desk.forget_old();
         shows_its_journal(&rt, &desk, line);
     }

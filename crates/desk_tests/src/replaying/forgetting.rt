@@ -2,6 +2,7 @@
 
 use super::aged::{MOMENTS, REPLAYS_WITH_TICKS};
 use super::known::REPLAYS;
+use crate::comparing::{holds_at, same, same_at};
 use crate::fakes::{Pieces, Taker, counted, new_desk};
 use station_desk::{Desk, Format, Unobserved, replay, replay_forgetting};
 
@@ -24,8 +25,8 @@ fn desk_that_forgets_gives_known_tables(rt: HostRuntime) {
                     999,
                     &mut Unobserved,
                 );
-                assert!(rt; answer.is_ok(), "{name}");
-                assert_eq!(rt; sink.bytes.as_slice(), text.as_bytes(), "{name}");
+                holds_at(&rt, answer.is_ok(), name);
+                same_at(&rt, sink.bytes.as_slice(), text.as_bytes(), name);
                 let _journal = desk.end(&rt);
             }
         }
@@ -61,13 +62,17 @@ fn desk_that_forgets_takes_any_number_of_entries(rt: HostRuntime) {
         999,
         &mut Unobserved,
     );
-    assert_eq!(rt; answer, Ok(counted([4, 0], [4, 0], [1, 0, 0, 0])));
-    assert_eq!(rt; sink.bytes.as_slice(), AT_THE_END.as_bytes());
-    assert_eq!(rt; (desk.journal().len(), desk.journal().base()), (2, 240_000));
+    same(&rt, answer, Ok(counted([4, 0], [4, 0], [1, 0, 0, 0])));
+    same(&rt, sink.bytes.as_slice(), AT_THE_END.as_bytes());
+    same(
+        &rt,
+        (desk.journal().len(), desk.journal().base()),
+        (2, 240_000),
+    );
     let _journal = desk.end(&rt);
     let mut full: Desk<512> = new_desk(&rt, rt.alloc(), 3);
     let mut from = Pieces::new(STREAM.as_bytes());
     let answer = replay(&rt, &mut full, &mut from, &mut sink, 999);
-    assert_eq!(rt; answer, Ok(counted([1, 3], [2, 2], [1, 0, 0, 0])));
+    same(&rt, answer, Ok(counted([1, 3], [2, 2], [1, 0, 0, 0])));
     let _journal = full.end(&rt);
 }

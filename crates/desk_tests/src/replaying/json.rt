@@ -1,5 +1,6 @@
 //! Replays whose tables are lines of JSON.
 
+use crate::comparing::{holds_at, same, same_at};
 use crate::fakes::{Pieces, Taker, counted, new_desk};
 use station_desk::{Desk, ReplayFault, replay_as};
 use station_lines::Tally;
@@ -114,9 +115,9 @@ fn known_lines_give_known_json(rt: HostRuntime) {
             let mut sink = Taker::new();
             let format = Format::Json { origin: *origin };
             let answer = replayed_as(&rt, rt.alloc(), source, &mut sink, format);
-            assert!(rt; answer.is_ok(), "{name}");
-            assert_eq!(rt; sink.bytes.as_slice(), tables.as_bytes(), "{name}");
-            assert_eq!(rt; sink.failures, 0, "{name}");
+            holds_at(&rt, answer.is_ok(), name);
+            same_at(&rt, sink.bytes.as_slice(), tables.as_bytes(), name);
+            same_at(&rt, sink.failures, 0, name);
         }
     }
 }
@@ -126,10 +127,10 @@ fn text_is_a_format_too(rt: HostRuntime) {
     let mut sink = Taker::new();
     let source = Pieces::new(b"?");
     let answer = replayed_as(&rt, rt.alloc(), source, &mut sink, Format::Text);
-    assert_eq!(rt; answer, Ok(counted([0, 0], [0, 0], [1, 0, 0, 0])));
+    same(&rt, answer, Ok(counted([0, 0], [0, 0], [1, 0, 0, 0])));
     let text =
         "now 0 aircraft 0\n  ADDR CALLSIGN    ALT SQWK     VELOCITY   VERT        LAT        LON AGE\n";
-    assert_eq!(rt; sink.bytes.as_slice(), text.as_bytes());
+    same(&rt, sink.bytes.as_slice(), text.as_bytes());
 }
 
 // A sink fails after each number of bytes: at a write, or at the flush after all of them.
@@ -143,9 +144,9 @@ fn sink_that_fails_keeps_the_front_of_the_json(rt: HostRuntime) {
             let source = Pieces::new(OVER_GROUND.as_bytes());
             let mut sink = Taker::failing(room, most, false);
             let answer = replayed_as(&rt, rt.alloc(), source, &mut sink, format);
-            assert_eq!(rt; answer, fault, "{room}");
-            assert_eq!(rt; sink.bytes.as_slice(), &table[..room], "{room}");
-            assert_eq!(rt; sink.failures, 1, "{room}");
+            same_at(&rt, answer, fault, room);
+            same_at(&rt, sink.bytes.as_slice(), &table[..room], room);
+            same_at(&rt, sink.failures, 1, room);
         }
     }
 }

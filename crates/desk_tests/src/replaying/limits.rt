@@ -3,6 +3,7 @@ ghost use Rattle.std.specs.Prelude.{◌≤◌, None};
 ghost use Rattle.station_desk.specs.Desk.{most_aircraft};
 
 use super::forgetting::STREAM;
+use crate::comparing::{same, same_at};
 use crate::fakes::{Pieces, Taker, counted, new_desk};
 use arrayvec::ArrayVec;
 use station_desk::{Desk, Format, FullLimit, LimitObserver, ReplayFault, replay_forgetting};
@@ -97,8 +98,8 @@ fn full_journal_is_observed_at_each_line_that_meets_it(rt: HostRuntime) {
             &mut sink,
             &mut observer,
         );
-        assert_eq!(rt; answer, Ok(want), "{most}");
-        assert_eq!(rt; (observer.journal, observer.table), (met, 0), "{most}");
+        same_at(&rt, answer, Ok(want), most);
+        same_at(&rt, (observer.journal, observer.table), (met, 0), most);
     }
 }
 
@@ -133,12 +134,13 @@ fn full_table_is_observed_and_no_other_refusal(rt: HostRuntime) {
             &mut sink,
             &mut observer,
         );
-        assert_eq!(rt;
+        same_at(
+            &rt,
             answer,
             Ok(counted([1, 6], [0, 1], [1, 1, 0, 1])),
-            "{entries}"
+            entries,
         );
-        assert_eq!(rt; (observer.journal, observer.table), met, "{entries}");
+        same_at(&rt, (observer.journal, observer.table), met, entries);
     }
 }
 
@@ -178,19 +180,24 @@ fn full_journal_is_observed_before_the_next_line(rt: HostRuntime) {
         "*8D485020994409940838175B284F;\n",
     );
     let answer = replayed::<512, _, _>(&rt, rt.alloc(), 1, 99, lines, &mut sink, &mut observer);
-    assert_eq!(rt; answer, Ok(counted([1, 2], [0, 1], [4, 0, 0, 0])));
-    assert_eq!(rt; sink.met.as_slice(), [0, 1, 2, 2].as_slice());
-    assert_eq!(rt; (observer.journal, observer.table), (3, 0));
+    same(&rt, answer, Ok(counted([1, 2], [0, 1], [4, 0, 0, 0])));
+    same(&rt, sink.met.as_slice(), [0, 1, 2, 2].as_slice());
+    same(&rt, (observer.journal, observer.table), (3, 0));
 }
 
 // A full journal and a full table are the only refusals that are limits.
 #[test]
 fn full_limits_are_two_refusals(rt: HostRuntime) {
-    assert_eq!(rt;
+    same(
+        &rt,
         FullLimit::of(Refusal::JournalFull),
-        Some(FullLimit::Journal)
+        Some(FullLimit::Journal),
     );
-    assert_eq!(rt; FullLimit::of(Refusal::BookFull), Some(FullLimit::Table));
+    same(
+        &rt,
+        FullLimit::of(Refusal::BookFull),
+        Some(FullLimit::Table),
+    );
     for refusal in [
         Refusal::Unsupported(16),
         Refusal::BadParity(1),
@@ -200,6 +207,6 @@ fn full_limits_are_two_refusals(rt: HostRuntime) {
         Refusal::NotLater(0),
         Refusal::Repeated,
     ] {
-        assert_eq!(rt; FullLimit::of(refusal), None);
+        same(&rt, FullLimit::of(refusal), None);
     }
 }

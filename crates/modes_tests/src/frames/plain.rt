@@ -1,4 +1,5 @@
 //! Plain lines, and what they are not.
+use crate::comparing::{same, same_at};
 use crate::known::{ALL_CALL, KLM1023, KLM1023_LINE};
 use modes_frame::{Cut, Cutter, Frame, PlainLine};
 use std::test::Fail;
@@ -34,7 +35,7 @@ fn plain_lines_are_of_17_or_31_bytes(rt: HostRuntime) -> Result<(), Fail> {
         ("*8D4840D6202CC3;\n", None),
         ("*5D484FDEA248E371C32CE0576098;\n", None),
     ] {
-        assert_eq!(rt; Cutter::new().plain_line(bytes.as_bytes()), want, "{bytes}");
+        same_at(&rt, Cutter::new().plain_line(bytes.as_bytes()), want, bytes);
     }
     Ok(())
 }
@@ -57,7 +58,7 @@ fn a_plain_line_behind_a_line_without_its_end_is_not_seen(rt: HostRuntime) {
         (&[b' '; 64], None, false),
         (b"\n", Some(Cut::TooLong), true),
     ] {
-        assert_eq!(rt; cutter.push_line(bytes), (bytes.len(), cut));
-        assert_eq!(rt; cutter.plain_line(&KLM1023_LINE).is_some(), is_seen);
+        same(&rt, cutter.push_line(bytes), (bytes.len(), cut));
+        same(&rt, cutter.plain_line(&KLM1023_LINE).is_some(), is_seen);
     }
 }

@@ -1,9 +1,11 @@
 //! The job `run` over stations that hand over.
+use super::bounds::*;
 use super::records::shown_again;
 use super::replies::all_call_replies;
 use super::run::{IDENTIFICATION, new_folder, path_text};
 use super::staged::{Staged, lasting_path};
-use super::text;
+use super::{Trials, text};
+use crate::comparing::{holds, same};
 use station_journal::{Entry, Recent};
 use station_main::{
     Alarms, Asked, Due, Duties, Kept, Pace, StandardError, Tables, run_for_displays,
@@ -11,11 +13,10 @@ use station_main::{
 use station_report::Format;
 use std::fs;
 use std::io::{self, ErrorKind, PipeWriter, Write};
-use std::rt::Files;
 use std::sync::atomic::AtomicBool;
 use std::test::*;
 use std::thread::{self, join};
-use std::time::{Clock, Duration};
+use std::time::Duration;
 
 // How many entries make a station hand over.
 const LIMIT: u64 = 20;
@@ -96,6 +97,105 @@ fn moments<R: AllocGlobal>(rt: &R) -> Result<Vec<u64>, std::alloc::AllocError> {
     Ok(moments)
 }
 
+// A reporter with a table each `every` milliseconds.
+fn duties(every: u32) -> Duties {
+    let tables = Tables {
+        pace: Pace { every, tick: None },
+        format: Format::Text,
+    };
+    Duties::first(tables, 0, LIMIT, false)
+}
+
+// What a hand-over leaves: this number of entries, and the time of the last tick.
+fn kept<R: AllocGlobal>(rt: &R, count: u8, last_tick: u64) -> Result<Kept, std::alloc::AllocError> {
+    let mut entries = Vec::new(rt.alloc());
+    for i in 0..count {
+        entries.push(Entry::Tick {
+            seat: 0,
+            at: 1 + u64::from(i),
+        })?;
+    }
+    Ok(Kept {
+        recent: Recent { base: 0, entries },
+        last_tick,
+    })
+}
+
+impl<
+    R: Threads + Wait + Clock + Files<File = File, Dir: Send> + Sync + AllocGlobal + Abort + Env,
+    W: Wait + Clock + PathHost + Copy + Send + 'static,
+> Trials<'_, R, W> {
+    fn a_hand_over_is_asked_for_right_after_a_table(self) {
+        let rt = self.rt;
+        // The interval between tables, the number of entries, the time now, when a table is due, and whether it is asked for.
+        let rows = [
+            (200, 20, 1_000, 1_200, true),
+            (200, 21, 1_000, 1_200, true),
+            (200, 19, 1_000, 1_200, false),
+            (200, 20, 1_001, 1_200, false),
+            (200, 20, 1_300, 1_200, false),
+            (1, 20, 1_000, 1_001, true),
+            (1_000, 20, 1_000, 2_000, true),
+            (1_000, 20, 1_001, 2_000, false),
+            (5_000, 20, 1_000, 2_000, true),
+            (5_000, 20, 1_001, 2_000, false),
+            (3_600_000, 20, 0, 3_600_000, true),
+            (3_600_000, 20, u64::MAX, u64::MAX, false),
+        ];
+        for (every, entries, now, table, is_asked) in rows {
+            let due = Due { table, tick: None };
+            same(rt, duties(every).asks(entries, now, due), is_asked);
+        }
+    }
+
+    fn a_hand_over_that_freed_little_is_followed_by_a_pause(self) -> Result<(), Fail> {
+        let rt = self.rt;
+        // How many entries were left, the time of the last tick, and when the next hand-over may be asked for.
+        let rows = [
+            (0, 5_000, 0),
+            (10, 5_000, 0),
+            (11, 5_000, 15_000),
+            (20, 0, 10_000),
+            (20, u64::MAX - 9_999, u64::MAX),
+        ];
+        let due = Due {
+            table: 20_000,
+            tick: None,
+        };
+        for (count, last_tick, not_before) in rows {
+            let next = duties(200).after_hand_over(&kept(rt, count, last_tick)?, due);
+            same(rt, next.not_before, not_before);
+            same(rt, next.due, due);
+            if let Some(early) = not_before.checked_sub(1) {
+                holds(
+                    rt,
+                    !next.asks(
+                        LIMIT,
+                        early,
+                        Due {
+                            table: u64::MAX,
+                            tick: None,
+                        },
+                    ),
+                );
+            }
+            holds(
+                rt,
+                not_before == u64::MAX
+                    || next.asks(
+                        LIMIT,
+                        not_before,
+                        Due {
+                            table: u64::MAX,
+                            tick: None,
+                        },
+                    ),
+            );
+        }
+        Ok(())
+    }
+}
+
 // The second path is silent after its first line.
 #[test]
 fn hand_overs_lose_no_line_and_print_no_table(rt: HostRuntime) -> Result<(), Fail> {
@@ -149,110 +249,32 @@ fn hand_overs_lose_no_line_and_print_no_table(rt: HostRuntime) -> Result<(), Fai
         },
         || { run_for_displays(&staged, rt, alloc, asked, &mut out, alarms, &mut err).status },
     );
-    assert!(rt; were_fed?);
-    assert!(rt; status == 0 && alarm.is_empty() && limit_alarm.is_empty());
-    assert_eq!(rt;
+    holds(&rt, were_fed?);
+    holds(
+        &rt,
+        status == 0 && alarm.is_empty() && limit_alarm.is_empty(),
+    );
+    same(
+        &rt,
         text(&told),
         concat!(
             "lines 120 frames 120 ticks 0 shows 0 blank 0 modeac 0 faults 0 accepted 120 refused 0\n",
             "lines 1 frames 1 ticks 0 shows 0 blank 0 modeac 0 faults 0 accepted 1 refused 0\n",
-        )
+        ),
     );
     let (recorded, shown) = shown_again(&rt, rt, path.as_str())?;
-    assert_eq!(rt; text(&shown), text(&out));
-    assert_eq!(rt; text(&recorded).split('*').count(), 122);
+    same(&rt, text(&shown), text(&out));
+    same(&rt, text(&recorded).split('*').count(), 122);
     fs::remove_dir_all(&rt, &folder)?;
     Ok(())
 }
 
-// A reporter with a table each `every` milliseconds.
-fn duties(every: u32) -> Duties {
-    let tables = Tables {
-        pace: Pace { every, tick: None },
-        format: Format::Text,
-    };
-    Duties::first(tables, 0, LIMIT, false)
-}
-
 #[test]
 fn a_hand_over_is_asked_for_right_after_a_table(rt: HostRuntime) {
-    // The interval between tables, the number of entries, the time now, when a table is due, and whether it is asked for.
-    let rows = [
-        (200, 20, 1_000, 1_200, true),
-        (200, 21, 1_000, 1_200, true),
-        (200, 19, 1_000, 1_200, false),
-        (200, 20, 1_001, 1_200, false),
-        (200, 20, 1_300, 1_200, false),
-        (1, 20, 1_000, 1_001, true),
-        (1_000, 20, 1_000, 2_000, true),
-        (1_000, 20, 1_001, 2_000, false),
-        (5_000, 20, 1_000, 2_000, true),
-        (5_000, 20, 1_001, 2_000, false),
-        (3_600_000, 20, 0, 3_600_000, true),
-        (3_600_000, 20, u64::MAX, u64::MAX, false),
-    ];
-    for (every, entries, now, table, is_asked) in rows {
-        let due = Due { table, tick: None };
-        assert_eq!(rt; duties(every).asks(entries, now, due), is_asked);
-    }
-}
-
-// What a hand-over leaves: this number of entries, and the time of the last tick.
-fn kept<R: AllocGlobal>(rt: &R, count: u8, last_tick: u64) -> Result<Kept, std::alloc::AllocError> {
-    let mut entries = Vec::new(rt.alloc());
-    for i in 0..count {
-        entries.push(Entry::Tick {
-            seat: 0,
-            at: 1 + u64::from(i),
-        })?;
-    }
-    Ok(Kept {
-        recent: Recent { base: 0, entries },
-        last_tick,
-    })
+    Trials::on(&rt).a_hand_over_is_asked_for_right_after_a_table()
 }
 
 #[test]
 fn a_hand_over_that_freed_little_is_followed_by_a_pause(rt: HostRuntime) -> Result<(), Fail> {
-    // How many entries were left, the time of the last tick, and when the next hand-over may be asked for.
-    let rows = [
-        (0, 5_000, 0),
-        (10, 5_000, 0),
-        (11, 5_000, 15_000),
-        (20, 0, 10_000),
-        (20, u64::MAX - 9_999, u64::MAX),
-    ];
-    let due = Due {
-        table: 20_000,
-        tick: None,
-    };
-    for (count, last_tick, not_before) in rows {
-        let next = duties(200).after_hand_over(&kept(&rt, count, last_tick)?, due);
-        assert_eq!(rt; next.not_before, not_before);
-        assert_eq!(rt; next.due, due);
-        if let Some(early) = not_before.checked_sub(1) {
-            assert!(rt;
-                !next.asks(
-                    LIMIT,
-                    early,
-                    Due {
-                        table: u64::MAX,
-                        tick: None
-                    }
-                )
-            );
-        }
-        assert!(rt;
-            not_before == u64::MAX
-                || next.asks(
-                    LIMIT,
-                    not_before,
-                    Due {
-                        table: u64::MAX,
-                        tick: None
-                    }
-                )
-        );
-    }
-    Ok(())
+    Trials::on(&rt).a_hand_over_that_freed_little_is_followed_by_a_pause()
 }

@@ -1,5 +1,6 @@
 //! Command lines that ask for help or the version.
 use super::{NO_LINES, run_words, text, words_of};
+use crate::comparing::{holds_at, same_at};
 use std::alloc::AllocError;
 
 // The lines for which help is asked fit a terminal of 80 columns.
@@ -72,16 +73,18 @@ fn help_is_written_to_standard_output(rt: HostRuntime) -> Result<(), AllocError>
     ] {
         let words = words_of(rt.alloc(), line, [].as_slice())?;
         let help = run_words(&rt, rt, words.as_slice(), NO_LINES);
-        assert!(rt;
+        holds_at(
+            &rt,
             help.status == 0 && help.err.is_empty() && is_narrow(text(&help.out)),
-            "{line}"
+            line,
         );
         let rest = text(&help.out)
             .strip_prefix(front)
             .unwrap_or("no such front");
-        assert!(rt;
+        holds_at(
+            &rt,
             rest.ends_with(end) && rest.is_empty() == end.is_empty(),
-            "{line}"
+            line,
         );
     }
     Ok(())
@@ -92,8 +95,8 @@ fn the_version_is_written_to_standard_output(rt: HostRuntime) -> Result<(), Allo
     for line in ["groundstation --version", "groundstation -V"] {
         let words = words_of(rt.alloc(), line, [].as_slice())?;
         let told = run_words(&rt, rt, words.as_slice(), NO_LINES);
-        assert_eq!(rt; text(&told.out), "groundstation 1.0.0\n", "{line}");
-        assert!(rt; told.err.is_empty() && told.status == 0, "{line}");
+        same_at(&rt, text(&told.out), "groundstation 1.0.0\n", line);
+        holds_at(&rt, told.err.is_empty() && told.status == 0, line);
     }
     Ok(())
 }

@@ -1,20 +1,17 @@
 //! The job `run` in more rounds than one.
+use super::bounds::*;
 use super::replies::all_call_replies;
 use super::run::{
     FAILED_READ_AND_FRAME, IDENTIFICATION, ONE_FRAME_EACH, TABLE_OF_BOTH, TABLE_OF_SECOND,
     VELOCITY, new_folder, path_text, remove, two_files,
 };
 use super::staged::{Staged, lasting_path};
-use super::{Closed, Told, run_line, text};
-use station_main::PathHost;
+use super::{Closed, Told, Trials, run_line, text};
+use crate::comparing::{holds, same};
 use std::alloc::{AllocError, Global};
-use std::fs::{self, File, OpenOptions};
+use std::fs::{self, OpenOptions};
 use std::io::{self, Write};
-use std::rt::Files;
-use std::sync::Wait;
 use std::sync::atomic::AtomicBool;
-use std::thread::Threads;
-use std::time::Clock;
 
 const ONE_FRAME_REFUSED_EACH: &str = concat!(
     "lines 1 frames 1 ticks 0 shows 0 blank 0 modeac 0 faults 0 accepted 0 refused 1\n",
@@ -30,47 +27,6 @@ fn run_rounds<
     let alloc = rt.alloc();
     let line = format!(in alloc; "groundstation run --every=3600000 --rounds={rounds}")?;
     run_line(rt, own, alloc, line.as_str(), paths, out)
-}
-
-// No tick comes between the rounds, so the frames of the second are those of the first once more.
-#[test]
-fn a_second_round_goes_on_from_the_first(rt: HostRuntime) -> io::Result<()> {
-    let files = two_files(&rt, IDENTIFICATION, VELOCITY)?;
-    let paths = [path_text(&files.first)?, path_text(&files.second)?];
-    let mut out = Vec::new(rt.alloc());
-    let told = run_rounds(&rt, rt, 2, paths.as_slice(), &mut out)?;
-    let second_table = text(&out).strip_prefix(TABLE_OF_BOTH);
-    assert_eq!(rt; second_table, Some(TABLE_OF_BOTH));
-    let second_tallies = text(&told.err).strip_prefix(ONE_FRAME_EACH);
-    assert_eq!(rt; second_tallies, Some(ONE_FRAME_REFUSED_EACH));
-    assert_eq!(rt; told.status, 0);
-    remove(&rt, &files)
-}
-
-// The first path is a folder, which can't be read.
-#[test]
-fn a_failed_read_ends_the_run_after_its_round(rt: HostRuntime) -> io::Result<()> {
-    let files = two_files(&rt, IDENTIFICATION, VELOCITY)?;
-    let paths = [path_text(&files.folder)?, path_text(&files.second)?];
-    let mut out = Vec::new(rt.alloc());
-    let told = run_rounds(&rt, rt, 2, paths.as_slice(), &mut out)?;
-    assert_eq!(rt; text(&out), TABLE_OF_SECOND);
-    assert_eq!(rt; text(&told.err), FAILED_READ_AND_FRAME);
-    assert_eq!(rt; told.status, 1);
-    remove(&rt, &files)
-}
-
-#[test]
-fn a_failed_write_ends_the_run_after_its_round(rt: HostRuntime) -> io::Result<()> {
-    let files = two_files(&rt, IDENTIFICATION, VELOCITY)?;
-    let paths = [path_text(&files.first)?, path_text(&files.second)?];
-    for rounds in [1, 2] {
-        let told = run_rounds(&rt, rt, rounds, paths.as_slice(), Closed)?;
-        let fault = text(&told.err).strip_prefix(ONE_FRAME_EACH);
-        assert_eq!(rt; fault, Some("groundstation: write failed\n"));
-        assert_eq!(rt; told.status, 1);
-    }
-    remove(&rt, &files)
 }
 
 // Takes tables, and removes a path at the first.
@@ -92,24 +48,6 @@ impl<'a, R: Files> Write for Removing<'a, R> {
     fn flush(&mut self) -> io::Result<()> {
         Ok(())
     }
-}
-
-#[test]
-fn a_path_that_is_gone_is_told_after_the_round_before(rt: HostRuntime) -> io::Result<()> {
-    let files = two_files(&rt, IDENTIFICATION, VELOCITY)?;
-    let (first, second) = (path_text(&files.first)?, path_text(&files.second)?);
-    let mut taken = Vec::new(rt.alloc());
-    let out = Removing {
-        rt: &rt,
-        path: second,
-        taken: &mut taken,
-    };
-    let told = run_rounds(&rt, rt, 2, [first, second].as_slice(), out)?;
-    let lines = format!(in rt.alloc(); "{ONE_FRAME_EACH}groundstation: cannot open {second}\n")?;
-    assert_eq!(rt; text(&taken), TABLE_OF_BOTH);
-    assert_eq!(rt; text(&told.err), lines.as_str());
-    assert_eq!(rt; told.status, 1);
-    remove(&rt, &files)
 }
 
 // How many frames each of eight paths has.
@@ -138,24 +76,6 @@ fn eight_tallies(alloc: Global) -> Result<(String, String), AllocError> {
         refused.push_str(format!(in alloc; "{read} accepted 0 refused {count}\n")?.as_str())?;
     }
     Ok((accepted, refused))
-}
-
-#[test]
-fn each_tally_of_eight_paths_is_its_own(rt: HostRuntime) -> io::Result<()> {
-    let folder = new_folder(&rt)?;
-    let owned = eight_paths(&rt, path_text(&folder)?)?;
-    let mut paths = Vec::new(rt.alloc());
-    for path in &owned {
-        paths.push(path.as_str())?;
-    }
-    let mut out = Vec::new(rt.alloc());
-    let told = run_rounds(&rt, rt, 2, paths.as_slice(), &mut out)?;
-    let (accepted, refused) = eight_tallies(rt.alloc())?;
-    assert!(rt; text(&out).starts_with("now 0 aircraft 36\n"));
-    let second_round = text(&told.err).strip_prefix(accepted.as_str());
-    assert_eq!(rt; second_round, Some(refused.as_str()));
-    assert_eq!(rt; told.status, 0);
-    fs::remove_dir_all(&rt, &folder)
 }
 
 // Takes tables. The last one of a round opens the path again for lines, and the next one ends it. Each lets the clock
@@ -211,6 +131,115 @@ const TALLIES_OF_THREE_ROUNDS: &str = concat!(
     "lines 0 frames 0 ticks 0 shows 0 blank 0 modeac 0 faults 0 accepted 0 refused 0\n",
 );
 
+impl<
+    R: Threads + Wait + Clock + Files<File = File, Dir: Send> + Sync + AllocGlobal + Abort + Env,
+    W: Wait + Clock + PathHost + Copy + Send + 'static,
+> Trials<'_, R, W> {
+    // No tick comes between the rounds, so the frames of the second are those of the first once more.
+    fn a_second_round_goes_on_from_the_first(self) -> io::Result<()> {
+        let (rt, own) = (self.rt, self.own);
+        let files = two_files(rt, IDENTIFICATION, VELOCITY)?;
+        let paths = [path_text(&files.first)?, path_text(&files.second)?];
+        let mut out = Vec::new(rt.alloc());
+        let told = run_rounds(rt, own, 2, paths.as_slice(), &mut out)?;
+        let second_table = text(&out).strip_prefix(TABLE_OF_BOTH);
+        same(rt, second_table, Some(TABLE_OF_BOTH));
+        let second_tallies = text(&told.err).strip_prefix(ONE_FRAME_EACH);
+        same(rt, second_tallies, Some(ONE_FRAME_REFUSED_EACH));
+        same(rt, told.status, 0);
+        remove(rt, &files)
+    }
+
+    // The first path is a folder, which can't be read.
+    fn a_failed_read_ends_the_run_after_its_round(self) -> io::Result<()> {
+        let (rt, own) = (self.rt, self.own);
+        let files = two_files(rt, IDENTIFICATION, VELOCITY)?;
+        let paths = [path_text(&files.folder)?, path_text(&files.second)?];
+        let mut out = Vec::new(rt.alloc());
+        let told = run_rounds(rt, own, 2, paths.as_slice(), &mut out)?;
+        same(rt, text(&out), TABLE_OF_SECOND);
+        same(rt, text(&told.err), FAILED_READ_AND_FRAME);
+        same(rt, told.status, 1);
+        remove(rt, &files)
+    }
+
+    fn a_failed_write_ends_the_run_after_its_round(self) -> io::Result<()> {
+        let (rt, own) = (self.rt, self.own);
+        let files = two_files(rt, IDENTIFICATION, VELOCITY)?;
+        let paths = [path_text(&files.first)?, path_text(&files.second)?];
+        for rounds in [1, 2] {
+            let told = run_rounds(rt, own, rounds, paths.as_slice(), Closed)?;
+            let fault = text(&told.err).strip_prefix(ONE_FRAME_EACH);
+            same(rt, fault, Some("groundstation: write failed\n"));
+            same(rt, told.status, 1);
+        }
+        remove(rt, &files)
+    }
+
+    fn a_path_that_is_gone_is_told_after_the_round_before(self) -> io::Result<()> {
+        let (rt, own) = (self.rt, self.own);
+        let files = two_files(rt, IDENTIFICATION, VELOCITY)?;
+        let (first, second) = (path_text(&files.first)?, path_text(&files.second)?);
+        let mut taken = Vec::new(rt.alloc());
+        let out = Removing {
+            rt,
+            path: second,
+            taken: &mut taken,
+        };
+        let told = run_rounds(rt, own, 2, [first, second].as_slice(), out)?;
+        let lines = format!(in rt.alloc();
+            "{ONE_FRAME_EACH}groundstation: cannot open {second}\n"
+        )?;
+        same(rt, text(&taken), TABLE_OF_BOTH);
+        same(rt, text(&told.err), lines.as_str());
+        same(rt, told.status, 1);
+        remove(rt, &files)
+    }
+
+    fn each_tally_of_eight_paths_is_its_own(self) -> io::Result<()> {
+        let (rt, own) = (self.rt, self.own);
+        let folder = new_folder(rt)?;
+        let owned = eight_paths(rt, path_text(&folder)?)?;
+        let mut paths = Vec::new(rt.alloc());
+        for path in &owned {
+            paths.push(path.as_str())?;
+        }
+        let mut out = Vec::new(rt.alloc());
+        let told = run_rounds(rt, own, 2, paths.as_slice(), &mut out)?;
+        let (accepted, refused) = eight_tallies(rt.alloc())?;
+        holds(rt, text(&out).starts_with("now 0 aircraft 36\n"));
+        let second_round = text(&told.err).strip_prefix(accepted.as_str());
+        same(rt, second_round, Some(refused.as_str()));
+        same(rt, told.status, 0);
+        fs::remove_dir_all(rt, &folder)
+    }
+}
+
+#[test]
+fn a_second_round_goes_on_from_the_first(rt: HostRuntime) -> io::Result<()> {
+    Trials::on(&rt).a_second_round_goes_on_from_the_first()
+}
+
+#[test]
+fn a_failed_read_ends_the_run_after_its_round(rt: HostRuntime) -> io::Result<()> {
+    Trials::on(&rt).a_failed_read_ends_the_run_after_its_round()
+}
+
+#[test]
+fn a_failed_write_ends_the_run_after_its_round(rt: HostRuntime) -> io::Result<()> {
+    Trials::on(&rt).a_failed_write_ends_the_run_after_its_round()
+}
+
+#[test]
+fn a_path_that_is_gone_is_told_after_the_round_before(rt: HostRuntime) -> io::Result<()> {
+    Trials::on(&rt).a_path_that_is_gone_is_told_after_the_round_before()
+}
+
+#[test]
+fn each_tally_of_eight_paths_is_its_own(rt: HostRuntime) -> io::Result<()> {
+    Trials::on(&rt).each_tally_of_eight_paths_is_its_own()
+}
+
 #[test]
 fn a_round_keeps_the_clock_and_the_ages(rt: HostRuntime) -> io::Result<()> {
     let has_ended = AtomicBool::new(false);
@@ -230,8 +259,8 @@ fn a_round_keeps_the_clock_and_the_ages(rt: HostRuntime) -> io::Result<()> {
     };
     let line = "groundstation run --every=5000 --rounds=3";
     let told = run_line(&staged, rt, rt.alloc(), line, [path].as_slice(), out)?;
-    assert_eq!(rt; text(&taken), TABLES_OF_THREE_ROUNDS);
-    assert_eq!(rt; text(&told.err), TALLIES_OF_THREE_ROUNDS);
-    assert_eq!(rt; told.status, 0);
+    same(&rt, text(&taken), TABLES_OF_THREE_ROUNDS);
+    same(&rt, text(&told.err), TALLIES_OF_THREE_ROUNDS);
+    same(&rt, told.status, 0);
     Ok(())
 }

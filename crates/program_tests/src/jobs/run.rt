@@ -1,15 +1,10 @@
 //! The job `run`, over files.
-use super::{NO_LINES, NO_MEMORY, Ran, run_line, run_words, text};
-use station_main::PathHost;
+use super::bounds::*;
+use super::{NO_LINES, NO_MEMORY, Ran, Trials, run_line, run_words, text};
+use crate::comparing::{holds, holds_at, same};
 use std::alloc::AllocError;
-use std::fs::File;
 use std::io::ErrorKind;
 use std::path::PathBuf;
-use std::process::Abort;
-use std::rt::Files;
-use std::sync::Wait;
-use std::thread::Threads;
-use std::time::Clock;
 use std::{env, fs, io};
 
 pub const IDENTIFICATION: &str = "*8D4840D6202CC371C32CE0576098;\n";
@@ -152,21 +147,6 @@ fn is_refusal(shown: &str, told: &str) -> bool {
     }
 }
 
-#[test]
-fn two_files_are_shown_in_one_table(rt: HostRuntime) -> io::Result<()> {
-    let files = two_files(&rt, IDENTIFICATION, VELOCITY)?;
-    let (first, second) = (path_text(&files.first)?, path_text(&files.second)?);
-    let mut ran = run_two(&rt, rt, first, second);
-    if is_refusal(text(&ran.out), text(&ran.err)) {
-        assert_eq!(rt; ran.status, 1);
-        ran = run_two(&rt, rt, first, second);
-    }
-    assert_eq!(rt; text(&ran.out), TABLE_OF_BOTH);
-    assert_eq!(rt; text(&ran.err), ONE_FRAME_EACH);
-    assert_eq!(rt; ran.status, 0);
-    remove(&rt, &files)
-}
-
 const FAULTS_AND_FRAME: &str = concat!(
     "lines 5 frames 0 ticks 0 shows 0 blank 1 modeac 1 faults 3 accepted 0 refused 0\n",
     "lines 1 frames 1 ticks 0 shows 0 blank 0 modeac 0 faults 0 accepted 1 refused 0\n",
@@ -183,47 +163,6 @@ fn first_path(files: &TwoFiles, is_file: bool) -> &PathBuf {
     if is_file { &files.first } else { &files.folder }
 }
 
-// A frame of both paths is accepted from either of them.
-#[test]
-fn tallies_stand_in_the_order_of_the_paths(rt: HostRuntime) -> io::Result<()> {
-    for (first, second, table, told, or_told, status) in [
-        (
-            Some(IDENTIFICATION),
-            IDENTIFICATION,
-            TABLE_OF_FIRST,
-            FIRST_ACCEPTED,
-            SECOND_ACCEPTED,
-            0,
-        ),
-        (
-            Some("\nx\n?\n*0000;\n+5"),
-            IDENTIFICATION,
-            TABLE_OF_FIRST,
-            FAULTS_AND_FRAME,
-            FAULTS_AND_FRAME,
-            0,
-        ),
-        (
-            None,
-            VELOCITY,
-            TABLE_OF_SECOND,
-            FAILED_READ_AND_FRAME,
-            FAILED_READ_AND_FRAME,
-            1,
-        ),
-    ] {
-        let files = two_files(&rt, first.unwrap_or(""), second)?;
-        let path = path_text(first_path(&files, first.is_some()))?;
-        let ran = run_two(&rt, rt, path, path_text(&files.second)?);
-        assert_eq!(rt; text(&ran.out), table);
-        let lines = text(&ran.err);
-        assert!(rt; lines == told || lines == or_told, "{lines}");
-        assert_eq!(rt; ran.status, status);
-        remove(&rt, &files)?;
-    }
-    Ok(())
-}
-
 // Whether a run over these paths ends with status 1 and says this alone.
 fn says_alone<
     R: Threads + Wait + Clock + Files<File = File, Dir: Send> + Sync + AllocGlobal,
@@ -235,15 +174,94 @@ fn says_alone<
     Ok(ran.status == 1 && out.is_empty() && text(&ran.err) == told)
 }
 
+impl<
+    R: Threads + Wait + Clock + Files<File = File, Dir: Send> + Sync + AllocGlobal + Abort + Env,
+    W: Wait + Clock + PathHost + Copy + Send + 'static,
+> Trials<'_, R, W> {
+    fn two_files_are_shown_in_one_table(self) -> io::Result<()> {
+        let (rt, own) = (self.rt, self.own);
+        let files = two_files(rt, IDENTIFICATION, VELOCITY)?;
+        let (first, second) = (path_text(&files.first)?, path_text(&files.second)?);
+        let mut ran = run_two(rt, own, first, second);
+        if is_refusal(text(&ran.out), text(&ran.err)) {
+            same(rt, ran.status, 1);
+            ran = run_two(rt, own, first, second);
+        }
+        same(rt, text(&ran.out), TABLE_OF_BOTH);
+        same(rt, text(&ran.err), ONE_FRAME_EACH);
+        same(rt, ran.status, 0);
+        remove(rt, &files)
+    }
+
+    // A frame of both paths is accepted from either of them.
+    fn tallies_stand_in_the_order_of_the_paths(self) -> io::Result<()> {
+        let (rt, own) = (self.rt, self.own);
+        for (first, second, table, told, or_told, status) in [
+            (
+                Some(IDENTIFICATION),
+                IDENTIFICATION,
+                TABLE_OF_FIRST,
+                FIRST_ACCEPTED,
+                SECOND_ACCEPTED,
+                0,
+            ),
+            (
+                Some("\nx\n?\n*0000;\n+5"),
+                IDENTIFICATION,
+                TABLE_OF_FIRST,
+                FAULTS_AND_FRAME,
+                FAULTS_AND_FRAME,
+                0,
+            ),
+            (
+                None,
+                VELOCITY,
+                TABLE_OF_SECOND,
+                FAILED_READ_AND_FRAME,
+                FAILED_READ_AND_FRAME,
+                1,
+            ),
+        ] {
+            let files = two_files(rt, first.unwrap_or(""), second)?;
+            let path = path_text(first_path(&files, first.is_some()))?;
+            let ran = run_two(rt, own, path, path_text(&files.second)?);
+            same(rt, text(&ran.out), table);
+            let lines = text(&ran.err);
+            holds_at(rt, lines == told || lines == or_told, lines);
+            same(rt, ran.status, status);
+            remove(rt, &files)?;
+        }
+        Ok(())
+    }
+
+    fn where_a_path_cannot_be_opened_nothing_is_read(self) -> io::Result<()> {
+        let (rt, own) = (self.rt, self.own);
+        let files = two_files(rt, IDENTIFICATION, VELOCITY)?;
+        let first = path_text(&files.first)?;
+        let no_file = "groundstation: cannot open nofile\n";
+        let no_first_file = "groundstation: cannot open no first file\n";
+        holds(rt, says_alone(rt, own, ["nofile"].as_slice(), no_file)?);
+        holds(
+            rt,
+            says_alone(rt, own, [first, "nofile"].as_slice(), no_file)?,
+        );
+        let both = ["no first file", "no second file"];
+        holds(rt, says_alone(rt, own, both.as_slice(), no_first_file)?);
+        remove(rt, &files)
+    }
+}
+
+#[test]
+fn two_files_are_shown_in_one_table(rt: HostRuntime) -> io::Result<()> {
+    Trials::on(&rt).two_files_are_shown_in_one_table()
+}
+
+#[test]
+fn tallies_stand_in_the_order_of_the_paths(rt: HostRuntime) -> io::Result<()> {
+    Trials::on(&rt).tallies_stand_in_the_order_of_the_paths()
+}
+
 #[test]
 fn where_a_path_cannot_be_opened_nothing_is_read(rt: HostRuntime) -> io::Result<()> {
-    let files = two_files(&rt, IDENTIFICATION, VELOCITY)?;
-    let first = path_text(&files.first)?;
-    let no_file = "groundstation: cannot open nofile\n";
-    let no_first_file = "groundstation: cannot open no first file\n";
-    assert!(rt; says_alone(&rt, rt, ["nofile"].as_slice(), no_file)?);
-    assert!(rt; says_alone(&rt, rt, [first, "nofile"].as_slice(), no_file)?);
-    let both = ["no first file", "no second file"];
-    assert!(rt; says_alone(&rt, rt, both.as_slice(), no_first_file)?);
-    remove(&rt, &files)
+    Trials::on(&rt).where_a_path_cannot_be_opened_nothing_is_read()
 }

@@ -1,5 +1,6 @@
 //! What tests of `run` share: a clock that shows a test's times, a path that lasts, a run over it, and a bounded wait.
 use super::{Told, run_line};
+use crate::comparing::holds_at;
 use station_main::PathHost;
 use std::alloc::{Allocator, Global};
 use std::fs::{File, Metadata, OpenOptions};
@@ -200,6 +201,6 @@ pub fn run_lasting<
         || (end_path(rt, lines, feed), Instant::now(rt)),
         || run_line(clock, own, rt.alloc(), line, [path].as_slice(), out),
     );
-    assert!(rt; is_fed, "the path got no text");
+    holds_at(rt, is_fed, "the path got no text");
     Ok(Lasted { told: told?, ended })
 }

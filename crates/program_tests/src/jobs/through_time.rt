@@ -1,6 +1,8 @@
 //! The job `run` while its paths last.
+use super::bounds::*;
 use super::staged::{Feed, Staged, becomes_set, lasting_path, run_lasting};
-use super::{NO_LINES, run_line, text};
+use super::{NO_LINES, Trials, run_line, text};
+use crate::comparing::{holds, same};
 use std::alloc::{AllocError, Global};
 use std::io::{self, Write};
 use std::sync::atomic::{AtomicBool, Ordering};
@@ -16,25 +18,6 @@ const TABLES_OF_NOBODY: &str = tables!(
     "now 60305 aircraft 0" => [],
     "now 60305 aircraft 0" => [],
 );
-
-// The clock starts at 1,000,000 ms. It shows the millisecond before each table is due and the one when it is, and skips
-// a minute at once. The last table comes at the end of the path.
-#[test]
-fn a_table_is_printed_when_it_is_due_and_at_the_end(rt: HostRuntime) -> Result<(), Fail> {
-    let moments = [
-        1_000_000, 1_000_050, 1_000_099, 1_000_100, 1_000_150, 1_000_199, 1_000_200, 1_060_205,
-        1_060_304, 1_060_305,
-    ];
-    let has_ended = AtomicBool::new(false);
-    let staged = Staged::new(&rt, moments.as_slice(), &has_ended);
-    let mut out = Vec::new(rt.alloc());
-    let feed = Feed::at(&has_ended, NO_LINES);
-    let line = "groundstation run --every 100";
-    let lasted = run_lasting(&rt, &staged, rt, line, &mut out, feed)?;
-    assert_eq!(rt; text(&out), TABLES_OF_NOBODY);
-    assert_eq!(rt; lasted.told.status, 0);
-    Ok(())
-}
 
 // Three hours and 2,100 ms of a clock that starts at 1,000,000 ms: the millisecond before each table is due, and then a
 // time 7 ms after it was due.
@@ -56,20 +39,6 @@ fn tables_of_three_hours(alloc: Global) -> Result<String, AllocError> {
         tables.push_str(format!(in alloc; "now {now} aircraft 0\n{HEADER}")?.as_str())?;
     }
     Ok(tables)
-}
-
-#[test]
-fn three_hundred_tables_are_printed_in_three_hours(rt: HostRuntime) -> Result<(), Fail> {
-    let moments = three_hours(rt.alloc())?;
-    let has_ended = AtomicBool::new(false);
-    let staged = Staged::new(&rt, moments.as_slice(), &has_ended);
-    let mut out = Vec::new(rt.alloc());
-    let feed = Feed::at(&has_ended, NO_LINES);
-    let line = "groundstation run --every 36000";
-    let lasted = run_lasting(&rt, &staged, rt, line, &mut out, feed)?;
-    assert_eq!(rt; text(&out), tables_of_three_hours(rt.alloc())?.as_str());
-    assert_eq!(rt; lasted.told.status, 0);
-    Ok(())
 }
 
 // Sets the flag at a table of both aircraft.
@@ -94,30 +63,83 @@ impl<'a> Write for Seen<'a> {
     }
 }
 
+impl<
+    R: Threads + Wait + Clock + Files<File = File, Dir: Send> + Sync + AllocGlobal + Abort + Env,
+    W: Wait + Clock + PathHost + Copy + Send + 'static,
+> Trials<'_, R, W> {
+    // The clock starts at 1,000,000 ms. It shows the millisecond before each table is due and the one when it is, and skips
+    // a minute at once. The last table comes at the end of the path.
+    fn a_table_is_printed_when_it_is_due_and_at_the_end(self) -> Result<(), Fail> {
+        let (rt, own) = (self.rt, self.own);
+        let moments = [
+            1_000_000, 1_000_050, 1_000_099, 1_000_100, 1_000_150, 1_000_199, 1_000_200, 1_060_205,
+            1_060_304, 1_060_305,
+        ];
+        let has_ended = AtomicBool::new(false);
+        let staged = Staged::new(rt, moments.as_slice(), &has_ended);
+        let mut out = Vec::new(rt.alloc());
+        let feed = Feed::at(&has_ended, NO_LINES);
+        let line = "groundstation run --every 100";
+        let lasted = run_lasting(rt, &staged, own, line, &mut out, feed)?;
+        same(rt, text(&out), TABLES_OF_NOBODY);
+        same(rt, lasted.told.status, 0);
+        Ok(())
+    }
+
+    fn three_hundred_tables_are_printed_in_three_hours(self) -> Result<(), Fail> {
+        let (rt, own) = (self.rt, self.own);
+        let moments = three_hours(rt.alloc())?;
+        let has_ended = AtomicBool::new(false);
+        let staged = Staged::new(rt, moments.as_slice(), &has_ended);
+        let mut out = Vec::new(rt.alloc());
+        let feed = Feed::at(&has_ended, NO_LINES);
+        let line = "groundstation run --every 36000";
+        let lasted = run_lasting(rt, &staged, own, line, &mut out, feed)?;
+        same(rt, text(&out), tables_of_three_hours(rt.alloc())?.as_str());
+        same(rt, lasted.told.status, 0);
+        Ok(())
+    }
+
+    fn paths_are_read_and_shown_side_by_side(self) -> Result<(), Fail> {
+        let (rt, own) = (self.rt, self.own);
+        let are_shown = AtomicBool::new(false);
+        let mut first = lasting_path(rt, rt.alloc())?;
+        let mut second = lasting_path(rt, rt.alloc())?;
+        first.lines.write_all(b"*8D4840D6202CC371C32CE0576098;\n")?;
+        second.lines.write_all(b"*8D485020994409940838175B284F;\n")?;
+        let paths = [first.path.as_str(), second.path.as_str()];
+        let out = Seen {
+            are_shown: &are_shown,
+        };
+        let line = "groundstation run --every 10";
+        let (first_lines, second_lines) = (first.lines, second.lines);
+        let (were_shown, told) = join(
+            rt,
+            || {
+                let were_shown = becomes_set(rt, &are_shown);
+                drop(first_lines);
+                drop(second_lines);
+                were_shown
+            },
+            || run_line(rt, own, rt.alloc(), line, paths.as_slice(), out),
+        );
+        holds(rt, were_shown);
+        same(rt, told?.status, 0);
+        Ok(())
+    }
+}
+
+#[test]
+fn a_table_is_printed_when_it_is_due_and_at_the_end(rt: HostRuntime) -> Result<(), Fail> {
+    Trials::on(&rt).a_table_is_printed_when_it_is_due_and_at_the_end()
+}
+
+#[test]
+fn three_hundred_tables_are_printed_in_three_hours(rt: HostRuntime) -> Result<(), Fail> {
+    Trials::on(&rt).three_hundred_tables_are_printed_in_three_hours()
+}
+
 #[test]
 fn paths_are_read_and_shown_side_by_side(rt: HostRuntime) -> Result<(), Fail> {
-    let are_shown = AtomicBool::new(false);
-    let mut first = lasting_path(&rt, rt.alloc())?;
-    let mut second = lasting_path(&rt, rt.alloc())?;
-    first.lines.write_all(b"*8D4840D6202CC371C32CE0576098;\n")?;
-    second.lines.write_all(b"*8D485020994409940838175B284F;\n")?;
-    let paths = [first.path.as_str(), second.path.as_str()];
-    let out = Seen {
-        are_shown: &are_shown,
-    };
-    let line = "groundstation run --every 10";
-    let (first_lines, second_lines) = (first.lines, second.lines);
-    let (were_shown, told) = join(
-        &rt,
-        || {
-            let were_shown = becomes_set(&rt, &are_shown);
-            drop(first_lines);
-            drop(second_lines);
-            were_shown
-        },
-        || run_line(&rt, rt, rt.alloc(), line, paths.as_slice(), out),
-    );
-    assert!(rt; were_shown);
-    assert_eq!(rt; told?.status, 0);
-    Ok(())
+    Trials::on(&rt).paths_are_read_and_shown_side_by_side()
 }

@@ -1,5 +1,6 @@
 //! Command lines that are refused, and the jobs that others name.
 use super::{NO_LINES, run_words, text, words_of};
+use crate::comparing::{holds_at, same_at};
 use station_main::{Job, Pace, TableFormat, WordsFault, program, read_words};
 use std::alloc::{AllocError, Global};
 
@@ -106,12 +107,13 @@ fn words_are_refused(rt: HostRuntime) -> Result<(), AllocError> {
     ] {
         let words = words_of(rt.alloc(), line, [].as_slice())?;
         let refused = run_words(&rt, rt, words.as_slice(), NO_LINES);
-        assert!(rt; refused.status == 2 && refused.out.is_empty(), "{line}");
+        holds_at(&rt, refused.status == 2 && refused.out.is_empty(), line);
         let end = text(&refused.err).strip_prefix(told);
-        assert_eq!(rt;
+        same_at(
+            &rt,
             end,
             Some("\nFor more information, try '--help'.\n"),
-            "{line}"
+            line,
         );
     }
     Ok(())
@@ -133,7 +135,7 @@ fn rounds_are_1_where_they_are_not_given(rt: HostRuntime) -> Result<(), WordsFau
         ("groundstation run --every 5 --rounds 1000 x", 1_000),
         ("groundstation run x --rounds=1 --every=5", 1),
     ] {
-        assert_eq!(rt; rounds_of(rt.alloc(), line)?, rounds, "{line}");
+        same_at(&rt, rounds_of(rt.alloc(), line)?, rounds, line);
     }
     Ok(())
 }
@@ -157,7 +159,7 @@ fn paths_are_opened_again_only_where_it_is_asked(rt: HostRuntime) -> Result<(), 
         ("groundstation run --every 5 x --reopen", true),
         ("groundstation run --every 5 --reopen --record f x y", true),
     ] {
-        assert_eq!(rt; reopens(rt.alloc(), line)?, is_asked, "{line}");
+        same_at(&rt, reopens(rt.alloc(), line)?, is_asked, line);
     }
     Ok(())
 }
@@ -188,7 +190,7 @@ fn ticks_are_only_where_they_are_given(rt: HostRuntime) -> Result<(), WordsFault
         ("groundstation run --every 5 -- x --tick 6", 5, None),
     ] {
         let pace = Pace { every, tick };
-        assert_eq!(rt; pace_of(rt.alloc(), line)?, Some(pace), "{line}");
+        same_at(&rt, pace_of(rt.alloc(), line)?, Some(pace), line);
     }
     Ok(())
 }
@@ -222,7 +224,7 @@ fn tables_are_text_where_no_format_is_given(rt: HostRuntime) -> Result<(), Words
             TableFormat::Text,
         ),
     ] {
-        assert_eq!(rt; format_of(rt.alloc(), line)?, format, "{line}");
+        same_at(&rt, format_of(rt.alloc(), line)?, format, line);
     }
     Ok(())
 }
@@ -251,7 +253,7 @@ fn record_is_the_file_that_is_given(rt: HostRuntime) -> Result<(), WordsFault> {
         ),
         ("groundstation run --every 5 x --record=", Some("")),
     ] {
-        assert!(rt; is_recorded_to(rt.alloc(), line, file)?, "{line}");
+        holds_at(&rt, is_recorded_to(rt.alloc(), line, file)?, line);
     }
     Ok(())
 }
@@ -274,8 +276,8 @@ fn a_status_is_that_of_the_words(rt: HostRuntime) -> Result<(), AllocError> {
             &mut out,
             rt.stderr(),
         );
-        assert_eq!(rt; text(&out), version, "{line}");
-        assert_eq!(rt; status, 0, "{line}");
+        same_at(&rt, text(&out), version, line);
+        same_at(&rt, status, 0, line);
     }
     Ok(())
 }

@@ -4,6 +4,7 @@ ghost use Rattle.station_desk.specs.History.{base_of};
 
 use super::Call::{self, Hear, Tick};
 use super::{IDENTIFICATION, SQUAWK, VELOCITY, index_of, once};
+use crate::comparing::same;
 use crate::fakes::{limits_met, new_places};
 use station_desk::Places;
 use station_journal::{Limits, Refusal};
@@ -52,10 +53,10 @@ fn meet<L: StationName, R: Wait + Abort>(
     };
     let (station, mut seats) = Station::<1, L>::new(rt, alloc, limits, 1, blank, places)?;
     let mut seat = seats.pop().expect(rt, "the seat");
-    assert_eq!(rt; station.limits_met(), limits_met(false, false));
+    same(rt, station.limits_met(), limits_met(false, false));
     for (call, want, journal, table) in calls {
-        assert_eq!(rt; index_of(&once(rt, &station, &mut seat, *call)), *want);
-        assert_eq!(rt; station.limits_met(), limits_met(*journal, *table));
+        same(rt, index_of(&once(rt, &station, &mut seat, *call)), *want);
+        same(rt, station.limits_met(), limits_met(*journal, *table));
     }
     station.end(rt);
     Ok(())

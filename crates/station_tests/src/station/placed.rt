@@ -3,6 +3,7 @@ ghost use Rattle.std.specs.Prelude.{◌≡◌};
 ghost use Rattle.station_desk.specs.History.{base_of};
 
 use super::{IDENTIFICATION, LIMITS, hear_once, look_of};
+use crate::comparing::{holds, holds_at, same};
 use crate::fakes::new_places;
 use station_desk::Places;
 use station_journal::{PlacedRows, Rows};
@@ -29,10 +30,10 @@ fn hear_at<L: StationName, R: Wait + Abort>(
     lines: &[&str],
 ) {
     let ticked = station.tick(rt, seat, at).is_ok();
-    assert!(rt; ticked);
+    holds(rt, ticked);
     for line in lines {
         let heard = hear_once(rt, station, seat, *line).is_ok();
-        assert!(rt; heard, "{line}");
+        holds_at(rt, heard, line);
     }
 }
 
@@ -44,15 +45,17 @@ fn sees_times<L: StationName>(
     placed: Option<u64>,
 ) -> Seat<2, L> {
     let look = look_of(rt, seat);
-    assert_eq!(rt; look.now(), now);
+    same(rt, look.now(), now);
     assert_eq!(rt; Rows::len(&look), 2);
-    assert_eq!(rt;
+    same(
+        rt,
         (Rows::row(&look, 0).address, look.placed(0)),
-        (0x40621D, placed)
+        (0x40621D, placed),
     );
-    assert_eq!(rt;
+    same(
+        rt,
         (Rows::row(&look, 1).address, look.placed(1)),
-        (0x4840D6, None)
+        (0x4840D6, None),
     );
     look.done()
 }

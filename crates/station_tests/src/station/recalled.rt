@@ -2,6 +2,7 @@
 ghost use Rattle.std.specs.Prelude.{◌≡◌};
 ghost use Rattle.station_desk.specs.History.{base_of};
 
+use crate::comparing::{holds, same};
 use crate::fakes::new_places;
 use station_desk::Places;
 use station_journal::{Entry, Limits};
@@ -37,7 +38,7 @@ fn tick_and_recall<L: StationName, R: Wait + Abort>(
     let mut seat = seats.pop().expect(rt, "the first seat");
     for at in 1..=5_000 {
         let answer = station.tick(rt, &mut seat, at);
-        assert!(rt; answer.is_ok());
+        holds(rt, answer.is_ok());
     }
     let mut part = Vec::with_capacity(alloc, 300).expect(rt, "room for a part");
     let mut from = 0u64;
@@ -45,14 +46,14 @@ fn tick_and_recall<L: StationName, R: Wait + Abort>(
         station.recall(rt, &seat, from, &mut part);
         for entry in &part {
             from = from.saturating_add(1);
-            assert_eq!(rt; *entry, Entry::Tick { seat: 0, at: from });
+            same(rt, *entry, Entry::Tick { seat: 0, at: from });
         }
     }
-    assert_eq!(rt; (from, part.len()), (5_000, 200));
+    same(rt, (from, part.len()), (5_000, 200));
     station.recall(rt, &seat, 5_000, &mut part);
-    assert!(rt; part.is_empty());
+    holds(rt, part.is_empty());
     station.recall(rt, &other, 0, &mut part);
-    assert!(rt; part.is_empty());
+    holds(rt, part.is_empty());
     station.end(rt);
 }
 

@@ -3,6 +3,7 @@ ghost use Rattle.std.specs.Prelude.{◌≡◌, length};
 ghost use Rattle.station_desk.specs.History.{base_of};
 
 use super::look_of;
+use crate::comparing::{holds, same};
 use crate::fakes::new_places;
 use station_desk::Places;
 use station_journal::{Entry, Limits};
@@ -45,9 +46,9 @@ fn writes_the_rest<L: StationName, R: Wait + Abort>(
     let mut list = Vec::<Entry>::with_capacity(alloc, 16_384).expect(rt, "room for a portion");
     let mut sink = ToWrite::new(Vec::<u8>::new(alloc));
     let written = write_seen(rt, station, seat, recorded, count, &mut list, &mut sink);
-    assert_eq!(rt; written, Ok(()));
+    same(rt, written, Ok(()));
     let lines = lines_after(rt, alloc, recorded, count);
-    assert!(rt; sink.into_inner().as_slice() == lines.as_bytes());
+    holds(rt, sink.into_inner().as_slice() == lines.as_bytes());
 }
 
 // The first of two seats ticks 70,000 times.
@@ -70,11 +71,11 @@ fn tick_and_write<L: StationName, R: Wait + Abort>(
     let mut seat = seats.pop().expect(rt, "the first seat");
     for at in 1..=70_000 {
         let answer = station.tick(rt, &mut seat, at);
-        assert!(rt; answer.is_ok());
+        holds(rt, answer.is_ok());
     }
     let look = look_of(rt, seat);
     let count = look.entries();
-    assert_eq!(rt; count, 70_000);
+    same(rt, count, 70_000);
     let seat = look.done();
     writes_the_rest(rt, alloc, &station, &seat, 0, count);
     writes_the_rest(rt, alloc, &station, &seat, 20_000, count);

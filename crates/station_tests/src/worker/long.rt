@@ -3,6 +3,7 @@ ghost use Rattle.std.specs.Prelude.{◌≡◌};
 ghost use Rattle.station_desk.specs.History.{base_of};
 
 use super::{LIMITS, worker};
+use crate::comparing::same;
 use crate::fakes::push;
 use station_desk::Places;
 use station_lines::{FromBuffer, PIECE, Tally};
@@ -53,7 +54,7 @@ fn count_long_pieces<L: StationName + Send + Sync, R: Threads + Wait + Abort + S
     }
     run_receivers(rt, &station, workers.as_mut_slice(), 99);
     for worker in &workers {
-        assert_eq!(rt; worker.answer, Some(Ok(BLANK_LINES)));
+        same(rt, worker.answer, Some(Ok(BLANK_LINES)));
     }
     station.end(rt);
     Ok(())

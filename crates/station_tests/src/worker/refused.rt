@@ -3,6 +3,7 @@ ghost use Rattle.std.specs.Prelude.{◌≡◌};
 ghost use Rattle.station_desk.specs.History.{base_of};
 
 use super::{IDENTIFICATION, LIMITS, VELOCITY, close_all, worker};
+use crate::comparing::{holds, same};
 use station_desk::Places;
 use station_journal::Limits;
 use station_lines::FromRead;
@@ -28,7 +29,7 @@ fn run_two<const N: usize, L: StationName + Send + Sync, R: Threads + Wait + Abo
     for line in lines {
         let seat = seats.pop().expect(rt, "a seat of a receiver");
         let pushed = workers.push(worker(seat, FromRead::new(line))).is_ok();
-        assert!(rt; pushed);
+        holds(rt, pushed);
     }
     run_receivers(rt, &station, workers.as_mut_slice(), 9);
     let (mut accepted, mut refused) = (0u64, 0u64);
@@ -42,7 +43,7 @@ fn run_two<const N: usize, L: StationName + Send + Sync, R: Threads + Wait + Abo
         }
         let Worker { seat, .. } = worker;
         let pushed = seats.push(seat).is_ok();
-        assert!(rt; pushed);
+        holds(rt, pushed);
     }
     let limits = station.limits_met();
     (accepted, refused, close_all(rt, station, seats), limits)
@@ -76,7 +77,7 @@ fn fill_the_journal<L: StationName + Send + Sync, R: Threads + Wait + Abort + Sy
     };
     let (station, seats) = Station::<8, L>::new(rt, alloc, limits, 2, blank, places)?;
     let filled = run_two(rt, alloc, station, seats, [THREE_LINES, THREE_OTHER_LINES]);
-    assert_eq!(rt; filled, (3, 3, 3, limits_met(true, false)));
+    same(rt, filled, (3, 3, 3, limits_met(true, false)));
     Ok(())
 }
 
@@ -104,7 +105,7 @@ fn fill_the_table<L: StationName + Send + Sync, R: Threads + Wait + Abort + Sync
     };
     let (station, seats) = Station::<1, L>::new(rt, alloc, limits, 2, blank, places)?;
     let filled = run_two(rt, alloc, station, seats, [IDENTIFICATION, VELOCITY]);
-    assert_eq!(rt; filled, (1, 1, 1, limits_met(false, true)));
+    same(rt, filled, (1, 1, 1, limits_met(false, true)));
     Ok(())
 }
 
@@ -135,7 +136,7 @@ fn fill_before_the_last_line<L: StationName + Send + Sync, R: Threads + Wait + A
     };
     let (station, seats) = Station::<8, L>::new(rt, alloc, limits, 2, blank, places)?;
     let filled = run_two(rt, alloc, station, seats, [b"", TWO_LINES]);
-    assert_eq!(rt; filled, (1, 1, 1, limits_met(true, false)));
+    same(rt, filled, (1, 1, 1, limits_met(true, false)));
     Ok(())
 }
 
@@ -159,7 +160,7 @@ fn hear_one_frame<L: StationName + Send + Sync, R: Threads + Wait + Abort + Sync
 {
     let (station, seats) = Station::<8, L>::new(rt, alloc, LIMITS, 2, blank, places)?;
     let heard = run_two(rt, alloc, station, seats, [IDENTIFICATION, IDENTIFICATION]);
-    assert_eq!(rt; heard, (1, 1, 1, limits_met(false, false)));
+    same(rt, heard, (1, 1, 1, limits_met(false, false)));
     Ok(())
 }
 

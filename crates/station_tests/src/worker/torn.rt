@@ -3,6 +3,7 @@ ghost use Rattle.std.specs.Prelude.{◌≡◌};
 ghost use Rattle.station_desk.specs.History.{base_of};
 
 use super::{IDENTIFICATION, LIMITS, ONE_LINE, VELOCITY, worker};
+use crate::comparing::same;
 use crate::fakes::push;
 use station_desk::Places;
 use station_lines::{FromBuffer, PumpFault};
@@ -49,16 +50,16 @@ fn one_that_fails<L: StationName + Send + Sync, R: Threads + Wait + Abort + Sync
     let (station, mut seats) = Station::<8, L>::new(rt, alloc, LIMITS, 2, blank, places)?;
     let mut workers = Vec::new(alloc);
     run_receivers(rt, &station, workers.as_mut_slice(), 9);
-    assert_eq!(rt; workers.len(), 0);
+    same(rt, workers.len(), 0);
     for reader in readers {
         let seat = seats.pop().expect(rt, "a seat of a receiver");
         push(rt, &mut workers, worker(seat, FromBuffer::new(reader)));
     }
     run_receivers(rt, &station, workers.as_mut_slice(), 9);
-    assert_eq!(rt; workers.len(), 2);
+    same(rt, workers.len(), 2);
     let mut wanted = Some(Err(PumpFault::Read(ONE_LINE)));
     for worker in &workers {
-        assert_eq!(rt; worker.answer, wanted);
+        same(rt, worker.answer, wanted);
         wanted = Some(Ok(ONE_LINE));
     }
     station.end(rt);

@@ -2,6 +2,7 @@
 
 use crate::calls::Call::{Hear, Tick};
 use crate::calls::entry;
+use crate::comparing::{holds, holds_at, same};
 use crate::known::{ALL_CALL, EVEN, IDENTIFICATION, NOBODY, SHORT_AIR, SPOILED};
 use station_book::{Book, Call};
 use station_journal::{Refusal, Rows};
@@ -12,13 +13,13 @@ fn what_does_not_fit_leaves_a_book_as_it_was(rt: HostRuntime) -> Result<(), Fail
     let mut book = Book::<4>::starting(7);
     for call in [Tick(7), Hear(NOBODY), Hear(SPOILED)] {
         let entry = entry(call)?;
-        assert!(rt; !book.fits(&entry));
+        holds(&rt, !book.fits(&entry));
         book.offer(&entry);
         book.offer_call(&Call::of(&entry));
     }
-    assert_eq!(rt; book.entries(), 0);
-    assert_eq!(rt; book.now(), 7);
-    assert_eq!(rt; book.len(), 0);
+    same(&rt, book.entries(), 0);
+    same(&rt, book.now(), 7);
+    same(&rt, book.len(), 0);
     Ok(())
 }
 
@@ -26,15 +27,16 @@ fn what_does_not_fit_leaves_a_book_as_it_was(rt: HostRuntime) -> Result<(), Fail
 fn an_overlaid_frame_fits_whoever_is_live(rt: HostRuntime) -> Result<(), Fail> {
     let mut book = Book::<1>::new();
     let reply = entry(Hear(SHORT_AIR))?;
-    assert_eq!(rt;
+    same(
+        &rt,
         book.verdict_of(&Call::of(&reply)),
-        Err(Refusal::Unknown(0x4840D6))
+        Err(Refusal::Unknown(0x4840D6)),
     );
-    assert!(rt; book.fits(&reply));
+    holds(&rt, book.fits(&reply));
     book.offer(&reply);
-    assert_eq!(rt; book.len(), 1);
-    assert!(rt; book.fits(&entry(Hear(IDENTIFICATION))?), "it is live");
-    assert!(rt; !book.fits(&entry(Hear(ALL_CALL))?), "the book is full");
+    same(&rt, book.len(), 1);
+    holds_at(&rt, book.fits(&entry(Hear(IDENTIFICATION))?), "it is live");
+    holds_at(&rt, !book.fits(&entry(Hear(ALL_CALL))?), "the book is full");
     Ok(())
 }
 
@@ -43,14 +45,18 @@ fn a_list_is_taken_up_to_the_first_that_does_not_fit(rt: HostRuntime) -> Result<
     let mut book = Book::<1>::starting(5);
     let (heard, other) = (entry(Hear(IDENTIFICATION))?, entry(Hear(EVEN))?);
     let fitting = [heard, entry(Tick(60_006))?, other, other];
-    assert_eq!(rt; book.take_all(5, &fitting), Ok(()));
-    assert_eq!(rt; (book.entries(), book.now(), book.len()), (4, 60_006, 1));
-    assert!(rt; book.get(0x40621D).is_some());
+    same(&rt, book.take_all(5, &fitting), Ok(()));
+    same(
+        &rt,
+        (book.entries(), book.now(), book.len()),
+        (4, 60_006, 1),
+    );
+    holds(&rt, book.get(0x40621D).is_some());
     let early = Book::<1>::starting(5).take_all(5, &[entry(Tick(5))?]);
-    assert_eq!(rt; early, Err(0));
+    same(&rt, early, Err(0));
     let full = Book::<1>::starting(5).take_all(5, &[heard, other]);
-    assert_eq!(rt; full, Err(1));
+    same(&rt, full, Err(1));
     let spoiled = [entry(Tick(6))?, heard, entry(Hear(SPOILED))?];
-    assert_eq!(rt; Book::<1>::starting(5).take_all(5, &spoiled), Err(2));
+    same(&rt, Book::<1>::starting(5).take_all(5, &spoiled), Err(2));
     Ok(())
 }

@@ -2,6 +2,7 @@
 
 use crate::book::compare;
 use crate::calls::Call::{self, Hear, Tick};
+use crate::comparing::same;
 use crate::known::{EVEN, FAR, IDENTIFICATION, ODD};
 use modes_cpr::{Degrees, Position};
 use station_book::Book;
@@ -112,13 +113,13 @@ fn pairs_of_places(rt: HostRuntime) -> Result<(), Fail> {
     for (calls, heard, wanted) in STORIES {
         let book: Book<4> = compare(&rt, rt.alloc(), *calls)?;
         let row = book.get(0x40621D).ok_or("no aircraft")?;
-        assert_eq!(rt; (row.heard, row.altitude), (*heard, Some(38_000)));
-        assert_eq!(rt; position(&row), wanted.map(|w| w.0));
-        assert_eq!(rt; book.placed(0), wanted.map(|w| w.1));
+        same(&rt, (row.heard, row.altitude), (*heard, Some(38_000)));
+        same(&rt, position(&row), wanted.map(|w| w.0));
+        same(&rt, book.placed(0), wanted.map(|w| w.1));
     }
     let calls = [Tick(1), Hear(EVEN), Tick(5000), Hear(ODD), Tick(65_001)];
     let book: Book<4> = compare(&rt, rt.alloc(), &calls)?;
-    assert_eq!(rt; book.len(), 0);
+    same(&rt, book.len(), 0);
     Ok(())
 }
 
@@ -130,9 +131,9 @@ fn positions_age(rt: HostRuntime) -> Result<(), Fail> {
         calls.extend_from_slice(*later)?;
         let book: Book<4> = compare(&rt, rt.alloc(), calls.as_slice())?;
         let row = book.get(0x40621D).ok_or("no aircraft")?;
-        assert_eq!(rt; row.heard, *heard);
-        assert_eq!(rt; position(&row), placed.map(|_| NEWEST_ODD));
-        assert_eq!(rt; book.placed(0), *placed);
+        same(&rt, row.heard, *heard);
+        same(&rt, position(&row), placed.map(|_| NEWEST_ODD));
+        same(&rt, book.placed(0), *placed);
     }
     Ok(())
 }

@@ -3,6 +3,7 @@
 use crate::book::give;
 use crate::calls::Call::{Hear, Tick};
 use crate::calls::{entry, frame};
+use crate::comparing::same;
 use crate::known::{IDENTIFICATION, SHORT_AIR};
 use modes_frame::remainder;
 use station_book::{Book, Call};
@@ -31,23 +32,23 @@ fn the_first_256_frames_since_a_tick_are_looked_at(rt: HostRuntime) -> Result<()
     let mut book = Book::<4>::new();
     let first = entry(Hear(IDENTIFICATION))?;
     for new in [entry(Tick(1))?, first] {
-        assert_eq!(rt; give(&rt, &mut journal, &mut book, &new), Ok(()));
+        same(&rt, give(&rt, &mut journal, &mut book, &new), Ok(()));
     }
     for last in 0..255 {
         let new = reply(last)?;
-        assert_eq!(rt; give(&rt, &mut journal, &mut book, &new), Ok(()));
+        same(&rt, give(&rt, &mut journal, &mut book, &new), Ok(()));
     }
     for unseen in [reply(255)?, reply(255)?] {
-        assert_eq!(rt; give(&rt, &mut journal, &mut book, &unseen), Ok(()));
+        same(&rt, give(&rt, &mut journal, &mut book, &unseen), Ok(()));
     }
     for again in [first, reply(0)?, reply(253)?, reply(254)?] {
         let answer = give(&rt, &mut journal, &mut book, &again);
-        assert_eq!(rt; answer, Err(Refusal::Repeated));
+        same(&rt, answer, Err(Refusal::Repeated));
     }
     for new in [entry(Tick(2))?, first, reply(254)?] {
-        assert_eq!(rt; give(&rt, &mut journal, &mut book, &new), Ok(()));
+        same(&rt, give(&rt, &mut journal, &mut book, &new), Ok(()));
     }
-    assert_eq!(rt; book.entries(), 262);
+    same(&rt, book.entries(), 262);
     Ok(())
 }
 
@@ -73,7 +74,7 @@ fn frames_with_the_same_last_bits_are_told_apart(rt: HostRuntime) -> Result<(), 
     for (bytes, wanted) in script {
         let heard = entry(Hear(bytes))?;
         let answer = give(&rt, &mut journal, &mut book, &heard);
-        assert_eq!(rt; answer, wanted);
+        same(&rt, answer, wanted);
     }
     Ok(())
 }

@@ -5,6 +5,7 @@ ghost use Rattle.station_journal.specs.Log.{most_entries};
 
 use crate::calls::Call::{self, Hear, HearToo, Tick};
 use crate::calls::entry;
+use crate::comparing::{holds, same};
 use crate::journal::{MANY, ONE_AIRCRAFT, ONE_ENTRY, Script, go_on, played, replayed, row, shown};
 use crate::known::{ALL_CALL, IDENTIFICATION, IDENTITY, NOBODY, SPEED};
 use station_journal::{Entry, Journal, Limits, Recent, Refusal, ResumeFault, Rows};
@@ -75,7 +76,7 @@ fn entries_of_two_seats_go_on(rt: HostRuntime) -> Result<(), Fail> {
         entries: entries(rt.alloc(), &[Hear(IDENTIFICATION), HearToo(SPEED)])?,
     };
     let mut journal = resumed(MANY, given)?;
-    assert_eq!(rt; (Rows::len(&journal), journal.len()), (2, 2));
+    same(&rt, (Rows::len(&journal), journal.len()), (2, 2));
     let later = [
         (Hear(IDENTIFICATION), Err(Refusal::Repeated)),
         (Tick(5), Ok(2)),
@@ -108,7 +109,7 @@ fn a_moment_more_than_70_seconds_is_left_behind(rt: HostRuntime) -> Result<(), F
     for (script, left) in AGES {
         let journal = played(&rt, rt.alloc(), MANY, script)?;
         let kept = journal.recent(rt.alloc())?;
-        assert_eq!(rt; (kept.base, kept.entries.len()), left);
+        same(&rt, (kept.base, kept.entries.len()), left);
     }
     Ok(())
 }
@@ -118,10 +119,10 @@ fn a_moment_more_than_70_seconds_is_left_behind(rt: HostRuntime) -> Result<(), F
 fn twenty_thousand_recent_entries_are_kept(rt: HostRuntime) -> Result<(), Fail> {
     let mut journal = Journal::new(rt.alloc(), MANY);
     for at in 1..=20_000 {
-        assert!(rt; journal.tick(0, at).is_ok());
+        holds(&rt, journal.tick(0, at).is_ok());
     }
     let kept = journal.recent(rt.alloc())?;
-    assert_eq!(rt; (kept.base, kept.entries.len()), (0, 20_000));
+    same(&rt, (kept.base, kept.entries.len()), (0, 20_000));
     Ok(())
 }
 
@@ -133,8 +134,8 @@ fn an_overlaid_frame_goes_on_alone(rt: HostRuntime) -> Result<(), Fail> {
     };
     let journal = resumed(MANY, given)?;
     let row = row(&journal, 0x510AF9)?;
-    assert_eq!(rt; row.callsign, None);
-    assert_eq!(rt; row.squawk.ok_or("no squawk")?.value(), 0o356);
+    same(&rt, row.callsign, None);
+    same(&rt, row.squawk.ok_or("no squawk")?.value(), 0o356);
     Ok(())
 }
 
@@ -177,8 +178,8 @@ fn fault(
     match Journal::resume(limits, recent) {
         Ok(_) => Ok(None),
         Err(refused) => {
-            assert_eq!(rt; refused.recent.base, base);
-            assert!(rt; refused.recent.entries.as_slice() == given.as_slice());
+            same(rt, refused.recent.base, base);
+            holds(rt, refused.recent.entries.as_slice() == given.as_slice());
             Ok(Some(refused.fault))
         }
     }
@@ -187,9 +188,9 @@ fn fault(
 #[test]
 fn lists_that_are_not_resumed_from(rt: HostRuntime) -> Result<(), Fail> {
     for (limits, base, calls, want) in LISTS {
-        assert!(rt; limits.entries <= 16_777_216);
+        holds(&rt, limits.entries <= 16_777_216);
         let fault = fault(&rt, rt.alloc(), *limits, *base, *calls)?;
-        assert_eq!(rt; fault, *want);
+        same(&rt, fault, *want);
     }
     Ok(())
 }

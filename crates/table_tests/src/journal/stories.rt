@@ -2,6 +2,7 @@
 
 use crate::calls::Call::{Hear, HearToo, Tick};
 use crate::calls::frame;
+use crate::comparing::{holds, same, same_at};
 use crate::journal::{MANY, Script, played, row};
 use crate::known::{ALL_CALL, EVEN, IDENTIFICATION, IDENTITY, LOW, SPEED};
 use modes_fields::Velocity;
@@ -77,10 +78,11 @@ const STORIES: &[(&str, Script, (u64, u64, usize))] = &[
 fn stories_end_as_known(rt: HostRuntime) -> Result<(), Fail> {
     for (name, script, left) in STORIES {
         let journal = played(&rt, rt.alloc(), MANY, *script)?;
-        assert_eq!(rt;
+        same_at(
+            &rt,
             (journal.len(), journal.now(), Rows::len(&journal)),
             *left,
-            "{name}"
+            name,
         );
     }
     Ok(())
@@ -90,12 +92,15 @@ fn stories_end_as_known(rt: HostRuntime) -> Result<(), Fail> {
 fn ticks_and_ages(rt: HostRuntime) -> Result<(), Fail> {
     let journal = played(&rt, rt.alloc(), MANY, AT_60_SECONDS)?;
     let klm = row(&journal, 0x4840D6)?;
-    assert_eq!(rt; klm.heard, 1000);
-    assert!(rt; klm.callsign.ok_or("no callsign")?.bytes() == b"KLM1023".as_slice());
+    same(&rt, klm.heard, 1000);
+    holds(
+        &rt,
+        klm.callsign.ok_or("no callsign")?.bytes() == b"KLM1023".as_slice(),
+    );
     let journal = played(&rt, rt.alloc(), MANY, REPLIES)?;
     let low = row(&journal, 0x510AF9)?;
     let squawk = low.squawk.ok_or("no squawk")?;
-    assert_eq!(rt; (low.altitude, squawk.value()), (Some(-1200), 0o356));
+    same(&rt, (low.altitude, squawk.value()), (Some(-1200), 0o356));
     Ok(())
 }
 
@@ -122,18 +127,18 @@ const ROWS: [(u32, u64, Option<i32>, Option<Velocity>); 4] = [
 fn a_table_of_1100_entries(rt: HostRuntime) -> Result<(), Fail> {
     let mut journal = Journal::new(rt.alloc(), MANY);
     for at in 1..=1000 {
-        assert!(rt; journal.tick(0, at).is_ok());
+        holds(&rt, journal.tick(0, at).is_ok());
         if at % 10 == 0 {
             let frame = frame(HEARD[at as usize / 10 % 4])?;
-            assert!(rt; journal.feed(0, frame).is_ok());
+            holds(&rt, journal.feed(0, frame).is_ok());
         }
     }
     let rows = journal.all(rt.alloc())?;
-    assert_eq!(rt; (journal.len(), rows.len()), (1100, 4));
+    same(&rt, (journal.len(), rows.len()), (1100, 4));
     for (i, (address, heard, altitude, velocity)) in ROWS.iter().enumerate() {
         let row = rows.as_slice().get(i).ok_or("no row")?;
-        assert_eq!(rt; (row.address, row.heard), (*address, *heard));
-        assert_eq!(rt; (row.altitude, row.velocity), (*altitude, *velocity));
+        same(&rt, (row.address, row.heard), (*address, *heard));
+        same(&rt, (row.altitude, row.velocity), (*altitude, *velocity));
     }
     Ok(())
 }

@@ -1,6 +1,7 @@
 //! Tables as JSON, with known texts.
 
 use super::{BARE, One, identified, is_printable, over_ground, placed, squawking, through_air};
+use crate::comparing::{holds, holds_at, same, same_at};
 use station_journal::{Aircraft, Rows};
 use station_report::{PlacedRows, ToWrite, table_json};
 use std::alloc::Global;
@@ -41,18 +42,19 @@ type Row<'a> = (Aircraft, Option<u64>, u64, &'a str, &'a str);
 
 fn have_their_objects(rt: &impl Abort, alloc: Global, rows: &[Row<'_>]) -> Result<(), Fail> {
     for (aircraft, at, now, seconds, object) in rows {
-        assert!(rt; is_printable(*now, *aircraft), "{object}");
+        holds_at(rt, is_printable(*now, *aircraft), object);
         let mut sink = ToWrite::new(Vec::new(alloc));
         let table = One(*aircraft, *at);
-        assert_eq!(rt;
+        same_at(
+            rt,
             table_json(&table, *now, 0, 7, &mut sink),
             Ok(()),
-            "{object}"
+            object,
         );
         let text = format!(in alloc;
             "{{\"now\":{seconds},\"messages\":7,\"aircraft\":[{object}]}}\n"
         )?;
-        assert_eq!(rt; sink.into_inner().as_slice(), text.as_bytes(), "{object}");
+        same_at(rt, sink.into_inner().as_slice(), text.as_bytes(), object);
     }
     Ok(())
 }
@@ -163,16 +165,19 @@ fn positions_have_their_times(rt: HostRuntime) -> Result<(), Fail> {
 #[test]
 fn two_aircraft_have_a_comma_between_them(rt: HostRuntime) -> Result<(), Fail> {
     let table = Two(BARE, squawking());
-    assert!(rt; is_printable(1234, table.0) && is_printable(1234, table.1));
+    holds(
+        &rt,
+        is_printable(1234, table.0) && is_printable(1234, table.1),
+    );
     let mut sink = ToWrite::new(Vec::new(rt.alloc()));
     let origin = 1_700_000_000_000;
-    assert_eq!(rt; table_json(&table, 1234, origin, 3, &mut sink), Ok(()));
+    same(&rt, table_json(&table, 1234, origin, 3, &mut sink), Ok(()));
     let text = concat!(
         r#"{"now":1700000001.234,"messages":3,"aircraft":["#,
         r#"{"hex":"4840d6","seen":1.234},"#,
         "{\"hex\":\"510af9\",\"squawk\":\"0356\",\"seen\":1.234}]}\n",
     );
-    assert_eq!(rt; sink.into_inner().as_slice(), text.as_bytes());
+    same(&rt, sink.into_inner().as_slice(), text.as_bytes());
     Ok(())
 }
 
@@ -187,16 +192,17 @@ fn heard_last() -> Aircraft {
 #[test]
 fn the_sum_of_the_largest_times_does_not_wrap(rt: HostRuntime) -> Result<(), Fail> {
     let table = One(heard_last(), None);
-    assert!(rt; is_printable(u64::MAX, table.0));
+    holds(&rt, is_printable(u64::MAX, table.0));
     let mut sink = ToWrite::new(Vec::new(rt.alloc()));
-    assert_eq!(rt;
+    same(
+        &rt,
         table_json(&table, u64::MAX, u64::MAX, u64::MAX, &mut sink),
-        Ok(())
+        Ok(()),
     );
     let text = concat!(
         r#"{"now":36893488147419103.230,"messages":18446744073709551615,"aircraft":["#,
         "{\"hex\":\"4840d6\",\"seen\":0.000}]}\n",
     );
-    assert_eq!(rt; sink.into_inner().as_slice(), text.as_bytes());
+    same(&rt, sink.into_inner().as_slice(), text.as_bytes());
     Ok(())
 }

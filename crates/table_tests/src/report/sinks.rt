@@ -1,5 +1,6 @@
 //! Sinks and writers that fail.
 
+use crate::comparing::{same, same_at};
 use crate::report::{HEADER, One, identified};
 use station_report::{Failed, Sink, ToWrite, WriteFault, flush_after, table};
 use std::io;
@@ -23,33 +24,37 @@ impl Write for Broken {
 #[test]
 fn a_writer_takes_what_its_sink_is_given(rt: HostRuntime) -> Result<(), Fail> {
     let mut sink = ToWrite::new(Vec::<u8>::new(rt.alloc()));
-    assert_eq!(rt; sink.write(b"now "), Ok(4));
-    assert_eq!(rt; sink.write(b""), Ok(0));
-    assert_eq!(rt; sink.flush(), Ok(()));
-    assert_eq!(rt; sink.into_inner().as_slice(), b"now ".as_slice());
+    same(&rt, sink.write(b"now "), Ok(4));
+    same(&rt, sink.write(b""), Ok(0));
+    same(&rt, sink.flush(), Ok(()));
+    same(&rt, sink.into_inner().as_slice(), b"now ".as_slice());
     Ok(())
 }
 
 #[test]
 fn a_writer_that_fails_or_takes_nothing_has_failed(rt: HostRuntime) {
     let mut broken = ToWrite::new(Broken);
-    assert_eq!(rt; broken.write(b"now "), Err(Failed));
-    assert_eq!(rt; broken.flush(), Err(Failed));
+    same(&rt, broken.write(b"now "), Err(Failed));
+    same(&rt, broken.flush(), Err(Failed));
     let mut no_bytes = [0u8; 0];
     let mut full = ToWrite::new(no_bytes.as_mut_slice());
-    assert_eq!(rt; full.write(b"now "), Err(Failed));
-    assert_eq!(rt; full.write(b""), Ok(0));
-    assert_eq!(rt; full.flush(), Ok(()));
+    same(&rt, full.write(b"now "), Err(Failed));
+    same(&rt, full.write(b""), Ok(0));
+    same(&rt, full.flush(), Ok(()));
 }
 
 #[test]
 fn a_flush_that_fails_is_reported(rt: HostRuntime) {
     let mut broken = ToWrite::new(Broken);
-    assert_eq!(rt; flush_after(Ok(()), &mut broken), Err(WriteFault));
+    same(&rt, flush_after(Ok(()), &mut broken), Err(WriteFault));
     let mut no_bytes = [0u8; 0];
     let mut whole = ToWrite::new(no_bytes.as_mut_slice());
-    assert_eq!(rt; flush_after(Ok(()), &mut whole), Ok(()));
-    assert_eq!(rt; flush_after(Err(WriteFault), &mut whole), Err(WriteFault));
+    same(&rt, flush_after(Ok(()), &mut whole), Ok(()));
+    same(
+        &rt,
+        flush_after(Err(WriteFault), &mut whole),
+        Err(WriteFault),
+    );
 }
 
 // A table of 165 bytes fits into as many, and into no fewer.
@@ -60,12 +65,13 @@ fn a_writer_without_room_for_the_last_byte_has_failed(rt: HostRuntime) -> Result
     for (room, outcome) in [(164, Err(WriteFault)), (165, Ok(()))] {
         let mut bytes = [0u8; 165];
         let mut sink = ToWrite::new(&mut bytes[..room]);
-        assert_eq!(rt;
+        same_at(
+            &rt,
             table(&One(identified(0), None), 0, &mut sink),
             outcome,
-            "{room}"
+            room,
         );
-        assert_eq!(rt; &bytes[..room], &text.as_bytes()[..room], "{room}");
+        same_at(&rt, &bytes[..room], &text.as_bytes()[..room], room);
     }
     Ok(())
 }
