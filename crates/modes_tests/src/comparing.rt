@@ -1,6 +1,4 @@
 //! Comparisons for tests. Each is proved once, and a call of it in a tenth of the time of the macro.
-ghost use Rattle.std.specs.Prelude.{IsTrue};
-
 use std::fmt::{Debug, Display};
 use std::process::Abort;
 
@@ -17,11 +15,4 @@ pub fn same_at<T: PartialEq + Debug + Drop, P: Display + Drop>(
     place: P,
 ) {
     assert_eq!(rt; found, wanted, "at {place}");
-}
-
-/// Ends the test unless this is true.
-pub fn holds(rt: &impl Abort, is_true: bool)
-    ensures { IsTrue is_true }
-{
-    assert!(rt; is_true);
 }
