@@ -6,8 +6,8 @@ use super::look_of;
 use crate::comparing::{holds, same};
 use crate::fakes::new_places;
 use station_desk::Places;
-use station_journal::{Entry, Limits};
-use station_record::write_seen;
+use station_journal::Limits;
+use station_record::{RecordRoom, write_seen};
 use station_report::ToWrite;
 use station_shared::{Seat, Station, StationName};
 use std::alloc::Global;
@@ -32,7 +32,7 @@ fn lines_after(rt: &impl Abort, alloc: Global, recorded: u64, count: u64) -> Str
     text
 }
 
-// Writes what the seat has seen beyond the first `recorded` entries. The list has room for fewer of them.
+// Writes what the seat has seen beyond the first `recorded` entries. There is room for fewer of them at once.
 fn writes_the_rest<L: StationName, R: Wait + Abort>(
     rt: &R,
     alloc: Global,
@@ -40,12 +40,12 @@ fn writes_the_rest<L: StationName, R: Wait + Abort>(
     seat: &Seat<2, L>,
     recorded: u64,
     count: u64,
+    room: &mut RecordRoom,
 )
     requires { count ≡ length seat.now.seen }
 {
-    let mut list = Vec::<Entry>::with_capacity(alloc, 16_384).expect(rt, "room for a portion");
     let mut sink = ToWrite::new(Vec::<u8>::new(alloc));
-    let written = write_seen(rt, station, seat, recorded, count, &mut list, &mut sink);
+    let written = write_seen(rt, station, seat, recorded, count, room, &mut sink);
     same(rt, written, Ok(()));
     let lines = lines_after(rt, alloc, recorded, count);
     holds(rt, sink.into_inner().as_slice() == lines.as_bytes());
@@ -77,9 +77,10 @@ fn tick_and_write<L: StationName, R: Wait + Abort>(
     let count = look.entries();
     same(rt, count, 70_000);
     let seat = look.done();
-    writes_the_rest(rt, alloc, &station, &seat, 0, count);
-    writes_the_rest(rt, alloc, &station, &seat, 20_000, count);
-    writes_the_rest(rt, alloc, &station, &seat, 69_999, count);
+    let mut room = RecordRoom::new(alloc, 16_384).expect(rt, "room for a portion");
+    for recorded in [0, 20_000, 69_999] {
+        writes_the_rest(rt, alloc, &station, &seat, recorded, count, &mut room);
+    }
     station.end(rt);
 }
 
