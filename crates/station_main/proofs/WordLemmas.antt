@@ -4,16 +4,14 @@ use Rattle.std.specs.Prelude.{is_some, unwrap_or}
 use Rattle.std.specs.Box.{box_value}
 use Rattle.clap.specs.declared.parser.matches.ArgMatches.{ArgMatches}
 use Rattle.clap.specs.declared.parser.matches.ArgMatches.TheViews.{out-ArgMatches, out-SubCommand}
-use Rattle.station_main.specs.declared.words.Job.{Job}
-use Rattle.station_main.specs.declared.words.Job.TheVariants.{Replay, Run}
 use Rattle.std.proofs.lemmas.List.{length-map}
 use Rattle.std.proofs.lemmas.Option.{none-some}
 use Rattle.std.specs.Str.Parse.{ParsesUnsigned}
-use Rattle.clap.specs.Words.{App, ReadsOne, Row, Text, found_of, is_simple, rows_of, subcommand_name_of, subcommand_of, subcommand_rows_of}
+use Rattle.clap.specs.Words.{ReadsOne, Row, Text, found_of, is_simple, rows_of, subcommand_name_of, subcommand_rows_of}
 use Rattle.clap.specs.Faults.{is_simple_and_free}
 use Rattle.station_main.proofs.JobLemmas.{NamesJobOf}
 use Rattle.clap.proofs.OnLiterals.{clap_on_literals}
-use Rattle.station_main.specs.Command.{FormatNames, GivesJob, IsFlagText, IsNumberUpTo, NamesJob, is_set, number, number_if_given, station}
+use Rattle.station_main.specs.Command.{FormatNames, IsFlagText, IsNumberUpTo, is_set, number, number_if_given, station}
 
 pub is_simple-station : (names : FormatNames) → is_simple (station names) ≡ true
 unfolding clap_on_literals
@@ -78,12 +76,6 @@ pub known_rows : (m : ArgMatches) (name : Text) (rows : List Row) → Some name 
     → Some rows ≡ option_map (λ p. p.1) (subcommand_rows_of m) → subcommand_rows_of m ≡ Some (name, rows)
 known_rows m name rows n r =
     both_known (λ b. (out-SubCommand (box_value b)).name.now) (λ b. rows_of (found_of (out-SubCommand (box_value b)).matches)) (out-ArgMatches m).subcommand name rows n r
-
--- the job of `run` is the one that the words name
-pub names_run : (app : App) (words : List Text) (rows : List Row) → subcommand_of app words ≡ Some (codes "run", rows)
-    → (job : Job) → GivesJob rows job → NamesJob app words job
-names_run app words rows is (Replay tables) given = absurd given
-names_run app words rows is (Run pace times reopens paths file tables folder) given = (rows, is, given)
 
 name_first : {B : Type 0} (f : B → Text) (g : B → List Row) (o : Option B) → option_map {T = Text × List Row} (λ p. p.0) (option_map {U = Text × List Row} (λ b. (f b, g b)) o) ≡ option_map f o
 name_first f g None = refl

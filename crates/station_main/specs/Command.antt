@@ -15,6 +15,7 @@ use Rattle.station_report.specs.declared.formats.Format.{Format}
 use Rattle.station_report.specs.declared.formats.Format.TheVariants as Formats
 use Rattle.station_main.specs.declared.words.Job.{Job}
 use Rattle.station_main.specs.declared.words.Job.TheVariants.{Replay, Run}
+use Rattle.station_main.specs.declared.words.RunOptions.{RunOptions}
 use Rattle.station_main.specs.declared.words.WordsFault.{WordsFault}
 use Rattle.station_main.specs.declared.words.WordsFault.TheVariants as words_fault
 use Rattle.station_main.specs.declared.schedule.Pace.{Pace}
@@ -168,18 +169,18 @@ reopens_rounds app words = run_gives_both (subcommand_of app words)
 
 -- the values of the options and of PATH in a command line of `run`: the paths in their order, a tick and a file only if they
 -- are given, one round if no rounds are given, and never both `--reopen` and `--rounds`
-pub record GivesRun (rows : List Row) (pace : Pace) (times : ℕ) (reopens : Bool) (paths : List Text) (file : Option Text) (tables : TableFormat) (folder : Option Text) : Type 0 where
+pub record GivesRun (rows : List Row) (options : RunOptions) : Type 0 where
   pub text : Text
   pub every : one_of (codes "every") rows ≡ Some text
-  pub every_is : pace.every ≡ number text
-  pub tick_is : pace.tick ≡ number_if_given (one_of (codes "tick") rows)
-  pub rounds_are : times ≡ unwrap_or (number_if_given (one_of (codes "rounds") rows)) 1
-  pub reopens_is : reopens ≡ is_set (one_of (codes "reopen") rows)
+  pub every_is : options.pace.every ≡ number text
+  pub tick_is : options.pace.tick ≡ number_if_given (one_of (codes "tick") rows)
+  pub rounds_are : options.rounds ≡ unwrap_or (number_if_given (one_of (codes "rounds") rows)) 1
+  pub reopens_is : options.reopens ≡ is_set (one_of (codes "reopen") rows)
   pub not_both : gives_both rows ≡ false
-  pub paths_are : all_of (codes "path") rows ≡ Some paths
-  pub file_is : file ≡ first_of (codes "record") rows
-  pub folder_is : folder ≡ first_of (codes "json") rows
-  pub format_is : tables ≡ format_named (first_of (codes "format") rows)
+  pub paths_are : all_of (codes "path") rows ≡ Some (map string_bytes options.paths.items)
+  pub file_is : option_map string_bytes options.record ≡ first_of (codes "record") rows
+  pub folder_is : option_map string_bytes options.displays ≡ first_of (codes "json") rows
+  pub format_is : options.format ≡ format_named (first_of (codes "format") rows)
 
 -- a decimal number from 1 up to a limit
 pub record IsNumberUpTo (limit : ℕ) (text : Text) : Type 0 where
@@ -200,18 +201,12 @@ pub record IsGiven (rows : List Row) : Type 0 where
   pub some : 1 ≤ length paths
   pub few : length paths ≤ 8
 
-abbrev pub GivesJob : List Row → Job → Type 0
-GivesJob rows (Replay tables) = ⊥
-GivesJob rows (Run pace times reopens paths file tables folder) =
-    GivesRun rows pace times reopens (map string_bytes paths.items) (option_map string_bytes file) tables (option_map string_bytes folder)
-
 -- the job is the one that the command line names
 abbrev pub NamesJob : App → List Text → Job → Type 0
 NamesJob app words (Replay tables) =
     (rows : List Row) × (subcommand_of app words ≡ Some (codes "replay", rows)) × (tables ≡ format_named (first_of (codes "format") rows))
-NamesJob app words (Run pace times reopens paths file tables folder) =
-    (rows : List Row) × (subcommand_of app words ≡ Some (codes "run", rows))
-    × GivesRun rows pace times reopens (map string_bytes paths.items) (option_map string_bytes file) tables (option_map string_bytes folder)
+NamesJob app words (Run options) =
+    (rows : List Row) × (subcommand_of app words ≡ Some (codes "run", rows)) × GivesRun rows options
 
 -- why there is no job: out of memory, or `clap` finds a fault of this kind in the command line, or help or the version is asked
 -- for, or `clap` finds no fault and both `--reopen` and `--rounds` are given
@@ -233,7 +228,10 @@ pub record IsPace (pace : Pace) : Type 0 where
   pub tick_fits : IfSome pace.tick (λ tick. (1 ≤ tick) × (tick ≤ 60000))
 
 -- such a pace, 1 to 1,000 rounds, and 1 to 8 paths
+abbrev pub AreInRange : RunOptions → Type 0
+AreInRange options = IsPace options.pace × (1 ≤ options.rounds) × (options.rounds ≤ 1000)
+    × (1 ≤ length options.paths.items) × (length options.paths.items ≤ 8)
+
 abbrev pub IsInRange : Job → Type 0
 IsInRange (Replay tables) = ⊤
-IsInRange (Run pace times reopens paths file tables folder) = IsPace pace × (1 ≤ times) × (times ≤ 1000)
-    × (1 ≤ length paths.items) × (length paths.items ≤ 8)
+IsInRange (Run options) = AreInRange options

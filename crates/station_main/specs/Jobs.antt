@@ -18,9 +18,13 @@ use Rattle.station_main.specs.declared.words.Job.TheVariants.{Replay, Run}
 abbrev pub IsDone : Job → (origin : ℕ) → Option (List ℕ) → Option (List ℕ) → Option (Option (List ℕ)) → Option (List ℕ) → Told → Told → ℕ → Type 0
 IsDone (Replay form) origin input before None alarm err_old err_new status = OutOfMemory err_old err_new status
 IsDone (Replay form) origin input before (Some after) alarm err_old err_new status = EndsReplay (format_since form 0) program_limits input before after err_old err_new status
-IsDone (Run pace rounds reopens paths file form folder) origin input before after alarm err_old err_new status =
-    RunsForDisplays (is_some folder)
-    (RunsAsked (option_map string_bytes file) (record { tables = record { pace = pace; format = format_since form origin }; paths = map string_bytes paths.items; hand_over_at = forget_at }) (rounds - 1) before after alarm err_old err_new)
+IsDone (Run options) origin input before after alarm err_old err_new status =
+    RunsForDisplays (is_some options.displays)
+    (RunsAsked (option_map string_bytes options.record) (record {
+      tables = record { pace = options.pace; format = format_since options.format origin };
+      paths = map string_bytes options.paths.items;
+      hand_over_at = forget_at;
+    }) (options.rounds - 1) before after alarm err_old err_new)
     after err_old err_new status
 
 -- `clap` accepts the command line, and the job that it names is done

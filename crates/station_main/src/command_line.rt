@@ -8,12 +8,11 @@ ghost use Rattle.std.specs.Prelude.{◌≡◌, ◌≤◌, ◌⊎◌, ℕ, List, 
 use crate::alarms::Alarms;
 use crate::display_job::run_for_displays;
 use crate::faults::Fault;
-use crate::limits::FORGET_AT;
 use crate::output::{Ran, without_output};
 use crate::path_host::PathHost;
 use crate::replay_job::replay_input;
 use crate::run_job::Asked;
-use crate::schedule::{Tables, milliseconds_since_1970};
+use crate::schedule::milliseconds_since_1970;
 use crate::standard_error::StandardError;
 use crate::words::{Job, WordsFault, read_words};
 use station_report::{ToWrite, write_all};
@@ -134,29 +133,8 @@ fn do_job<
         Job::Replay { format } => {
             replay_input(rt, alloc, format.since(0), input, out, alarms.limits, err)
         },
-        Job::Run {
-            pace,
-            rounds,
-            reopen,
-            paths,
-            record,
-            format,
-            displays,
-        } => {
-            let tables = Tables {
-                pace,
-                format: format.since(origin),
-            };
-            let asked = Asked {
-                tables,
-                rounds,
-                reopens: reopen,
-                origin,
-                record: &record,
-                displays: &displays,
-                paths: &paths,
-                hand_over_at: FORGET_AT,
-            };
+        Job::Run(options) => {
+            let asked = Asked::new(&options, origin);
             run_for_displays(rt, own, alloc, asked, out, alarms, err)
         }
     }

@@ -48,4 +48,4 @@ pub use run_job::Asked;
 pub use schedule::{Act, Due, Pace, Tables, act_at};
 pub use standard_error::StandardError;
 pub use table_format::TableFormat;
-pub use words::{Job, WordsFault, read_words};
+pub use words::{Job, RunOptions, WordsFault, read_words};

@@ -2,7 +2,8 @@
 ghost use Rattle.std.specs.Prelude.{◌≡◌, ◌⊎◌, ◌-◌, ◌≤◌, None, IfErr, IfOk, length, map, option_map, reverse};
 ghost use Rattle.std.specs.String.{string_bytes};
 ghost use Rattle.station_journal.specs.Resume.{IsSound};
-ghost use Rattle.station_main.specs.Limits.{program_limits};
+ghost use Rattle.station_main.specs.Command.{format_since};
+ghost use Rattle.station_main.specs.Limits.{forget_at, program_limits};
 ghost use Rattle.station_main.specs.Output.{buffered_of};
 ghost use Rattle.station_main.specs.Rounds.{EndsRound, IsFirst, Runs, RunsAsked, begun_of, given_of, nothing};
 ghost use Rattle.station_main.specs.Run.{IsEarly};
@@ -12,7 +13,7 @@ use crate::beside::Beside;
 use crate::duties::Duties;
 use crate::faults::Fault;
 use crate::kept::Kept;
-use crate::limits::TABLE_ROOM;
+use crate::limits::{FORGET_AT, TABLE_ROOM};
 use crate::output::{Ran, without_output};
 use crate::path_host::PathHost;
 use crate::paths::{Paths, open_all, start_all};
@@ -23,6 +24,7 @@ use crate::schedule::Tables;
 use crate::shift::Shift;
 use crate::standard_error::StandardError;
 use crate::threads::Output;
+use crate::words::RunOptions;
 use station_report::{Sink, ToWrite};
 use std::alloc::Global;
 use std::fs::File;
@@ -51,6 +53,35 @@ pub struct Asked<'a> {
     pub paths: &'a Vec<String>,
     /// How many entries of its journal make a station hand over to the next.
     pub hand_over_at: u64,
+}
+
+impl<'a> Asked<'a> {
+    /// What the options ask for. The clock of JSON tables begins at `origin`, in milliseconds since 1970.
+    pub fn new(options: &'a RunOptions, origin: u64) -> Self
+        ensures tables { result.tables ≡ record {
+          pace = options.entry.now.pace;
+          format = format_since options.entry.now.format origin;
+        } }
+        ensures rounds { result.rounds ≡ options.entry.now.rounds }
+        ensures record { result.record.now ≡ options.entry.now.record }
+        ensures displays { result.displays.now ≡ options.entry.now.displays }
+        ensures paths { result.paths.now ≡ options.entry.now.paths }
+        ensures hand_over_at { result.hand_over_at ≡ forget_at }
+    {
+        Asked {
+            tables: Tables {
+                pace: options.pace,
+                format: options.format.since(origin),
+            },
+            rounds: options.rounds,
+            reopens: options.reopens,
+            origin,
+            record: &options.record,
+            displays: &options.displays,
+            paths: &options.paths,
+            hand_over_at: FORGET_AT,
+        }
+    }
 }
 
 /// Runs the rounds, and records what is printed if that is asked. Each round

@@ -1,6 +1,6 @@
 //! The command line.
 ghost use Rattle.clap.specs.Words.{App, fault_of, found_of, rows_of, takes};
-ghost use Rattle.station_main.specs.Command.{AreFormatNames, GivesJob, IsGiven, IsInRange, IsStation, IsOwnFault, IsWordsFault, NamesJob, gives_both, station};
+ghost use Rattle.station_main.specs.Command.{AreFormatNames, AreInRange, GivesRun, IsGiven, IsInRange, IsStation, IsOwnFault, IsWordsFault, NamesJob, gives_both, station};
 ghost use Rattle.std.specs.Prelude.{◌≡◌, [], IfErr, IfOk, false, map, option_map, true};
 ghost use Rattle.std.specs.String.{string_bytes};
 
@@ -15,25 +15,27 @@ use std::alloc::{AllocError, Global};
 #[derive(Debug, Drop)]
 pub enum Job {
     /// Read standard input, and write the tables that its lines ask for.
-    Replay {
-        format: TableFormat,
-    },
+    Replay { format: TableFormat },
     /// Read the paths, each by a receiver of its own, and write a table at an interval.
-    Run {
-        /// A table every 1 to 3,600,000 ms, and where it is asked a tick every 1 to 60,000 ms between two tables.
-        pace: Pace,
-        /// How often the paths are read, 1 to 1,000.
-        rounds: u16,
-        /// Whether a path that has ended, or whose read failed, is opened again. Never where rounds are asked for.
-        reopen: bool,
-        /// 1 to 8.
-        paths: Vec<String>,
-        /// The file that the run is recorded to, if one is given.
-        record: Option<String>,
-        format: TableFormat,
-        /// The folder in which displays find the tables, if one is given.
-        displays: Option<String>,
-    },
+    Run(RunOptions),
+}
+
+/// What the arguments of `run` ask for.
+#[derive(Debug, Drop)]
+pub struct RunOptions {
+    /// A table every 1 to 3,600,000 ms, and where it is asked a tick every 1 to 60,000 ms between two tables.
+    pub pace: Pace,
+    /// How often the paths are read, 1 to 1,000.
+    pub rounds: u16,
+    /// Whether a path that has ended, or whose read failed, is opened again. Never where rounds are asked for.
+    pub reopens: bool,
+    /// 1 to 8.
+    pub paths: Vec<String>,
+    /// The file that the run is recorded to, if one is given.
+    pub record: Option<String>,
+    pub format: TableFormat,
+    /// The folder in which displays find the tables, if one is given.
+    pub displays: Option<String>,
 }
 
 /// Why there is no job.
@@ -119,7 +121,7 @@ fn read_named<'a>(
         if has_both(given) {
             return Err(WordsFault::ReopensRounds);
         }
-        return Ok(read_run(alloc, given)?);
+        return Ok(Job::Run(read_run(alloc, given)?));
     }
     Ok(Job::Replay {
         format: TableFormat::named(given.get_str("format")),
@@ -136,33 +138,33 @@ fn has_both(given: &ArgMatches<'_>) -> bool
     reopen && rounds.is_some()
 }
 
-fn read_run(alloc: Global, given: &ArgMatches<'_>) -> Result<Job, AllocError>
+fn read_run(alloc: Global, given: &ArgMatches<'_>) -> Result<RunOptions, AllocError>
     requires given { IsGiven (rows_of (found_of given.now)) }
     requires not_both { gives_both (rows_of (found_of given.now)) ≡ false }
-    ensures job { IfOk result (λ job. GivesJob (rows_of (found_of given.now)) job) }
-    ensures range { IfOk result IsInRange }
+    ensures options { IfOk result (GivesRun (rows_of (found_of given.now))) }
+    ensures range { IfOk result AreInRange }
 {
     let Some(every) = given.get_one::<u32>("every") else {
         unreachable!()
     };
     let tick = given.get_one::<u32>("tick");
     let rounds = given.get_one::<u16>("rounds");
-    let reopen = given.get_flag("reopen");
+    let reopens = given.get_flag("reopen");
     let Some(texts) = given.get_strs("path") else {
         unreachable!()
     };
     let paths = owned(alloc, texts)?;
     let format = TableFormat::named(given.get_str("format"));
-    let file = owned_if_given(alloc, given.get_str("record"))?;
-    let folder = owned_if_given(alloc, given.get_str("json"))?;
-    Ok(Job::Run {
+    let record = owned_if_given(alloc, given.get_str("record"))?;
+    let displays = owned_if_given(alloc, given.get_str("json"))?;
+    Ok(RunOptions {
         pace: Pace { every, tick },
         rounds: rounds.unwrap_or(1),
-        reopen,
+        reopens,
         paths,
-        record: file,
+        record,
         format,
-        displays: folder,
+        displays,
     })
 }
 

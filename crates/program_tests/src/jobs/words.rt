@@ -123,7 +123,7 @@ fn words_are_refused(rt: HostRuntime) -> Result<(), AllocError> {
 fn rounds_of(alloc: Global, line: &str) -> Result<u16, WordsFault> {
     let words = words_of(alloc, line, [].as_slice())?;
     match read_words(alloc, words.as_slice())? {
-        Job::Run { rounds, .. } => Ok(rounds),
+        Job::Run(options) => Ok(options.rounds),
         Job::Replay { .. } => Ok(0),
     }
 }
@@ -144,7 +144,7 @@ fn rounds_are_1_where_they_are_not_given(rt: HostRuntime) -> Result<(), WordsFau
 fn reopens(alloc: Global, line: &str) -> Result<bool, WordsFault> {
     let words = words_of(alloc, line, [].as_slice())?;
     match read_words(alloc, words.as_slice())? {
-        Job::Run { reopen, .. } => Ok(reopen),
+        Job::Run(options) => Ok(options.reopens),
         Job::Replay { .. } => Ok(false),
     }
 }
@@ -168,7 +168,7 @@ fn paths_are_opened_again_only_where_it_is_asked(rt: HostRuntime) -> Result<(), 
 fn pace_of(alloc: Global, line: &str) -> Result<Option<Pace>, WordsFault> {
     let words = words_of(alloc, line, [].as_slice())?;
     match read_words(alloc, words.as_slice())? {
-        Job::Run { pace, .. } => Ok(Some(pace)),
+        Job::Run(options) => Ok(Some(options.pace)),
         Job::Replay { .. } => Ok(None),
     }
 }
@@ -199,7 +199,7 @@ fn ticks_are_only_where_they_are_given(rt: HostRuntime) -> Result<(), WordsFault
 fn format_of(alloc: Global, line: &str) -> Result<TableFormat, WordsFault> {
     let words = words_of(alloc, line, [].as_slice())?;
     match read_words(alloc, words.as_slice())? {
-        Job::Run { format, .. } => Ok(format),
+        Job::Run(options) => Ok(options.format),
         Job::Replay { format } => Ok(format),
     }
 }
@@ -233,7 +233,7 @@ fn tables_are_text_where_no_format_is_given(rt: HostRuntime) -> Result<(), Words
 fn is_recorded_to(alloc: Global, line: &str, file: Option<&str>) -> Result<bool, WordsFault> {
     let words = words_of(alloc, line, [].as_slice())?;
     match read_words(alloc, words.as_slice())? {
-        Job::Run { record, .. } => Ok(record.as_deref() == file),
+        Job::Run(options) => Ok(options.record.as_deref() == file),
         Job::Replay { .. } => Ok(false),
     }
 }

@@ -8,7 +8,7 @@ use Rattle.station_main.proofs.RefusedLemmas.{words_fault_of}
 use Rattle.station_main.proofs.JobLemmas.{names_job}
 use Rattle.station_main.proofs.FoundLemmas.{none_some, some_same}
 use Rattle.station_main.proofs.RunLemmas.{run_given}
-use Rattle.station_main.proofs.WordLemmas.{is_free-station, is_simple-station, known_rows, is_replay, name_of_rows, names_run}
+use Rattle.station_main.proofs.WordLemmas.{is_free-station, is_simple-station, known_rows, is_replay, name_of_rows}
 use Rattle.station_main.proofs.words.read_named.Goals as goal
 
 pub returns-in_err-matches-clause-refused : goal.returns-in_err-matches-clause-refused
@@ -63,7 +63,7 @@ returns-then-eq-clause-job c =
     let rows = rows_of (found_of c.in-Some.given.now) in
     let name_is : c.in-Some.name.now ≡ codes "run" = search rules in
     let known = known_rows c.in_ok-matches.matches (codes "run") rows (ap Some (sym name_is) ∙ c.in-Some.ensures.name) c.in-Some.ensures.rows in
-    (passes, names_run (station c.args.names) words rows (sym (parsed.1 ∙ ap (λ a. subcommand_of a words) station_is) ∙ known) c.in_ok-read_run.field-0 c.in_ok-read_run.ensures.job)
+    (passes, (rows, sym (parsed.1 ∙ ap (λ a. subcommand_of a words) station_is) ∙ known, c.in_ok-read_run.ensures.options))
 
 pub returns-clause-job : goal.returns-clause-job
 returns-clause-job c =

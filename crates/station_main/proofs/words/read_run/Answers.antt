@@ -21,8 +21,8 @@ unreachable-requires-in_default-get_strs c =
     let given = c.requires.given in
     none_some given.paths (c.in_default-get_strs.ensures ∙ raw_values-rows (found_of c.args.given.now) (codes "path") ∙ given.paths_are)
 
-pub returns-clause-job : goal.returns-clause-job
-returns-clause-job c =
+pub returns-clause-options : goal.returns-clause-options
+returns-clause-options c =
     let found = found_of c.args.given.now in
     let given = c.requires.given in
     let read = reads_number 32 (λ t r. ParsesUnsigned 32 10 t r × ExplainsUnsignedError 10 t r × HasUnsignedDigitsIfOk t r) (one_text found (codes "every")) c.in-Some.every (λ t r g. g.0) c.in-Some.ensures.none c.in-Some.ensures.value in
@@ -31,7 +31,7 @@ returns-clause-job c =
     let rounds_are = reads_if_given 16 1000 (λ t r. ParsesUnsigned 16 10 t r × ExplainsUnsignedError 10 t r × HasUnsignedDigitsIfOk t r) (one_text found (codes "rounds")) c.get_one-rounds.result (omega arith)
     (subst (λ o. IfSome o (IsNumberUpTo 1000)) (sym (one_text-rows found (codes "rounds"))) given.rounds_fit) (λ t r g. g.0) c.get_one-rounds.ensures.none c.get_one-rounds.ensures.value in
     let flag_text = subst IsFlagText (sym (one_text-rows found (codes "reopen"))) given.reopen_is in
-    let reopens_is = reads_flag (one_text found (codes "reopen")) c.get_flag-reopen.result flag_text c.get_flag-reopen.ensures.value c.get_flag-reopen.ensures.other in
+    let reopens_is = reads_flag (one_text found (codes "reopen")) c.get_flag-reopens.result flag_text c.get_flag-reopens.ensures.value c.get_flag-reopens.ensures.other in
     record {
       text = read.0;
       every = sym (one_text-rows found (codes "every")) ∙ read.1;
@@ -41,8 +41,8 @@ returns-clause-job c =
       reopens_is = reopens_is ∙ ap is_set (one_text-rows found (codes "reopen"));
       not_both = c.requires.not_both;
       paths_are = sym (raw_values-rows found (codes "path")) ∙ sym c.in-Some-get_strs.ensures ∙ ap Some (sym c.in_ok-paths.ensures);
-      file_is = c.in_ok-file.ensures ∙ c.get_str-2.ensures ∙ first_value-rows found (codes "record");
-      folder_is = c.in_ok-folder.ensures ∙ c.get_str-3.ensures ∙ first_value-rows found (codes "json");
+      file_is = c.in_ok-record.ensures ∙ c.get_str-2.ensures ∙ first_value-rows found (codes "record");
+      folder_is = c.in_ok-displays.ensures ∙ c.get_str-3.ensures ∙ first_value-rows found (codes "json");
       format_is = c.named-format.ensures ∙ ap format_named (c.get_str.ensures ∙ first_value-rows found (codes "format"));
     }
 
