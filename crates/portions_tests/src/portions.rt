@@ -12,19 +12,23 @@ use std::test::Fail;
 use std::thread;
 use std::time::{Clock, Duration};
 
-// A path that gives one part a read. Before the part `pause` it is silent until it is released.
+// A path that gives one part a read. Before the last part it is silent until it is released.
 #[derive(Drop)]
 struct Script<W> {
+    rt: W,
     parts: &'static [&'static [u8]],
     next: usize,
-    pause: usize,
-    rt: W,
     is_released: Arc<AtomicBool, Global>,
 }
 
 impl<W: Wait> Read for Script<W> {
     fn read(&mut self, buffer: &mut [u8]) -> io::Result<usize> {
-        if self.next == self.pause {
+        if self.next >= self.parts.len() {
+            return Ok(0);
+        }
+        let mut part = self.parts[self.next];
+        self.next += 1;
+        if self.next == self.parts.len() {
             for _ in self.rt.forever() {
                 if self.is_released.load(Ordering::SeqCst) {
                     break;
@@ -32,30 +36,22 @@ impl<W: Wait> Read for Script<W> {
                 thread::yield_now();
             }
         }
-        if self.next >= self.parts.len() {
-            return Ok(0);
-        }
-        let part = self.parts[self.next];
-        self.next += 1;
-        let count = part.len().min(buffer.len());
-        buffer[..count].copy_from_slice(&part[..count]);
-        Ok(count)
+        part.read(buffer)
     }
 }
 
-// Reads a portion to its end.
-fn read_portion<S: Source>(from: &mut S, to: &mut Vec<u8>) -> io::Result<()> {
+// Reads a portion to its end, or until it has given this many bytes.
+fn read_portion<S: Source>(alloc: Global, from: &mut S, most: usize) -> Result<Vec<u8>, Fail> {
+    let mut bytes = Vec::new(alloc);
     let mut buffer = [0u8; 7];
     for _ in 0..u64::MAX {
-        let Ok(count) = from.read(&mut buffer) else {
-            return Err(io::Error::from(ErrorKind::Other));
-        };
-        if count == 0 {
+        let count = from.read(&mut buffer)?;
+        bytes.extend_from_slice(&buffer[..count])?;
+        if count == 0 || bytes.len() >= most {
             break;
         }
-        to.extend_from_slice(&buffer[..count])?;
     }
-    Ok(())
+    Ok(bytes)
 }
 
 #[test]
@@ -64,10 +60,9 @@ fn a_line_begun_before_a_hand_over_is_given_after_it(rt: HostRuntime) -> Result<
     let is_released = Arc::new(alloc, AtomicBool::new(false))?;
     let (reader, mut portions, hand_over) = connect(&rt, alloc)?;
     let script = Script {
+        rt,
         parts: &[b"*one;\n*tw", b"o;\n*three;"],
         next: 0,
-        pause: 1,
-        rt,
         is_released: Arc::try_clone(&is_released)?,
     };
     let handle = reader.start(&rt, rt, script)?;
@@ -79,8 +74,7 @@ fn a_line_begun_before_a_hand_over_is_given_after_it(rt: HostRuntime) -> Result<
     holds(&rt, portions.is_between_lines() && portions.end().is_none());
     hand_over.resume();
     is_released.store(true, Ordering::SeqCst);
-    let mut rest = Vec::new(alloc);
-    read_portion(&mut portions, &mut rest)?;
+    let rest = read_portion(alloc, &mut portions, 99)?;
     same(&rt, rest.as_slice(), b"*two;\n*three;\n".as_slice());
     holds(&rt, portions.end() == Some(PathEnd::AtEnd));
     handle.join(&rt);
@@ -93,10 +87,9 @@ fn a_hand_over_doesn_t_wait_for_a_silent_path(rt: HostRuntime) -> Result<(), Fai
     let is_released = Arc::new(alloc, AtomicBool::new(false))?;
     let (reader, mut portions, hand_over) = connect(&rt, alloc)?;
     let script = Script {
-        parts: &[],
-        next: 0,
-        pause: 0,
         rt,
+        parts: &[b""],
+        next: 0,
         is_released: Arc::try_clone(&is_released)?,
     };
     let handle = reader.start(&rt, rt, script)?;
@@ -105,42 +98,37 @@ fn a_hand_over_doesn_t_wait_for_a_silent_path(rt: HostRuntime) -> Result<(), Fai
         thread::sleep(&rt, Duration::from_millis(20));
         request.request();
     })?;
-    let mut bytes = Vec::new(alloc);
-    read_portion(&mut portions, &mut bytes)?;
-    holds(&rt, bytes.is_empty() && portions.end().is_none());
+    let before = read_portion(alloc, &mut portions, 99)?;
+    holds(&rt, before.is_empty() && portions.end().is_none());
     other.join(&rt);
     hand_over.resume();
     is_released.store(true, Ordering::SeqCst);
-    read_portion(&mut portions, &mut bytes)?;
-    holds(
-        &rt,
-        bytes.is_empty() && portions.end() == Some(PathEnd::AtEnd),
-    );
+    holds(&rt, read_portion(alloc, &mut portions, 99)?.is_empty());
+    holds(&rt, portions.end() == Some(PathEnd::AtEnd));
     handle.join(&rt);
     Ok(())
 }
 
-// A path that gives a line of 200,000 bytes, another one, the beginning of a third, and then fails.
+// A path that gives this many `a`, up to 60,000 a read, then these bytes, and then ends or fails.
 #[derive(Drop)]
-struct LongLine {
-    left: usize,
-    is_over: bool,
+struct Opening {
+    letters: usize,
+    bytes: &'static [u8],
+    fails: bool,
 }
 
-impl Read for LongLine {
+impl Read for Opening {
     fn read(&mut self, buffer: &mut [u8]) -> io::Result<usize> {
-        if self.left > 0 {
-            let count = self.left.min(buffer.len()).min(60_000);
+        if self.letters > 0 {
+            let count = self.letters.min(buffer.len()).min(60_000);
             buffer[..count].fill(b'a');
-            self.left -= count;
+            self.letters -= count;
             return Ok(count);
         }
-        if self.is_over || buffer.len() < 9 {
+        if self.bytes.is_empty() && self.fails {
             return Err(io::Error::from(ErrorKind::Other));
         }
-        self.is_over = true;
-        buffer[..9].copy_from_slice(b"\n*one;\n*t");
-        Ok(9)
+        self.bytes.read(buffer)
     }
 }
 
@@ -150,9 +138,10 @@ fn a_long_line_is_cut_short_and_a_begun_one_dropped_at_a_failed_read(
 ) -> Result<(), Fail> {
     let alloc = rt.alloc();
     let (reader, mut portions, _) = connect(&rt, alloc)?;
-    let path = LongLine {
-        left: 200_000,
-        is_over: false,
+    let path = Opening {
+        letters: 200_000,
+        bytes: b"\n*one;\n*t",
+        fails: true,
     };
     let handle = reader.start(&rt, rt, path)?;
     let mut bytes = [0u8; 1024];
@@ -163,29 +152,10 @@ fn a_long_line_is_cut_short_and_a_begun_one_dropped_at_a_failed_read(
     holds(&rt, portions.read(&mut bytes) == Err(Failed));
     holds(&rt, portions.end() == Some(PathEnd::ReadFailed));
     let mut path = handle.join(&rt);
-    holds(&rt, path.end == PathEnd::ReadFailed && path.from.is_over);
+    holds(&rt, path.end == PathEnd::ReadFailed);
+    holds(&rt, path.from.bytes.is_empty());
     holds(&rt, portions.gave_all(&mut path));
     Ok(())
-}
-
-// A path that gives these bytes and ends, or fails after them.
-#[derive(Drop)]
-struct Opening {
-    bytes: &'static [u8],
-    fails: bool,
-}
-
-impl Read for Opening {
-    fn read(&mut self, buffer: &mut [u8]) -> io::Result<usize> {
-        if self.bytes.is_empty() && self.fails {
-            return Err(io::Error::from(ErrorKind::Other));
-        }
-        let count = self.bytes.len().min(buffer.len());
-        let (now, later) = self.bytes.split_at(count);
-        buffer[..count].copy_from_slice(now);
-        self.bytes = later;
-        Ok(count)
-    }
 }
 
 // Further openings of a path, and how those before them have to end. After the last it stays closed.
@@ -207,6 +177,7 @@ impl<W: Wait + Clock> Reopen<Opening> for Openings<W> {
         }
         self.next = self.next.saturating_add(1);
         Opening {
+            letters: 0,
             bytes: b"*four;\n",
             fails: true,
         }
@@ -218,6 +189,7 @@ fn a_path_is_read_again_each_time_that_it_ends(rt: HostRuntime) -> Result<(), Fa
     let alloc = rt.alloc();
     let (reader, mut portions, hand_over) = connect(&rt, alloc)?;
     let first = Opening {
+        letters: 0,
         bytes: b"*one;\n*two;",
         fails: false,
     };
@@ -227,23 +199,11 @@ fn a_path_is_read_again_each_time_that_it_ends(rt: HostRuntime) -> Result<(), Fa
         next: 0,
     };
     let _thread = reader.start_again(&rt, rt, first, openings)?;
-    let mut bytes = Vec::new(alloc);
-    let mut buffer = [0u8; 7];
-    for _ in 0..100 {
-        let count = portions.read(&mut buffer).unwrap_or(0);
-        bytes.extend_from_slice(&buffer[..count])?;
-        if bytes.len() >= 26 {
-            break;
-        }
-    }
-    same(
-        &rt,
-        bytes.as_slice(),
-        b"*one;\n*two;\n*four;\n*four;\n".as_slice(),
-    );
+    let bytes = read_portion(alloc, &mut portions, 26)?;
+    same(&rt, bytes.as_slice(), b"*one;\n*two;\n*four;\n*four;\n");
     holds(&rt, portions.end().is_none());
     hand_over.request();
-    holds(&rt, portions.read(&mut buffer) == Ok(0));
+    holds(&rt, read_portion(alloc, &mut portions, 99)?.is_empty());
     Ok(())
 }
 
@@ -270,8 +230,7 @@ fn a_path_of_many_lines_is_given_to_its_end(rt: HostRuntime) -> Result<(), Fail>
     let alloc = rt.alloc();
     let (reader, mut portions, _) = connect(&rt, alloc)?;
     let handle = reader.start(&rt, rt, Repeated { times: 10_000 })?;
-    let mut bytes = Vec::new(alloc);
-    read_portion(&mut portions, &mut bytes)?;
+    let bytes = read_portion(alloc, &mut portions, 99_999)?;
     same(&rt, bytes.len(), 70_000);
     holds(&rt, portions.end() == Some(PathEnd::AtEnd));
     handle.join(&rt);
