@@ -12,11 +12,10 @@ use std::sync::Wait;
 fn pumped<R: Abort + Wait>(
     rt: &R,
     alloc: Global,
-    source: Pieces<'_>,
+    mut from: Pieces<'_>,
     turns: u32,
 ) -> (Result<Tally, PumpFault>, Journal) {
     let mut desk: Desk<512> = new_desk(rt, alloc, 16_777_216);
-    let mut from = source;
     let answer = pump_desk(rt, &mut desk, 3, &mut from, turns);
     (answer, desk.end(rt))
 }
@@ -24,23 +23,17 @@ fn pumped<R: Abort + Wait>(
 #[test]
 fn sources_are_pumped_to_their_end_or_fault(rt: HostRuntime) {
     let none = counted([0, 0], [0, 0], [0, 0, 0, 0]);
+    let one_frame = counted([1, 0], [0, 0], [0, 0, 0, 0]);
     let too_long = counted([0, 0], [0, 0], [0, 0, 0, 1]);
+    let three_faults = counted([0, 0], [0, 0], [0, 0, 0, 3]);
     let spaces = Pieces::repeated(&[b' '; 512], 2000, b"");
     let mut failing = Pieces::new(b"*8D4840D6202CC371C32CE0576098;\n*0000;\n");
     failing.most = 31;
     failing.fails_at = 2;
     let ticks_and_questions = Pieces::new(b"+1\n?\n+x\n");
     for (source, turns, want) in [
-        (
-            ticks_and_questions,
-            9,
-            Ok(counted([0, 0], [0, 0], [0, 0, 0, 3])),
-        ),
-        (
-            failing,
-            9,
-            Err(PumpFault::Read(counted([1, 0], [0, 0], [0, 0, 0, 0]))),
-        ),
+        (ticks_and_questions, 9, Ok(three_faults)),
+        (failing, 9, Err(PumpFault::Read(one_frame))),
         (spaces, 2001, Ok(too_long)),
         (spaces, 2000, Err(PumpFault::TooManyTurns(none))),
     ] {

@@ -180,7 +180,7 @@ pub fn new_desk_or_again<const N: usize>(rt: &impl Abort, alloc: Global, entries
     };
     match Desk::new(alloc, limits) {
         Ok(desk) => desk,
-        Err(_) => Desk::new(alloc, limits).expect(rt, "the second call has memory"),
+        Err(_) => new_desk(rt, alloc, entries),
     }
 }
 
@@ -197,17 +197,14 @@ pub fn frame_of(rt: &impl Abort, bytes: &[u8]) -> Frame {
 /// The tally of frames and of ticks, each accepted and refused, and of questions, blank lines, Mode A/C replies and
 /// faults.
 pub fn counted(frames: [u32; 2], ticks: [u32; 2], others: [u32; 4]) -> Tally {
-    let [frames_accepted, frames_refused] = frames;
-    let [ticks_accepted, ticks_refused] = ticks;
-    let [shows, blank, mode_ac, faults] = others;
-    let accepted = u64::from(frames_accepted) + u64::from(ticks_accepted);
-    let refused = u64::from(frames_refused) + u64::from(ticks_refused);
-    let (shows, blank) = (u64::from(shows), u64::from(blank));
-    let (mode_ac, faults) = (u64::from(mode_ac), u64::from(faults));
+    let accepted = u64::from(frames[0]) + u64::from(ticks[0]);
+    let refused = u64::from(frames[1]) + u64::from(ticks[1]);
+    let (shows, blank) = (u64::from(others[0]), u64::from(others[1]));
+    let (mode_ac, faults) = (u64::from(others[2]), u64::from(others[3]));
     Tally {
         lines: accepted + refused + shows + blank + mode_ac + faults,
-        frames: u64::from(frames_accepted) + u64::from(frames_refused),
-        ticks: u64::from(ticks_accepted) + u64::from(ticks_refused),
+        frames: u64::from(frames[0]) + u64::from(frames[1]),
+        ticks: u64::from(ticks[0]) + u64::from(ticks[1]),
         shows,
         blank,
         mode_ac,

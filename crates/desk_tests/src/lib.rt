@@ -12,11 +12,8 @@ mod desk_pump;
 #[cfg(test)]
 mod fakes;
 #[cfg(test)]
-#[cfg(test)]
 mod from_read;
 #[cfg(test)]
 mod piece;
-#[cfg(test)]
-mod readers;
 #[cfg(test)]
 mod replaying;

@@ -1,11 +1,12 @@
 //! Reads gathered to pieces while bytes are at hand.
-use crate::comparing::{same, same_at};
+use crate::comparing::same_at;
 use arrayvec::ArrayVec;
 use modes_frame::Cut;
 use station_lines::{
     Ended, FromBuffer, FromRead, LineTaker, ParsedLine, Source, parse_heard, take_lines,
 };
 use std::io::BufReader;
+use std::process::Abort;
 use std::test::*;
 
 const BYTES: [u8; 3000] = [b'\n'; 3000];
@@ -50,49 +51,39 @@ impl LineTaker for Lengths {
     ghost then = { λ _ _ _ _ _ _ _ _. tt };
 }
 
-// How the source ended in this many turns, and how many lines its pieces and its end had.
-fn gathered<S: Source>(from: &mut S, turns: u32) -> (Ended<()>, ArrayVec<usize, 8>) {
+// The source ends so in this many turns, and its pieces and its end have so many lines.
+fn gathers<S: Source>(rt: &impl Abort, from: &mut S, turns: u32, end: Ended<()>, pieces: &[usize]) {
     let mut taker = Lengths {
         count: 0,
         lengths: ArrayVec::new(),
     };
-    let ended = take_lines(&mut taker, from, turns);
-    (ended, taker.lengths)
+    same_at(rt, take_lines(&mut taker, from, turns), end, turns);
+    same_at(rt, taker.lengths.as_slice(), pieces, turns);
 }
 
+// They end with the turns.
 #[test]
 fn reads_go_on_while_bytes_are_at_hand(rt: HostRuntime) -> Result<(), Fail> {
-    for (turns, want, pieces) in [
-        (4, Ended::TurnsOver, [2048].as_slice()),
+    for (turns, end, pieces) in [
+        (3, Ended::TurnsOver, [1536].as_slice()),
+        (4, Ended::TurnsOver, &[2048]),
         (6, Ended::TurnsOver, &[2048, 952]),
         (7, Ended::AtEnd, &[2048, 952, 0, 0]),
         (9, Ended::AtEnd, &[2048, 952, 0, 0]),
     ] {
         let reader = BufReader::with_capacity(rt.alloc(), 2048, BYTES.as_slice())?;
-        let (ended, lengths) = gathered(&mut FromBuffer::new(reader), turns);
-        same_at(&rt, ended, want, turns);
-        same_at(&rt, lengths.as_slice(), pieces, turns);
+        gathers(&rt, &mut FromBuffer::new(reader), turns, end, pieces);
     }
     Ok(())
 }
 
 #[test]
-fn reads_end_with_the_turns(rt: HostRuntime) -> Result<(), Fail> {
-    let reader = BufReader::with_capacity(rt.alloc(), 2048, BYTES.as_slice())?;
-    let (ended, lengths) = gathered(&mut FromBuffer::new(reader), 3);
-    same(&rt, ended, Ended::TurnsOver);
-    same(&rt, lengths.as_slice(), [1536].as_slice());
-    Ok(())
-}
-
-#[test]
 fn a_source_that_does_not_know_is_read_once(rt: HostRuntime) {
-    for (turns, want, pieces) in [
+    for (turns, end, pieces) in [
         (1, Ended::TurnsOver, [512].as_slice()),
         (9, Ended::AtEnd, &[512, 512, 512, 512, 512, 440, 0, 0]),
     ] {
-        let (ended, lengths) = gathered(&mut FromRead::new(BYTES.as_slice()), turns);
-        same_at(&rt, ended, want, turns);
-        same_at(&rt, lengths.as_slice(), pieces, turns);
+        let mut from = FromRead::new(BYTES.as_slice());
+        gathers(&rt, &mut from, turns, end, pieces);
     }
 }

@@ -1,36 +1,14 @@
 //! A desk that forgets what is more than 70,000 ms old.
 
-use super::{
-    ALL_CALL, EVEN_PLACE, IDENTIFICATION, ODD_PLACE, OVERLAID_AFTER_A_LIFE,
-    OVERLAID_AT_THE_END_OF_A_LIFE, PLACES, REFUSED, TICKS, VELOCITY, call, shows_its_journal,
-};
+use super::{ALL_CALL, EVEN_PLACE, IDENTIFICATION, ODD_PLACE, STORIES, VELOCITY, call, shows};
 use crate::comparing::{holds_at, same, same_at};
 use crate::fakes::new_desk;
 use station_desk::Desk;
-use station_journal::Rows;
-use std::process::Abort;
-
-// Both desks show the same time and rows.
-fn show_the_same<const N: usize>(rt: &impl Abort, one: &Desk<N>, other: &Desk<N>, line: &str) {
-    same_at(rt, one.now(), other.now(), line);
-    same_at(rt, Rows::len(one), Rows::len(other), line);
-    for i in 0..Rows::len(one) {
-        if i < Rows::len(other) {
-            same_at(rt, Rows::row(one, i), Rows::row(other, i), line);
-        }
-    }
-}
 
 // A desk that forgets after each call refuses and shows what one that never does.
 #[test]
 fn desk_that_forgets_answers_as_one_that_does_not(rt: HostRuntime) {
-    for (calls, _) in [
-        REFUSED,
-        TICKS,
-        OVERLAID_AT_THE_END_OF_A_LIFE,
-        OVERLAID_AFTER_A_LIFE,
-        PLACES,
-    ] {
+    for (calls, _) in STORIES {
         let mut whole: Desk<512> = new_desk(&rt, rt.alloc(), 16_777_216);
         let mut short: Desk<512> = new_desk(&rt, rt.alloc(), 16_777_216);
         for (line, _) in calls {
@@ -38,8 +16,9 @@ fn desk_that_forgets_answers_as_one_that_does_not(rt: HostRuntime) {
             let answer = call(&rt, &mut short, 0, line);
             same_at(&rt, answer.err(), want.err(), line);
             short.forget_old();
-            show_the_same(&rt, &short, &whole, line);
-            shows_its_journal(&rt, &short, line);
+            shows(&rt, &whole, whole.journal(), line);
+            shows(&rt, &short, whole.journal(), line);
+            shows(&rt, &short, short.journal(), line);
         }
         let _journal = whole.end(&rt);
         let _journal = short.end(&rt);
@@ -56,13 +35,9 @@ fn entries_of_70_seconds_are_kept(rt: HostRuntime) {
             holds_at(&rt, call(&rt, &mut desk, 0, line).is_ok(), line);
         }
         desk.forget_old();
-        let journal = desk.journal();
-        same(
-            &rt,
-            (journal.len(), journal.base(), journal.now()),
-            (count, base, now),
-        );
-        let _journal = desk.end(&rt);
+        let journal = desk.end(&rt);
+        same(&rt, journal.now(), now);
+        same(&rt, (journal.len(), journal.base()), (count, base));
     }
 }
 
@@ -82,7 +57,7 @@ fn desk_that_forgets_never_fills_up(rt: HostRuntime) {
     ] {
         same_at(&rt, call(&rt, &mut desk, 0, line), Ok(want), line);
         desk.forget_old();
-        shows_its_journal(&rt, &desk, line);
+        shows(&rt, &desk, desk.journal(), line);
     }
     let _journal = desk.end(&rt);
 }
