@@ -1,18 +1,15 @@
 //! Receivers that feed their lines at the same time.
 ghost use Rattle.std.specs.Prelude.{◌≡◌};
-ghost use Rattle.station_desk.specs.History.{base_of};
 
 mod long;
 mod refused;
 mod torn;
 
 use crate::comparing::{holds, same};
-use crate::fakes::{becomes_set, new_places, push};
-use station_desk::Places;
-use station_journal::Limits;
+use crate::fakes::{Site, becomes_set, push};
+use crate::station::look_of;
 use station_lines::{FromRead, PumpFault, Source, Tally};
-use station_shared::{Seat, Station, StationName, Worker, run_receivers};
-use std::alloc::Global;
+use station_shared::{LimitsMet, Seat, Station, StationName, Worker, run_receivers};
 use std::io;
 use std::io::{ErrorKind, Read};
 use std::marker::Brand;
@@ -20,42 +17,27 @@ use std::process::Abort;
 use std::sync::Wait;
 use std::sync::atomic::AtomicU64;
 use std::sync::atomic::Ordering::SeqCst;
-use std::sync::ledger::Blank;
-use std::test::*;
 use std::thread::{Threads, yield_now};
-
-const LIMITS: Limits = Limits {
-    entries: 16,
-    aircraft: 8,
-};
 
 const IDENTIFICATION: &'static [u8] = b"*8D4840D6202CC371C32CE0576098;\n";
 
 const VELOCITY: &'static [u8] = b"*8D485020994409940838175B284F;\n";
 
-const ONE_LINE: Tally = Tally {
-    lines: 1,
-    frames: 1,
-    ticks: 0,
-    shows: 0,
-    blank: 0,
-    mode_ac: 0,
-    faults: 0,
-    accepted: 1,
-    refused: 0,
-};
-
-const REFUSED_LINE: Tally = Tally {
-    lines: 1,
-    frames: 1,
-    ticks: 0,
-    shows: 0,
-    blank: 0,
-    mode_ac: 0,
-    faults: 0,
-    accepted: 0,
-    refused: 1,
-};
+// The tally of blank lines, and of lines with frames by their answers.
+fn tally(blank: u16, accepted: u8, refused: u8) -> Tally {
+    let (accepted, refused) = (u64::from(accepted), u64::from(refused));
+    Tally {
+        lines: u64::from(blank) + accepted + refused,
+        frames: accepted + refused,
+        ticks: 0,
+        shows: 0,
+        blank: u64::from(blank),
+        mode_ac: 0,
+        faults: 0,
+        accepted,
+        refused,
+    }
+}
 
 // Waits until another receiver's aircraft is live, and says whether it is.
 trait Watch: Sized {
@@ -145,12 +127,12 @@ fn has_ended<S: Source, L: StationName>(rt: &impl Abort, worker: &Worker<8, S, L
         Some(Ok(counted)) => (counted, true),
         Some(Err(PumpFault::Read(counted))) => (counted, false),
         Some(Err(PumpFault::NoMemory(counted))) => {
-            same(rt, (counted, worker.seat.accepted()), (REFUSED_LINE, 0));
+            same(rt, (counted, worker.seat.accepted()), (tally(0, 0, 1), 0));
             return false;
         }
         _ => panic!(rt; "another answer"),
     };
-    same(rt, (counted, worker.seat.accepted()), (ONE_LINE, 1));
+    same(rt, (counted, worker.seat.accepted()), (tally(0, 1, 0), 1));
     has_ended
 }
 
@@ -161,10 +143,7 @@ fn close_all<const N: usize, L: StationName, R: Wait + Abort>(
     station: Station<N, L>,
     mut seats: Vec<Seat<N, L>>,
 ) -> u64 {
-    let look = match seats.pop().expect(rt, "a seat").look() {
-        Ok(look) => look,
-        Err(_) => panic!(rt; "a reader is let in"),
-    };
+    let look = look_of(rt, seats.pop().expect(rt, "a seat"));
     let entries = look.entries();
     push(rt, &mut seats, look.done());
     let closed = match station.close(rt, seats) {
@@ -179,27 +158,48 @@ fn close_all<const N: usize, L: StationName, R: Wait + Abort>(
     entries
 }
 
-// Takes the seats back from the workers, and says whether both ended their sources.
-fn have_ended<W: Watch + Drop, L: StationName>(
-    rt: &impl Abort,
-    seats: &mut Vec<Seat<8, L>>,
-    workers: Vec<Worker<8, FromRead<Meeting<'_, W>>, L>>,
-) -> bool {
-    let mut have_ended = true;
-    for worker in workers {
-        let has_ended = has_ended(rt, &worker);
-        have_ended = have_ended && has_ended;
-        let Worker { seat, .. } = worker;
-        push(rt, seats, seat);
-    }
-    have_ended
+// What two receivers leave: the answers of their pumps, how many entries there are, and which limits their calls met.
+#[derive(Drop)]
+struct Ran {
+    answers: [Option<Result<Tally, PumpFault>>; 2],
+    entries: u64,
+    limits: LimitsMet,
 }
 
-// The workers' vector. Out of memory it is made once more.
-fn room_for_two<T: Drop>(rt: &impl Abort, alloc: Global) -> Vec<T> {
-    match Vec::with_capacity(alloc, 2) {
-        Ok(room) => room,
-        Err(_) => Vec::with_capacity(alloc, 2).expect(rt, "the second call has memory"),
+// Runs the workers, of which there are none yet, and then those of two sources, each with at most this many reads. The first
+// source is that of the last seat. Then it closes the station.
+fn run_pair<
+    const N: usize,
+    S: Source + Send + Drop,
+    L: StationName + Send + Sync,
+    R: Threads + Wait + Abort + Sync,
+>(
+    rt: &R,
+    station: Station<N, L>,
+    mut seats: Vec<Seat<N, L>>,
+    mut workers: Vec<Worker<N, S, L>>,
+    sources: [S; 2],
+    turns: u32,
+) -> Ran {
+    run_receivers(rt, &station, workers.as_mut_slice(), turns);
+    same(rt, workers.len(), 0);
+    let [first, second] = sources;
+    let last_seat = seats.pop().expect(rt, "the last seat");
+    push(rt, &mut workers, worker(last_seat, first));
+    let seat_before = seats.pop().expect(rt, "the seat before");
+    push(rt, &mut workers, worker(seat_before, second));
+    run_receivers(rt, &station, workers.as_mut_slice(), turns);
+    let second = workers.pop().expect(rt, "the second worker");
+    let first = workers.pop().expect(rt, "the first worker");
+    let answers = [first.answer, second.answer];
+    push(rt, &mut seats, first.seat);
+    push(rt, &mut seats, second.seat);
+    let limits = station.limits_met();
+    let entries = close_all(rt, station, seats);
+    Ran {
+        answers,
+        entries,
+        limits,
     }
 }
 
@@ -207,22 +207,21 @@ fn room_for_two<T: Drop>(rt: &impl Abort, alloc: Global) -> Vec<T> {
 // third seat. False where something was refused.
 fn is_meeting<L: StationName + Send + Sync, R: Threads + Wait + Abort + Sync>(
     rt: &R,
-    alloc: Global,
-    blank: Blank,
-    places: Places<8>,
+    site: Site<8>,
 ) -> bool
-    requires ledger { (blank.name ≡ L.name) × (blank.parts ≡ L.parts) }
-    requires seats { (L.parts ≡ 3) × (L.seats ≡ 3) × (places.places ≡ 3) }
-    requires start { (L.start.history ≡ places.history) × (L.start.resumed ≡ 0) }
-    requires base { base_of places.history ≡ 0 }
-    requires limits { L.start.limits ≡ record { entries = 16; aircraft = 8 } }
+    requires ledger { (L.name ≡ site.blank.name) × (L.parts ≡ site.seats) × (L.seats ≡ site.seats) }
+    requires start { L.start ≡ record { history = site.places.history; limits = site.limits; resumed = 0 } }
 {
-    let Ok((station, mut seats)) = Station::<8, L>::new(rt, alloc, LIMITS, 3, blank, places) else {
+    let alloc = site.alloc;
+    let Ok((station, mut seats)) = site.open::<L, R>(rt) else {
         return false;
     };
     let word = AtomicU64::new(0);
     let (mut looking, mut waiting) = (seats.pop(), None);
-    let mut workers = room_for_two(rt, alloc);
+    let Ok(mut workers) = Vec::with_capacity(alloc, 2) else {
+        station.end(rt);
+        return false;
+    };
     let first = seats.pop().expect(rt, "the first receiver's seat");
     let source = Meeting {
         rest: IDENTIFICATION,
@@ -238,7 +237,11 @@ fn is_meeting<L: StationName + Send + Sync, R: Threads + Wait + Abort + Sync>(
     };
     push(rt, &mut workers, worker(second, FromRead::new(source)));
     run_both(rt, &station, workers.as_mut_slice());
-    let have_ended = have_ended(rt, &mut seats, workers);
+    let mut have_ended = true;
+    for worker in workers {
+        have_ended &= has_ended(rt, &worker);
+        push(rt, &mut seats, worker.seat);
+    }
     push(rt, &mut seats, looking.expect(rt, "the seat that looks"));
     same(rt, seats.len(), 3);
     let entries = close_all(rt, station, seats);
@@ -248,10 +251,7 @@ fn is_meeting<L: StationName + Send + Sync, R: Threads + Wait + Abort + Sync>(
 
 #[test]
 fn receivers_are_seen_while_both_still_read(rt: HostRuntime) {
-    let places = new_places(&rt, rt.alloc(), 3);
-    if !is_meeting::<Brand, _>(&rt, rt.alloc(), Blank::new(3), places) {
-        let places = new_places(&rt, rt.alloc(), 3);
-        let have_met = is_meeting::<Brand, _>(&rt, rt.alloc(), Blank::new(3), places);
-        holds(&rt, have_met);
-    }
+    let have_met = is_meeting::<Brand, _>(&rt, Site::new(&rt, rt.alloc(), 16, 3, 3))
+        || is_meeting::<Brand, _>(&rt, Site::new(&rt, rt.alloc(), 16, 3, 3));
+    holds(&rt, have_met);
 }

@@ -1,20 +1,15 @@
 //! Which limits the calls of a station have met.
-ghost use Rattle.std.specs.Prelude.{◌≡◌, ◌≤◌};
-ghost use Rattle.station_desk.specs.History.{base_of};
+ghost use Rattle.std.specs.Prelude.{◌≡◌};
 
 use super::Call::{self, Hear, Tick};
-use super::{IDENTIFICATION, SQUAWK, VELOCITY, index_of, once};
+use super::{IDENTIFICATION, SQUAWK, VELOCITY, answer};
 use crate::comparing::same;
-use crate::fakes::{limits_met, new_places};
-use station_desk::Places;
-use station_journal::{Limits, Refusal};
-use station_shared::{Station, StationName};
-use std::alloc::Global;
+use crate::fakes::{Site, limits_met};
+use station_journal::Refusal;
+use station_shared::StationName;
 use std::marker::Brand;
 use std::process::Abort;
 use std::sync::Wait;
-use std::sync::ledger::Blank;
-use std::test::*;
 
 // A call with its answer, and whether the journal's limit and the table's have been met then.
 type Known = (Call, Result<u64, Refusal>, bool, bool);
@@ -31,60 +26,32 @@ const CALLS: [Known; 9] = [
     (Tick(5), Err(Refusal::NotLater(5)), true, true),
 ];
 
-// Makes the calls one after another at a station for so many entries and one aircraft.
-fn meet<L: StationName, R: Wait + Abort>(
-    rt: &R,
-    alloc: Global,
-    entries: u32,
-    blank: Blank,
-    places: Places<1>,
-    calls: &[Known],
-) -> Result<(), Fail>
-    requires few { entries ≤ 16 }
-    requires ledger { (blank.name ≡ L.name) × (blank.parts ≡ L.parts) }
-    requires seats { (L.parts ≡ 1) × (L.seats ≡ 1) × (places.places ≡ 1) }
-    requires start { (L.start.history ≡ places.history) × (L.start.resumed ≡ 0) }
-    requires base { base_of places.history ≡ 0 }
-    requires limits { L.start.limits ≡ record { entries = entries; aircraft = 1 } }
+// Makes the calls one after another at a station of one seat and for one aircraft.
+fn meet<L: StationName, R: Wait + Abort>(rt: &R, site: Site<1>, calls: &[Known])
+    requires ledger { (L.name ≡ site.blank.name) × (L.parts ≡ site.seats) × (L.seats ≡ site.seats) }
+    requires start { L.start ≡ record { history = site.places.history; limits = site.limits; resumed = 0 } }
 {
-    let limits = Limits {
-        entries,
-        aircraft: 1,
-    };
-    let (station, mut seats) = Station::<1, L>::new(rt, alloc, limits, 1, blank, places)?;
+    let (station, mut seats) = site.open::<L, R>(rt).expect(rt, "a station");
     let mut seat = seats.pop().expect(rt, "the seat");
     same(rt, station.limits_met(), limits_met(false, false));
     for (call, want, journal, table) in calls {
-        same(rt, index_of(&once(rt, &station, &mut seat, *call)), *want);
+        same(rt, answer(rt, &station, &mut seat, *call), *want);
         same(rt, station.limits_met(), limits_met(*journal, *table));
     }
     station.end(rt);
-    Ok(())
-}
-
-fn meet_at_new_places<R: Wait + Abort>(
-    rt: &R,
-    alloc: Global,
-    entries: u32,
-    calls: &[Known],
-) -> Result<(), Fail>
-    requires few { entries ≤ 16 }
-{
-    let places = new_places(rt, alloc, 1);
-    meet::<Brand, _>(rt, alloc, entries, Blank::new(1), places, calls)
 }
 
 #[test]
-fn a_station_notes_the_limits_that_calls_meet(rt: HostRuntime) -> Result<(), Fail> {
-    meet_at_new_places(&rt, rt.alloc(), 2, &CALLS)
+fn a_station_notes_the_limits_that_calls_meet(rt: HostRuntime) {
+    meet::<Brand, _>(&rt, Site::new(&rt, rt.alloc(), 2, 1, 1), &CALLS);
 }
 
 // Where both limits are reached, a frame of another aircraft meets the journal's.
 #[test]
-fn a_frame_meets_one_limit(rt: HostRuntime) -> Result<(), Fail> {
+fn a_frame_meets_one_limit(rt: HostRuntime) {
     let calls = [
         (Hear(IDENTIFICATION), Ok(0), false, false),
         (Hear(VELOCITY), Err(Refusal::JournalFull), true, false),
     ];
-    meet_at_new_places(&rt, rt.alloc(), 1, &calls)
+    meet::<Brand, _>(&rt, Site::new(&rt, rt.alloc(), 1, 1, 1), &calls);
 }
