@@ -4,9 +4,10 @@ mod plain;
 
 use crate::comparing::{same, same_at};
 use crate::known::{ALL_CALL, KLM1023, frame};
+use modes_frame::CheckFault::{BadParity, Unassigned, Unsupported};
 use modes_frame::readers::claim;
 use modes_frame::{
-    CheckFault, CheckedFrame, Claim, Cut, Cutter, Frame, Line, LineFault, read_line, remainder,
+    CheckedFrame, Claim, Cut, Cutter, Frame, Line, LineFault, read_cut, read_line, remainder,
 };
 use std::test::Fail;
 
@@ -35,7 +36,6 @@ fn lines_say_a_frame_or_their_first_fault(rt: HostRuntime) -> Result<(), Fail> {
         ("*8D4840D6202CC3;", Err(LineFault::WrongLength(17))),
     ] {
         same_at(&rt, read_line(line.as_bytes()), want, line);
-        same_at(&rt, read_line(line.as_bytes()), want, line);
     }
     Ok(())
 }
@@ -51,14 +51,7 @@ fn blanks_count_towards_the_64_bytes_of_a_line(rt: HostRuntime) {
 fn a_cut_line_reads_as_its_bytes(rt: HostRuntime) -> Result<(), Fail> {
     for bytes in [" *0000;\t\n", "*0000\n", " \r\n", "\n"] {
         match Cutter::new().push_line(bytes.as_bytes()).1 {
-            Some(Cut::Whole(cut)) => {
-                same_at(
-                    &rt,
-                    modes_frame::read_cut(&cut),
-                    read_line(cut.bytes()),
-                    bytes,
-                )
-            }
+            Some(Cut::Whole(cut)) => same_at(&rt, read_cut(&cut), read_line(cut.bytes()), bytes),
             _ => return Err("no line".into()),
         }
     }
@@ -91,60 +84,40 @@ fn bits_are_counted_in_the_order_in_which_they_are_sent(rt: HostRuntime) -> Resu
     Ok(())
 }
 
+// A line, the remainder of its frame, the address for which it speaks, and whether that is overlaid.
+const CLAIMS: &[(&str, u32, u32, bool)] = &[
+    ("*8D4840D6202CC371C32CE0576098;", 0, 0x48_40D6, false),
+    // DF 18 with control field 0
+    ("*904840D6202CC371C32CE02A6C6D;", 0, 0x48_40D6, false),
+    ("*5D484FDEA248E3;", 0, 0x48_4FDE, false),
+    ("*5D484FDEA248F5;", 0x16, 0x48_4FDE, true),
+    ("*5D484FDEA2489C;", 0x7F, 0x48_4FDE, true),
+    ("*2A00516D492B80;", 0x51_0AF9, 0x51_0AF9, true),
+    ("*20000100DF6126;", 0x51_0AF9, 0x51_0AF9, true),
+    ("*000014B496B148;", 0x48_40D6, 0x48_40D6, true),
+    ("*800014B4000000000000003EAE64;", 0x48_40D6, 0x48_40D6, true),
+    // Replies without an address, and with one bit or two before a parity of zero.
+    ("*00000000000000;", 0, 0, true),
+    ("*00000001000000;", 0xFF_F409, 0xFF_F409, true),
+    ("*00000002000000;", 0x00_1C1B, 0x00_1C1B, true),
+    ("*00000003000000;", 0xFF_E812, 0xFF_E812, true),
+    ("*00000080000000;", 0x07_06C0, 0x07_06C0, true),
+];
+
 #[test]
 fn remainders_are_what_was_laid_over_the_parity(rt: HostRuntime) -> Result<(), Fail> {
-    for (line, want, address) in [
-        ("*8D4840D6202CC371C32CE0576098;", 0x00_0000, 0x48_40D6),
-        ("*2A00516D492B80;", 0x51_0AF9, 0x51_0AF9),
-        ("*20000100DF6126;", 0x51_0AF9, 0x51_0AF9),
-        ("*5D484FDEA248E3;", 0x00_0000, 0x48_4FDE),
-        ("*5D484FDEA248F5;", 0x00_0016, 0x48_4FDE),
-        ("*000014B496B148;", 0x48_40D6, 0x48_40D6),
-        ("*800014B4000000000000003EAE64;", 0x48_40D6, 0x48_40D6),
-    ] {
-        let frame = frame(line)?;
-        same_at(&rt, remainder(&frame), want, line);
-        let overlaid = want != 0;
-        same_at(&rt, claim(&frame), Ok(Claim { address, overlaid }), line);
-    }
-    Ok(())
-}
-
-// The byte is the last before the parity, which is zero, in a reply whose address is its remainder.
-#[test]
-fn parities_of_single_bytes(rt: HostRuntime) -> Result<(), Fail> {
-    for (byte, want) in [
-        (0, 0x00_0000),
-        (1, 0xFF_F409),
-        (2, 0x00_1C1B),
-        (3, 0xFF_E812),
-        (128, 0x07_06C0),
-    ] {
-        let frame = Frame::from_bytes(&[0, 0, 0, byte, 0, 0, 0]).ok_or("no frame")?;
-        assert_eq!(rt; remainder(&frame), want, "byte {byte}");
-        let (address, overlaid) = (want, true);
-        assert_eq!(rt;
-            claim(&frame),
-            Ok(Claim { address, overlaid }),
-            "byte {byte}"
-        );
+    for (line, remains, _, _) in CLAIMS {
+        same_at(&rt, remainder(&frame(*line)?), *remains, line);
     }
     Ok(())
 }
 
 #[test]
 fn frames_speak_for_an_address(rt: HostRuntime) -> Result<(), Fail> {
-    for (line, address, overlaid) in [
-        ("*8D4840D6202CC371C32CE0576098;", 0x48_40D6, false),
-        // DF 18 with control field 0
-        ("*904840D6202CC371C32CE02A6C6D;", 0x48_40D6, false),
-        ("*5D484FDEA248E3;", 0x48_4FDE, false),
-        ("*5D484FDEA2489C;", 0x48_4FDE, true),
-        ("*2A00516D492B80;", 0x51_0AF9, true),
-        ("*00000000000000;", 0, true),
-    ] {
+    for (line, _, address, overlaid) in CLAIMS {
+        let (address, overlaid) = (*address, *overlaid);
         let wanted = Ok(Claim { address, overlaid });
-        let heard = frame(line)?;
+        let heard = frame(*line)?;
         same_at(&rt, claim(&heard), wanted, line);
         let checked = CheckedFrame::of(heard);
         same_at(&rt, checked.claim(), wanted, line);
@@ -156,21 +129,15 @@ fn frames_speak_for_an_address(rt: HostRuntime) -> Result<(), Fail> {
 #[test]
 fn frames_speak_for_nobody_with_their_first_fault(rt: HostRuntime) -> Result<(), Fail> {
     for (line, fault) in [
-        ("*8D4840D6202CC371C32CE0576099;", CheckFault::BadParity(1)),
-        ("*904840D6202CC371C32CE02A6C6C;", CheckFault::BadParity(1)),
+        ("*8D4840D6202CC371C32CE0576099;", BadParity(1)),
+        ("*904840D6202CC371C32CE02A6C6C;", BadParity(1)),
         // DF 18 with control field 1
-        (
-            "*914840D6202CC371C32CE0000000;",
-            CheckFault::Unsupported(18),
-        ),
-        ("*5D484FDEA24863;", CheckFault::BadParity(128)),
-        ("*5D00000064E712;", CheckFault::Unassigned(0)),
-        ("*5DFFFFFF28E024;", CheckFault::Unassigned(0xFF_FFFF)),
-        ("*08000000000000;", CheckFault::Unsupported(1)),
-        (
-            "*C000000000000000000000000000;",
-            CheckFault::Unsupported(24),
-        ),
+        ("*914840D6202CC371C32CE0000000;", Unsupported(18)),
+        ("*5D484FDEA24863;", BadParity(128)),
+        ("*5D00000064E712;", Unassigned(0)),
+        ("*5DFFFFFF28E024;", Unassigned(0xFF_FFFF)),
+        ("*08000000000000;", Unsupported(1)),
+        ("*C000000000000000000000000000;", Unsupported(24)),
     ] {
         same_at(&rt, claim(&frame(line)?), Err(fault), line);
     }
@@ -178,16 +145,13 @@ fn frames_speak_for_nobody_with_their_first_fault(rt: HostRuntime) -> Result<(),
 }
 
 // What a cutter answers: the bytes of a line, or that it is too long, or that no line ended.
-fn answer(cut: &Option<Cut>) -> Option<Result<&[u8], TooLong>> {
+fn answer(cut: &Option<Cut>) -> Option<Result<&[u8], LineFault>> {
     match cut {
         Some(Cut::Whole(line)) => Some(Ok(line.bytes())),
-        Some(Cut::TooLong) => Some(Err(TooLong)),
+        Some(Cut::TooLong) => Some(Err(LineFault::TooLong)),
         None => None,
     }
 }
-
-#[derive(Clone, Copy, Debug, PartialEq, Eq)]
-struct TooLong;
 
 #[test]
 fn bytes_are_cut_one_by_one(rt: HostRuntime) {
@@ -198,19 +162,20 @@ fn bytes_are_cut_one_by_one(rt: HostRuntime) {
         (b"", Some(Ok(b"*8D4840D6202CC371C32CE0576098;".as_slice()))),
         (b"", None),
         (&[b' '; 65], None),
-        (b"\n", Some(Err(TooLong))),
+        (b"\n", Some(Err(LineFault::TooLong))),
         (b"*0000;\n", Some(Ok(b"*0000;"))),
         (b"\n", Some(Ok(b""))),
         (b"", None),
         (&[b'x'; 64], None),
         (b"\n", Some(Ok(&[b'x'; 64]))),
         (&[b'x'; 65], None),
-        (b"", Some(Err(TooLong))),
+        (b"", Some(Err(LineFault::TooLong))),
     ] {
-        let mut cut = None;
-        if bytes.is_empty() {
-            cut = cutter.finish();
-        }
+        let mut cut = if bytes.is_empty() {
+            cutter.finish()
+        } else {
+            None
+        };
         for byte in bytes {
             cut = cutter.push(*byte);
         }
@@ -231,7 +196,7 @@ fn bytes_are_cut_in_pieces(rt: HostRuntime) {
         (b"\n*00", 1, Some(Ok(b""))),
         (b"*00", 3, None),
         (&[b'0'; 62], 62, None),
-        (b"\n", 1, Some(Err(TooLong))),
+        (b"\n", 1, Some(Err(LineFault::TooLong))),
         (b"", 0, None),
     ] {
         let (taken, cut) = cutter.push_line(bytes);

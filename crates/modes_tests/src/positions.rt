@@ -1,79 +1,58 @@
 //! Positions, zones and places with values from outside.
 
-use modes_cpr::{Degrees, encode, pair, zones};
-use modes_fields::Place;
+use crate::comparing::same_at;
+use crate::known::place;
+use modes_cpr::{Degrees, Position, encode, pair, zones};
 
-fn place(odd: bool, bins: (u32, u32)) -> Place {
-    Place {
-        odd,
-        lat: bins.0,
-        lon: bins.1,
-    }
+// An angle whose denominator is this number of zones of 2^17 bins.
+fn angle(num: i64, zones: u8) -> Degrees {
+    let den = u32::from(zones) * 131_072;
+    Degrees { num, den }
 }
 
 #[test]
 fn positions_of_pairs(rt: HostRuntime) {
-    // The bins of the even place and of the odd one, whether the odd place is the newest, and the fractions of the
-    // position's latitude and longitude.
-    for (even, odd, newest_odd, want) in [
-        (
-            (65536, 0),
-            (33860, 0),
-            false,
-            Some(((87 * 7864320, 7864320), (0, 262144))),
-        ),
-        (
-            (0, 0),
-            (2185, 0),
-            false,
-            Some(((-47185920, 7864320), (0, 7733248))),
-        ),
-        (
-            (0, 65536),
-            (0, 0),
-            false,
-            Some(((0, 7864320), (-1391984640, 7733248))),
-        ),
-        (
-            (0, 0),
-            (32768, 0),
-            false,
-            Some(((-90 * 7864320, 7864320), (0, 131072))),
-        ),
+    // The bins of the even place and of the odd one, whether the odd place is the newest, and the latitude and the
+    // longitude of the position.
+    for (even, odd, newest_odd, lat, lon) in [
+        ((65536, 0), (33860, 0), false, (87 * 7864320, 60), (0, 2)),
+        ((0, 0), (2185, 0), false, (-47185920, 60), (0, 59)),
+        ((0, 65536), (0, 0), false, (0, 60), (-1391984640, 59)),
+        ((0, 0), (32768, 0), false, (-90 * 7864320, 60), (0, 1)),
         (
             (93000, 51372),
             (74158, 50194),
             true,
-            Some(((404184240, 7733248), (18069840, 4587520))),
+            (404184240, 59),
+            (18069840, 35),
         ),
-        // A latitude beyond a pole.
-        ((0, 0), (43691, 0), false, None),
-        // The even latitude has more longitude zones than the odd one.
-        ((97658, 0), (93847, 0), false, None),
-        // The odd latitude has more: the even one, 6 (1 + 97659/2^17) = 10.470474, has 58, and the odd one,
-        // 360/59 (1 + 93846/2^17) = 10.470436, has 59. The number falls at 10.4704713.
-        ((97659, 0), (93846, 0), false, None),
-        ((97659, 0), (93846, 0), true, None),
         // Half a zone is rounded up: (59 * 1124 - 60 * 13)/2^17 = 1/2, so the index is 1, and the even latitude
         // 6 (1 + 1124/2^17), which is 360 (131072 + 1124)/(60 * 2^17).
-        (
-            (1124, 0),
-            (13, 0),
-            false,
-            Some(((360 * 132_196, 7864320), (0, 7733248))),
-        ),
-        (
-            (1124, 0),
-            (13, 0),
-            true,
-            Some(((360 * 131_085, 7733248), (0, 7602176))),
-        ),
+        ((1124, 0), (13, 0), false, (360 * 132_196, 60), (0, 59)),
+        ((1124, 0), (13, 0), true, (360 * 131_085, 59), (0, 58)),
     ] {
-        let even = place(false, even);
-        let odd = place(true, odd);
-        let position = pair(even, odd, newest_odd);
-        let fractions = position.map(|p| ((p.lat.num, p.lat.den), (p.lon.num, p.lon.den)));
-        assert_eq!(rt; fractions, want, "{even:?}, {odd:?}");
+        let (even, odd) = (place(false, even.0, even.1), place(true, odd.0, odd.1));
+        let (lat, lon) = (angle(lat.0, lat.1), angle(lon.0, lon.1));
+        let want = Some(Position { lat, lon });
+        assert_eq!(rt; pair(even, odd, newest_odd), want, "{even:?}, {odd:?}");
+    }
+}
+
+#[test]
+fn pairs_without_a_position(rt: HostRuntime) {
+    // The bins of the even latitude and of the odd one, and whether the odd place is the newest.
+    for (even, odd, newest_odd) in [
+        // A latitude beyond a pole.
+        (0, 43691, false),
+        // The even latitude has more longitude zones than the odd one.
+        (97658, 93847, false),
+        // The odd latitude has more: the even one, 6 (1 + 97659/2^17) = 10.470474, has 58, and the odd one,
+        // 360/59 (1 + 93846/2^17) = 10.470436, has 59. The number falls at 10.4704713.
+        (97659, 93846, false),
+        (97659, 93846, true),
+    ] {
+        let position = pair(place(false, even, 0), place(true, odd, 0), newest_odd);
+        same_at(&rt, position, None, odd);
     }
 }
 
@@ -100,35 +79,20 @@ fn a_point_is_sent_as_the_nearest_bins(rt: HostRuntime) {
         // degrees, which have 58. At 90 degrees east 58 zones give bin 1/2 * 2^17, and 59 would give 3/4 * 2^17.
         ((1047046, 100000), (90, 1), false, (97659, 65536)),
     ] {
-        let lat = Degrees {
-            num: lat.0,
-            den: lat.1,
-        };
-        let lon = Degrees {
-            num: lon.0,
-            den: lon.1,
-        };
+        let degrees = |(num, den)| Degrees { num, den };
+        let (lat, lon) = (degrees(lat), degrees(lon));
         assert!(rt; lat.den > 0 && lat.num.unsigned_abs() <= 90 * u64::from(lat.den));
         assert!(rt; lon.den > 0 && lon.num.unsigned_abs() <= 360 * u64::from(lon.den));
-        let want = place(odd, want);
+        let want = place(odd, want.0, want.1);
         assert_eq!(rt; encode(lat, lon, odd), want, "{lat:?}, {lon:?}");
     }
 }
 
 #[test]
 fn zones_of_latitudes(rt: HostRuntime) {
-    for (num, den, want) in [
-        (0, 1, 59),
-        (87, 1, 2),
-        (-87, 1, 2),
-        (8700000001, 100000000, 1),
-        (90, 1, 1),
-        (1047047130, 100000000, 59),
-        (1047047131, 100000000, 58),
-    ] {
-        let num: i64 = num;
-        assert!(rt; den > 0 && num.unsigned_abs() <= 90 * u64::from(den));
-        assert_eq!(rt; zones(num, den), want, "at {num}/{den}");
+    for (degrees, want) in [(0_i64, 59), (87, 2), (-87, 2), (90, 1)] {
+        assert!(rt; degrees.unsigned_abs() <= 90);
+        same_at(&rt, zones(degrees, 1), want, degrees);
     }
 }
 

@@ -1,7 +1,7 @@
 //! Every single byte, and a known line with every byte in each place.
-ghost use Rattle.std.specs.Prelude.{◌<◌, ◌≤◌, IfSome};
+ghost use Rattle.std.specs.Prelude.{◌<◌, ◌≤◌};
 
-use crate::known::{KLM1023, KLM1023_LINE};
+use crate::known::{KLM1023, KLM1023_LINE, frame_in};
 use modes_frame::{Cutter, Frame, Line, LineFault, PlainLine, read_line};
 
 #[test]
@@ -24,12 +24,8 @@ fn all_readers_agree_on_a_line_with_a_byte_replaced(rt: HostRuntime) {
             line[place] = byte;
             let want = with_byte(place, byte);
             assert_eq!(rt; read_line(&line[..30]), want, "byte {byte} at {place}");
-            assert_eq!(rt; read_line(&line[..30]), want, "byte {byte} at {place}");
-            assert_eq!(rt;
-                Cutter::new().plain_line(&line),
-                plain(want),
-                "byte {byte} at {place}"
-            );
+            let seen = Cutter::new().plain_line(&line);
+            assert_eq!(rt; seen, plain(want), "byte {byte} at {place}");
         }
     }
 }
@@ -65,8 +61,8 @@ fn with_byte(place: usize, byte: u8) -> Result<Line, LineFault>
         (0, b'@') => Err(LineFault::BadLength(28)),
         (0, _) => Err(LineFault::NoStart),
         (29, _) => Err(LineFault::NoEnd),
-        _ => match hex_value(byte) {
-            Some(value) => said(&with_digit(place, value)),
+        _ => match char::from(byte).to_digit(16) {
+            Some(value) => said(&with_digit(place, value as u8)),
             None => Err(LineFault::BadDigit(place as u8)),
         },
     }
@@ -98,19 +94,6 @@ fn with_digit(place: usize, value: u8) -> [u8; 14]
 
 // A plain line of 31 bytes, where the line says a frame.
 fn plain(line: Result<Line, LineFault>) -> Option<PlainLine> {
-    match line.ok()? {
-        Line::Frame(frame) => Some(PlainLine { length: 31, frame }),
-        Line::ModeAc | Line::Blank => None,
-    }
-}
-
-fn hex_value(byte: u8) -> Option<u8>
-    ensures { IfSome result (λ value. value < 16) }
-{
-    match byte {
-        b'0'..=b'9' => Some(byte - b'0'),
-        b'A'..=b'F' => Some(byte - b'A' + 10),
-        b'a'..=b'f' => Some(byte - b'a' + 10),
-        _ => None,
-    }
+    let frame = frame_in(line.ok())?;
+    Some(PlainLine { length: 31, frame })
 }
