@@ -1,13 +1,16 @@
 //! Known frames, given to a journal and to a book. Both answer and show the same after each.
 
+ghost use Rattle.std.specs.Prelude.{◌≡◌};
+
 mod lists;
 mod positions;
 mod repeats;
 
 use crate::calls::Call::{self, Hear, Tick};
-use crate::calls::{entry, frame, once};
+use crate::calls::{entry, once};
 use crate::comparing::{holds, same};
-use crate::known::{ALL_CALL, IDENTIFICATION, SHORT_AIR};
+use crate::journal::{REPLY_AT_A_FULL_TABLE, Script};
+use crate::known::{IDENTIFICATION, SHORT_AIR};
 use station_book::Book;
 use station_journal::{Aircraft, Entry, Journal, Limits, PlacedRows, Refusal, Rows};
 use std::alloc::Global;
@@ -50,20 +53,44 @@ fn give<const N: usize>(
     journal: &mut Journal,
     book: &mut Book<N>,
     entry: &Entry,
-) -> Result<(), Refusal> {
-    let answer = match once(journal, entry) {
-        Ok(place) => {
-            same(rt, place, book.entries());
-            Ok(())
-        }
-        Err(refusal) => Err(refusal),
-    };
-    same_verdict(rt, book, entry, answer);
-    if answer.is_ok() {
+) -> Result<u64, Refusal> {
+    let answer = once(journal, entry);
+    same_verdict(rt, book, entry, answer.map(|_| ()));
+    if let Ok(place) = answer {
+        same(rt, place, book.entries());
         book.offer(entry);
     }
     same(rt, book.entries(), journal.len());
     answer
+}
+
+// Makes the call. Both show the same after it, and the entry is at the place that they answer.
+fn make<const N: usize>(
+    rt: &impl Abort,
+    journal: &mut Journal,
+    book: &mut Book<N>,
+    call: Call,
+    alloc: Global,
+) -> Result<Result<u64, Refusal>, Fail> {
+    let entry = entry(call)?;
+    let answer = give(rt, journal, book, &entry);
+    if let Ok(place) = answer {
+        same(rt, journal.get(place), Some(entry));
+    }
+    let rows = journal.all(alloc)?;
+    same_rows(rt, rows.as_slice(), book);
+    same_times(rt, journal, book);
+    same(rt, book.now(), journal.now());
+    Ok(answer)
+}
+
+fn limits(aircraft: usize) -> Limits
+    ensures { result.entries ≡ 16 }
+{
+    Limits {
+        entries: 16,
+        aircraft: u32::try_from(aircraft).unwrap_or(u32::MAX),
+    }
 }
 
 // The book after the calls. It shows what the journal does after each.
@@ -72,147 +99,61 @@ fn compare<const N: usize>(
     alloc: Global,
     calls: &[Call],
 ) -> Result<Book<N>, Fail> {
-    let limits = Limits {
-        entries: 16,
-        aircraft: u32::try_from(N).unwrap_or(u32::MAX),
-    };
-    let mut journal = Journal::new(alloc, limits);
+    let mut journal = Journal::new(alloc, limits(N));
     let mut book = Book::<N>::new();
     for call in calls {
-        let _answer = give(rt, &mut journal, &mut book, &entry(*call)?);
-        let rows = journal.all(alloc)?;
-        same_rows(rt, rows.as_slice(), &book);
-        same_times(rt, &journal, &book);
-        same(rt, book.now(), journal.now());
+        let _answer = make(rt, &mut journal, &mut book, *call, alloc)?;
     }
     Ok(book)
 }
 
-#[test]
-fn an_aircraft_lives_for_sixty_seconds(rt: HostRuntime) -> Result<(), Fail> {
-    let alloc = rt.alloc();
-    let book: Book<4> = compare(
-        &rt,
-        alloc,
-        &[Tick(1000), Hear(IDENTIFICATION), Tick(61_000)],
-    )?;
-    let row = book.get(0x4840D6).ok_or("no aircraft")?;
-    holds(
-        &rt,
-        row.callsign.ok_or("no callsign")?.bytes() == b"KLM1023".as_slice(),
-    );
-    same(&rt, row.heard, 1000);
-    let over = [
-        Tick(1000),
-        Hear(IDENTIFICATION),
-        Tick(61_000),
-        Tick(61_001),
-        Tick(61_001),
-    ];
-    let book: Book<4> = compare(&rt, alloc, &over)?;
-    same(&rt, book.len(), 0);
-    same(&rt, book.now(), 61_001);
-    same(
-        &rt,
-        book.verdict_tick(61_001),
-        Err(Refusal::NotLater(61_001)),
-    );
-    Ok(())
-}
-
-#[test]
-fn the_last_tick_of_all(rt: HostRuntime) -> Result<(), Fail> {
-    let alloc = rt.alloc();
-    let book: Book<4> = compare(
-        &rt,
-        alloc,
-        &[
-            Tick(0),
-            Hear(IDENTIFICATION),
-            Tick(u64::MAX),
-            Tick(u64::MAX),
-        ],
-    )?;
-    same(&rt, book.entries(), 2);
-    same(&rt, book.verdict_tick(5), Err(Refusal::NotLater(u64::MAX)));
-    same(
-        &rt,
-        Book::<4>::new().verdict_tick(0),
-        Err(Refusal::NotLater(0)),
-    );
-    Ok(())
+/// A journal of at most 16 entries and a book after the calls. Each answers as the script says.
+pub fn played<const N: usize>(
+    rt: &impl Abort,
+    alloc: Global,
+    script: Script,
+) -> Result<(Journal, Book<N>), Fail> {
+    let mut journal = Journal::new(alloc, limits(N));
+    let mut book = Book::<N>::new();
+    for (call, answer) in script {
+        let found = make(rt, &mut journal, &mut book, *call, alloc)?;
+        same(rt, found, *answer);
+    }
+    Ok((journal, book))
 }
 
 #[test]
 fn a_full_book_frees_a_place_at_a_tick(rt: HostRuntime) -> Result<(), Fail> {
-    let alloc = rt.alloc();
-    let calls = [Hear(IDENTIFICATION), Hear(ALL_CALL), Hear(IDENTIFICATION)];
-    let book: Book<1> = compare(&rt, alloc, &calls)?;
-    same(&rt, book.entries(), 1);
-    same(&rt, book.verdict(&frame(ALL_CALL)?), Err(Refusal::BookFull));
-    same(
-        &rt,
-        book.verdict(&frame(IDENTIFICATION)?),
-        Err(Refusal::Repeated),
-    );
-    let calls = [
-        Hear(IDENTIFICATION),
-        Hear(ALL_CALL),
-        Hear(IDENTIFICATION),
-        Hear(SHORT_AIR),
-        Tick(60_001),
-        Hear(ALL_CALL),
-    ];
-    let book: Book<1> = compare(&rt, alloc, &calls)?;
-    same(&rt, book.entries(), 4);
+    let (_, book) = played::<1>(&rt, rt.alloc(), REPLY_AT_A_FULL_TABLE)?;
     holds(&rt, book.get(0x4840D6).is_none());
     holds(&rt, book.get(0x510AF9).is_some());
     Ok(())
 }
 
 // Replies of 4840D6, whose address is overlaid on their parity.
-const LONG_AIR: &[u8] = &[
-    0x80, 0x00, 0x14, 0xB4, 0x00, 0x00, 0x00, 0x00, 0x00, 0x00, 0x00, 0x3E, 0xAE, 0x64,
-];
+const LONG_AIR: &[u8] = b"\x80\x00\x14\xB4\x00\x00\x00\x00\x00\x00\x00\x3E\xAE\x64";
 
-const LONG_ALTITUDE: &[u8] = &[
-    0xA0, 0x00, 0x14, 0xB4, 0x00, 0x00, 0x00, 0x00, 0x00, 0x00, 0x00, 0xCF, 0x19, 0x1A,
-];
+const LONG_ALTITUDE: &[u8] = b"\xA0\x00\x14\xB4\x00\x00\x00\x00\x00\x00\x00\xCF\x19\x1A";
 
-const LONG_IDENTITY: &[u8] = &[
-    0xA8, 0x00, 0x11, 0x6D, 0x00, 0x00, 0x00, 0x00, 0x00, 0x00, 0x00, 0xF7, 0x2A, 0xAA,
-];
-
-// A reply, and the altitude in feet and the squawk that it carries.
-const OVERLAID: [(&[u8], Option<i32>, Option<u16>); 4] = [
-    (SHORT_AIR, Some(32_300), None),
-    (LONG_AIR, Some(32_300), None),
-    (LONG_ALTITUDE, Some(32_300), None),
-    (LONG_IDENTITY, None, Some(0o356)),
-];
-
-fn squawk_of(row: &Aircraft) -> Option<u16> {
-    match row.squawk {
-        Some(squawk) => Some(squawk.value()),
-        None => None,
-    }
-}
+const LONG_IDENTITY: &[u8] = b"\xA8\x00\x11\x6D\x00\x00\x00\x00\x00\x00\x00\xF7\x2A\xAA";
 
 #[test]
 fn overlaid_replies_speak_for_live_aircraft(rt: HostRuntime) -> Result<(), Fail> {
     let alloc = rt.alloc();
-    for (reply, altitude, squawk) in OVERLAID {
-        let book: Book<4> = compare(&rt, alloc, &[Hear(reply)])?;
+    // A reply, and the altitude in feet and the squawk that it carries.
+    for (reply, altitude, squawk) in [
+        (SHORT_AIR, Some(32_300), None),
+        (LONG_AIR, Some(32_300), None),
+        (LONG_ALTITUDE, Some(32_300), None),
+        (LONG_IDENTITY, None, Some(0o356)),
+    ] {
+        let alone = [(Hear(reply), Err(Refusal::Unknown(0x4840D6)))];
+        let (_, book) = played::<4>(&rt, alloc, &alone)?;
         same(&rt, book.entries(), 0);
-        same(
-            &rt,
-            book.verdict_of(&station_book::Call::of(&entry(Hear(reply))?)),
-            Err(Refusal::Unknown(0x4840D6)),
-        );
         let book: Book<4> = compare(&rt, alloc, &[Hear(IDENTIFICATION), Hear(reply)])?;
         let row = book.get(0x4840D6).ok_or("no aircraft")?;
         same(&rt, row.altitude, altitude);
-        same(&rt, squawk_of(&row), squawk);
+        same(&rt, row.squawk.map(|code| code.value()), squawk);
     }
     Ok(())
 }
@@ -228,9 +169,9 @@ fn a_book_of_512_aircraft_is_made(rt: HostRuntime) -> Result<(), Fail> {
 }
 
 // An all-call reply of 4848D6, whose low eleven bits are those of 4840D6, and one of 400000, below both.
-const SAME_LOW_BITS: &[u8] = &[0x5D, 0x48, 0x48, 0xD6, 0x88, 0x18, 0x0F];
+const SAME_LOW_BITS: &[u8] = b"\x5D\x48\x48\xD6\x88\x18\x0F";
 
-const BELOW: &[u8] = &[0x5D, 0x40, 0x00, 0x00, 0xEE, 0x1F, 0x40];
+const BELOW: &[u8] = b"\x5D\x40\x00\x00\xEE\x1F\x40";
 
 // Heard again after a tick, 4840D6 is first. Then 400000 comes before it, and 4848D6 has its hint.
 #[test]

@@ -29,10 +29,8 @@ pub fn entry(call: Call) -> Result<Entry, Fail> {
         Hear(bytes) => (0, bytes),
         HearToo(bytes) => (1, bytes),
     };
-    Ok(Entry::Heard {
-        seat,
-        frame: frame(bytes)?,
-    })
+    let frame = frame(bytes)?;
+    Ok(Entry::Heard { seat, frame })
 }
 
 /// Makes the call that becomes this entry.

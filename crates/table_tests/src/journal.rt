@@ -1,20 +1,16 @@
 //! Worked examples of a journal, with the values that are known for them.
 
-ghost use Rattle.std.specs.Prelude.{◌≡◌, ◌<◌, ◌≤◌, length, OnOk};
-ghost use Rattle.station_journal.specs.Log.{most_entries};
-
 mod resumed;
 mod stories;
 
-use crate::calls::Call::{self, Hear, HearToo, Tick};
+use crate::calls::Call::{self, Hear, Tick};
 use crate::calls::{entry, once};
-use crate::comparing::{holds, same};
+use crate::comparing::same;
 use crate::known::{
     ALL_CALL, FORMAT_1, IDENTIFICATION, IDENTITY, NOBODY, ONES, SHORT_AIR, SPEED, SPOILED,
     SPOILED_REPLY, ZEROS,
 };
-use station_journal::{Aircraft, Entry, Journal, Limits, NoMemory, Refusal, Rows};
-use std::alloc::Global;
+use station_journal::{Aircraft, Entry, Journal, Limits, Refusal, Rows};
 use std::process::Abort;
 use std::test::Fail;
 
@@ -33,29 +29,8 @@ const ONE_ENTRY: Limits = Limits {
     aircraft: 1,
 };
 
-type Script = &'static [(Call, Result<u64, Refusal>)];
-
-fn is_at(journal: &Journal, place: u64, entry: &Entry) -> bool {
-    match journal.get(place) {
-        Some(there) => there == *entry,
-        None => false,
-    }
-}
-
-// The journal after the calls. Each answers as the script says, and what is accepted is the entry at that place.
-fn played(rt: &impl Abort, alloc: Global, limits: Limits, script: Script) -> Result<Journal, Fail>
-    requires { limits.entries ≤ most_entries }
-{
-    let mut journal = Journal::new(alloc, limits);
-    for (call, answer) in script {
-        let entry = entry(*call)?;
-        same(rt, once(&mut journal, &entry), *answer);
-        if let Ok(place) = answer {
-            holds(rt, is_at(&journal, *place, &entry));
-        }
-    }
-    Ok(journal)
-}
+/// Calls, each with its answer: the place of its entry, or why it is refused.
+pub type Script<'a> = &'a [(Call, Result<u64, Refusal>)];
 
 fn row(journal: &Journal, address: u32) -> Result<Aircraft, Fail> {
     Ok(journal.aircraft(address).ok_or("no aircraft")?)
@@ -63,13 +38,8 @@ fn row(journal: &Journal, address: u32) -> Result<Aircraft, Fail> {
 
 // What a journal shows: its length, its time, the number of live aircraft, and the last entry.
 fn shown(journal: &Journal) -> (u64, u64, usize, Option<Entry>) {
-    let len = journal.len();
-    (
-        len,
-        journal.now(),
-        Rows::len(journal),
-        journal.get(len.saturating_sub(1)),
-    )
+    let last = journal.get(journal.len().saturating_sub(1));
+    (journal.len(), journal.now(), Rows::len(journal), last)
 }
 
 // A call that is out of memory leaves the journal as it was, and is made once more. For the tests that run with each
@@ -86,43 +56,11 @@ fn retried(rt: &impl Abort, journal: &mut Journal, entry: &Entry) -> Result<u64,
 }
 
 // Makes the calls, each of which may be out of memory once. Each answers as the script says.
-fn go_on(
-    rt: &impl Abort,
-    journal: &mut Journal,
-    script: &[(Call, Result<u64, Refusal>)],
-) -> Result<(), Fail> {
+fn go_on(rt: &impl Abort, journal: &mut Journal, script: Script) -> Result<(), Fail> {
     for (call, answer) in script {
         same(rt, retried(rt, journal, &entry(*call)?), *answer);
     }
     Ok(())
-}
-
-// As `played`, where each call may be out of memory once.
-fn replayed(rt: &impl Abort, alloc: Global, limits: Limits, script: Script) -> Result<Journal, Fail>
-    requires { limits.entries ≤ most_entries }
-{
-    let mut journal = Journal::new(alloc, limits);
-    go_on(rt, &mut journal, script)?;
-    Ok(journal)
-}
-
-// The table. Where it is out of memory, it is asked for once more.
-fn table(journal: &Journal, alloc: Global) -> Result<Vec<Aircraft>, NoMemory> {
-    match journal.all(alloc) {
-        Ok(rows) => Ok(rows),
-        Err(_) => journal.all(alloc),
-    }
-}
-
-// Reserves room. Where that is out of memory, it is tried once more.
-fn reserve(journal: &mut Journal) -> Result<(), NoMemory>
-    ensures same { journal.new.log ≡ journal.old.log }
-    ensures ok { OnOk result (length journal.new.log.entries < journal.new.room) }
-{
-    match journal.room() {
-        Ok(()) => Ok(()),
-        Err(_) => journal.room(),
-    }
 }
 
 const IN_ORDER: Script = &[
@@ -144,7 +82,8 @@ const IN_ORDER: Script = &[
 
 #[test]
 fn refusals_in_their_order(rt: HostRuntime) -> Result<(), Fail> {
-    let journal = replayed(&rt, rt.alloc(), ONE_ENTRY, IN_ORDER)?;
+    let mut journal = Journal::new(rt.alloc(), ONE_ENTRY);
+    go_on(&rt, &mut journal, IN_ORDER)?;
     same(&rt, journal.len(), 1);
     same(&rt, journal.get(0), Some(entry(Hear(IDENTIFICATION))?));
     same(&rt, journal.get(1), None);
@@ -152,7 +91,8 @@ fn refusals_in_their_order(rt: HostRuntime) -> Result<(), Fail> {
     Ok(())
 }
 
-const REPLY_AT_A_FULL_TABLE: Script = &[
+/// Calls that a table of one aircraft answers, and that leave it 510AF9.
+pub const REPLY_AT_A_FULL_TABLE: Script = &[
     (Hear(IDENTIFICATION), Ok(0)),
     (Hear(ALL_CALL), Err(Refusal::BookFull)),
     (Hear(IDENTIFICATION), Err(Refusal::Repeated)),
@@ -172,14 +112,13 @@ const SQUITTER_AT_A_FULL_TABLE: Script = &[
 #[test]
 fn a_full_table_takes_another_aircraft_when_one_is_gone(rt: HostRuntime) -> Result<(), Fail> {
     for script in [REPLY_AT_A_FULL_TABLE, SQUITTER_AT_A_FULL_TABLE] {
-        let journal = replayed(&rt, rt.alloc(), ONE_AIRCRAFT, script)?;
+        let mut journal = Journal::new(rt.alloc(), ONE_AIRCRAFT);
+        go_on(&rt, &mut journal, script)?;
         assert_eq!(rt; journal.aircraft(0x4840D6), None);
         assert_eq!(rt; Rows::len(&journal), 1);
     }
     Ok(())
 }
-
-const TWO_AIRCRAFT: Script = &[(Hear(IDENTIFICATION), Ok(0)), (Hear(SPEED), Ok(1))];
 
 fn are_rows_of_two(rt: &impl Abort, rows: &impl Rows) {
     assert_eq!(rt; Rows::len(rows), 2);
@@ -187,13 +126,21 @@ fn are_rows_of_two(rt: &impl Abort, rows: &impl Rows) {
     assert_eq!(rt; Rows::row(rows, 1).address, 0x485020);
 }
 
+// Where the table or the room is out of memory, it is asked for once more.
 #[test]
 fn aircraft_stand_by_rising_address(rt: HostRuntime) -> Result<(), Fail> {
-    let mut journal = replayed(&rt, rt.alloc(), MANY, TWO_AIRCRAFT)?;
-    are_rows_of_two(&rt, &table(&journal, rt.alloc())?);
+    let mut journal = Journal::new(rt.alloc(), MANY);
+    let script = [(Hear(IDENTIFICATION), Ok(0)), (Hear(SPEED), Ok(1))];
+    go_on(&rt, &mut journal, &script)?;
+    let rows = journal
+        .all(rt.alloc())
+        .or_else(|_| journal.all(rt.alloc()))?;
+    are_rows_of_two(&rt, &rows);
     are_rows_of_two(&rt, &journal);
     assert_eq!(rt; journal.aircraft(1), None);
-    reserve(&mut journal)?;
+    if journal.room().is_err() {
+        journal.room()?;
+    }
     assert_eq!(rt; journal.len(), 2);
     Ok(())
 }

@@ -1,21 +1,11 @@
 //! Speed and track over ground.
 
 use station_report::{speed_tenths, track};
-use std::process::Abort;
-use std::test::Fail;
-
-// Knots to the east and to the north, and the track.
-type Row = (i16, i16, Option<u16>);
-
-fn have_their_tracks(rt: &impl Abort, rows: &[Row]) {
-    for (east, north, degrees) in rows {
-        assert_eq!(rt; track(*east, *north), *degrees, "{east}/{north}");
-    }
-}
 
 #[test]
-fn tracks_are_degrees_from_north_by_east(rt: HostRuntime) -> Result<(), Fail> {
-    let rows = [
+fn tracks_are_degrees_from_north_by_east(rt: HostRuntime) {
+    // Knots to the east and to the north, and the track: the nearest whole degree.
+    for (east, north, degrees) in [
         (0, 5, Some(0)),
         (1, 1, Some(45)),
         (5, 0, Some(90)),
@@ -26,15 +16,7 @@ fn tracks_are_degrees_from_north_by_east(rt: HostRuntime) -> Result<(), Fail> {
         (-5, 0, Some(270)),
         (-1, 1, Some(315)),
         (0, 0, None),
-    ];
-    have_their_tracks(&rt, &rows);
-    Ok(())
-}
-
-// The angle whose tangent is 1/114 is above half a degree, and that of 1/115 below.
-#[test]
-fn tracks_are_the_nearest_whole_degree(rt: HostRuntime) -> Result<(), Fail> {
-    let rows = [
+        // The angle whose tangent is 1/114 is above half a degree, and that of 1/115 below.
         (1, 114, Some(1)),
         (1, 115, Some(0)),
         (-1, 115, Some(0)),
@@ -45,23 +27,21 @@ fn tracks_are_the_nearest_whole_degree(rt: HostRuntime) -> Result<(), Fail> {
         (1, -115, Some(180)),
         (4088, 4087, Some(45)),
         (-32768, -32768, Some(225)),
-    ];
-    have_their_tracks(&rt, &rows);
-    Ok(())
+    ] {
+        assert_eq!(rt; track(east, north), degrees, "{east}/{north}");
+    }
 }
 
 #[test]
-fn speeds_are_tenths_of_a_knot_rounded_down(rt: HostRuntime) -> Result<(), Fail> {
-    let rows: [(i16, i16, u32); 6] = [
+fn speeds_are_tenths_of_a_knot_rounded_down(rt: HostRuntime) {
+    for (east, north, tenths) in [
         (0, 0, 0),
         (3, -4, 50),
         (-8, -159, 1592),
         (1, 1, 14),
         (-4088, 4088, 57813),
         (-32768, -32768, 463409),
-    ];
-    for (east, north, tenths) in rows {
+    ] {
         assert_eq!(rt; speed_tenths(east, north), tenths, "{east}/{north}");
     }
-    Ok(())
 }

@@ -17,9 +17,7 @@ fn what_does_not_fit_leaves_a_book_as_it_was(rt: HostRuntime) -> Result<(), Fail
         book.offer(&entry);
         book.offer_call(&Call::of(&entry));
     }
-    same(&rt, book.entries(), 0);
-    same(&rt, book.now(), 7);
-    same(&rt, book.len(), 0);
+    same(&rt, (book.entries(), book.now(), book.len()), (0, 7, 0));
     Ok(())
 }
 
@@ -27,11 +25,8 @@ fn what_does_not_fit_leaves_a_book_as_it_was(rt: HostRuntime) -> Result<(), Fail
 fn an_overlaid_frame_fits_whoever_is_live(rt: HostRuntime) -> Result<(), Fail> {
     let mut book = Book::<1>::new();
     let reply = entry(Hear(SHORT_AIR))?;
-    same(
-        &rt,
-        book.verdict_of(&Call::of(&reply)),
-        Err(Refusal::Unknown(0x4840D6)),
-    );
+    let unknown = Err(Refusal::Unknown(0x4840D6));
+    same(&rt, book.verdict_of(&Call::of(&reply)), unknown);
     holds(&rt, book.fits(&reply));
     book.offer(&reply);
     same(&rt, book.len(), 1);
@@ -46,11 +41,8 @@ fn a_list_is_taken_up_to_the_first_that_does_not_fit(rt: HostRuntime) -> Result<
     let (heard, other) = (entry(Hear(IDENTIFICATION))?, entry(Hear(EVEN))?);
     let fitting = [heard, entry(Tick(60_006))?, other, other];
     same(&rt, book.take_all(5, &fitting), Ok(()));
-    same(
-        &rt,
-        (book.entries(), book.now(), book.len()),
-        (4, 60_006, 1),
-    );
+    let shown = (book.entries(), book.now(), book.len());
+    same(&rt, shown, (4, 60_006, 1));
     holds(&rt, book.get(0x40621D).is_some());
     let early = Book::<1>::starting(5).take_all(5, &[entry(Tick(5))?]);
     same(&rt, early, Err(0));

@@ -7,6 +7,8 @@ use crate::known::{EVEN, FAR, IDENTIFICATION, ODD};
 use modes_cpr::{Degrees, Position};
 use station_book::Book;
 use station_journal::{Aircraft, PlacedRows, Rows};
+use std::alloc::Global;
+use std::process::Abort;
 use std::test::Fail;
 
 fn hundred_thousandths(degrees: Degrees) -> i128 {
@@ -18,15 +20,9 @@ fn hundred_thousandths(degrees: Degrees) -> i128 {
 }
 
 // Latitude and longitude in 1/100,000 degree.
-fn shown(position: Position) -> (i128, i128) {
-    (
-        hundred_thousandths(position.lat),
-        hundred_thousandths(position.lon),
-    )
-}
-
 fn position(row: &Aircraft) -> Option<(i128, i128)> {
-    Some(shown(row.position?))
+    let Position { lat, lon } = row.position?;
+    Some((hundred_thousandths(lat), hundred_thousandths(lon)))
 }
 
 const NEWEST_ODD: (i128, i128) = (5_226_578, 393_891);
@@ -34,33 +30,14 @@ const NEWEST_ODD: (i128, i128) = (5_226_578, 393_891);
 const NEWEST_EVEN: (i128, i128) = (5_225_720, 391_937);
 
 // An all-call reply of 40621D, which carries no place.
-const REPLY: &[u8] = &[0x5D, 0x40, 0x62, 0x1D, 0x4F, 0x94, 0xD0];
+const REPLY: &[u8] = b"\x5D\x40\x62\x1D\x4F\x94\xD0";
 
-const PLACED_AT_3000: [Call; 4] = [Tick(1000), Hear(EVEN), Tick(3000), Hear(ODD)];
-
-// Calls, and of 40621D then the time of its newest frame in milliseconds and its position with its time. Each place is at
-// 38,000 feet.
-const STORIES: &[(&[Call], u64, Option<((i128, i128), u64)>)] = &[
-    (&[Hear(EVEN), Hear(ODD)], 0, Some((NEWEST_ODD, 0))),
-    (&[Hear(ODD), Hear(EVEN)], 0, Some((NEWEST_EVEN, 0))),
+// Calls, and of 40621D then the time of its newest place in milliseconds and its position, which has that time. Each place
+// is at 38,000 feet.
+const STORIES: &[(&[Call], u64, Option<(i128, i128)>)] = &[
+    (&[Hear(EVEN), Hear(ODD)], 0, Some(NEWEST_ODD)),
+    (&[Hear(ODD), Hear(EVEN)], 0, Some(NEWEST_EVEN)),
     (&[Hear(EVEN)], 0, None),
-    (&PLACED_AT_3000, 3000, Some((NEWEST_ODD, 3000))),
-    (
-        &[Tick(1000), Hear(ODD), Tick(3000), Hear(EVEN)],
-        3000,
-        Some((NEWEST_EVEN, 3000)),
-    ),
-    // The places of a pair are at most 10,000 ms apart.
-    (
-        &[Tick(1), Hear(EVEN), Tick(10_001), Hear(ODD)],
-        10_001,
-        Some((NEWEST_ODD, 10_001)),
-    ),
-    (
-        &[Tick(1), Hear(EVEN), Tick(10_002), Hear(ODD)],
-        10_002,
-        None,
-    ),
     // A later pair gives a later time.
     (
         &[
@@ -72,25 +49,28 @@ const STORIES: &[(&[Call], u64, Option<((i128, i128), u64)>)] = &[
             Hear(EVEN),
         ],
         9000,
-        Some((NEWEST_EVEN, 9000)),
-    ),
-    // An aircraft that was swept begins anew.
-    (
-        &[Tick(1), Hear(EVEN), Tick(60_001), Hear(ODD)],
-        60_001,
-        None,
-    ),
-    (
-        &[Tick(1), Hear(EVEN), Tick(60_002), Hear(ODD)],
-        60_002,
-        None,
+        Some(NEWEST_EVEN),
     ),
     (
         &[Tick(1), Hear(EVEN), Tick(5000), Hear(ODD), Tick(65_000)],
         5000,
-        Some((NEWEST_ODD, 5000)),
+        Some(NEWEST_ODD),
     ),
 ];
+
+// A place and its time, another and its time, and the position that they give.
+const PAIRS: &[(&[u8], u64, &[u8], u64, Option<(i128, i128)>)] = &[
+    (EVEN, 1000, ODD, 3000, Some(NEWEST_ODD)),
+    (ODD, 1000, EVEN, 3000, Some(NEWEST_EVEN)),
+    // The places of a pair are at most 10,000 ms apart.
+    (EVEN, 1, ODD, 10_001, Some(NEWEST_ODD)),
+    (EVEN, 1, ODD, 10_002, None),
+    // An aircraft that was swept begins anew.
+    (EVEN, 1, ODD, 60_001, None),
+    (EVEN, 1, ODD, 60_002, None),
+];
+
+const PLACED_AT_3000: [Call; 4] = [Tick(1000), Hear(EVEN), Tick(3000), Hear(ODD)];
 
 // How a position ages: the calls after a pair, and then the times of the newest frame and of the position.
 const AGES: &[(&[Call], u64, Option<u64>)] = &[
@@ -108,14 +88,34 @@ const AGES: &[(&[Call], u64, Option<u64>)] = &[
     (&[Tick(4000), Hear(FAR), Tick(63_001)], 4000, None),
 ];
 
+// After the calls 40621D was heard at this time, and has this position with its time. Answers its altitude in feet.
+fn altitude_after(
+    rt: &impl Abort,
+    alloc: Global,
+    calls: &[Call],
+    heard: u64,
+    wanted: Option<((i128, i128), u64)>,
+) -> Result<Option<i32>, Fail> {
+    let book: Book<4> = compare(rt, alloc, calls)?;
+    let row = book.get(0x40621D).ok_or("no aircraft")?;
+    same(rt, row.heard, heard);
+    same(rt, position(&row), wanted.map(|w| w.0));
+    same(rt, book.placed(0), wanted.map(|w| w.1));
+    Ok(row.altitude)
+}
+
 #[test]
 fn pairs_of_places(rt: HostRuntime) -> Result<(), Fail> {
-    for (calls, heard, wanted) in STORIES {
-        let book: Book<4> = compare(&rt, rt.alloc(), *calls)?;
-        let row = book.get(0x40621D).ok_or("no aircraft")?;
-        same(&rt, (row.heard, row.altitude), (*heard, Some(38_000)));
-        same(&rt, position(&row), wanted.map(|w| w.0));
-        same(&rt, book.placed(0), wanted.map(|w| w.1));
+    for (calls, at, wanted) in STORIES {
+        let wanted = wanted.map(|w| (w, *at));
+        let altitude = altitude_after(&rt, rt.alloc(), *calls, *at, wanted)?;
+        same(&rt, altitude, Some(38_000));
+    }
+    for (first, from, second, at, wanted) in PAIRS {
+        let calls = [Tick(*from), Hear(*first), Tick(*at), Hear(*second)];
+        let wanted = wanted.map(|w| (w, *at));
+        let altitude = altitude_after(&rt, rt.alloc(), &calls, *at, wanted)?;
+        same(&rt, altitude, Some(38_000));
     }
     let calls = [Tick(1), Hear(EVEN), Tick(5000), Hear(ODD), Tick(65_001)];
     let book: Book<4> = compare(&rt, rt.alloc(), &calls)?;
@@ -129,11 +129,8 @@ fn positions_age(rt: HostRuntime) -> Result<(), Fail> {
         let mut calls = Vec::new(rt.alloc());
         calls.extend_from_slice(&PLACED_AT_3000)?;
         calls.extend_from_slice(*later)?;
-        let book: Book<4> = compare(&rt, rt.alloc(), calls.as_slice())?;
-        let row = book.get(0x40621D).ok_or("no aircraft")?;
-        same(&rt, row.heard, *heard);
-        same(&rt, position(&row), placed.map(|_| NEWEST_ODD));
-        same(&rt, book.placed(0), *placed);
+        let wanted = placed.map(|at| (NEWEST_ODD, at));
+        let _altitude = altitude_after(&rt, rt.alloc(), calls.as_slice(), *heard, wanted)?;
     }
     Ok(())
 }

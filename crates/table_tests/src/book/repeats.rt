@@ -3,7 +3,7 @@
 use crate::book::give;
 use crate::calls::Call::{Hear, Tick};
 use crate::calls::{entry, frame};
-use crate::comparing::same;
+use crate::comparing::{holds, same};
 use crate::known::{IDENTIFICATION, SHORT_AIR};
 use modes_frame::remainder;
 use station_book::{Book, Call};
@@ -20,10 +20,8 @@ fn reply(last: u8) -> Result<Entry, Fail> {
     let unaddressed = frame(&[0x28, 0, 0, last, 0, 0, 0])?;
     let parity = remainder(&unaddressed) ^ 0x4840D6;
     let [_, high, middle, low] = parity.to_be_bytes();
-    Ok(Entry::Heard {
-        seat: 0,
-        frame: frame(&[0x28, 0, 0, last, high, middle, low])?,
-    })
+    let frame = frame(&[0x28, 0, 0, last, high, middle, low])?;
+    Ok(Entry::Heard { seat: 0, frame })
 }
 
 #[test]
@@ -32,49 +30,45 @@ fn the_first_256_frames_since_a_tick_are_looked_at(rt: HostRuntime) -> Result<()
     let mut book = Book::<4>::new();
     let first = entry(Hear(IDENTIFICATION))?;
     for new in [entry(Tick(1))?, first] {
-        same(&rt, give(&rt, &mut journal, &mut book, &new), Ok(()));
+        holds(&rt, give(&rt, &mut journal, &mut book, &new).is_ok());
     }
-    for last in 0..255 {
+    for last in 0..=255 {
         let new = reply(last)?;
-        same(&rt, give(&rt, &mut journal, &mut book, &new), Ok(()));
-    }
-    for unseen in [reply(255)?, reply(255)?] {
-        same(&rt, give(&rt, &mut journal, &mut book, &unseen), Ok(()));
+        holds(&rt, give(&rt, &mut journal, &mut book, &new).is_ok());
     }
     for again in [first, reply(0)?, reply(253)?, reply(254)?] {
         let answer = give(&rt, &mut journal, &mut book, &again);
         same(&rt, answer, Err(Refusal::Repeated));
     }
-    for new in [entry(Tick(2))?, first, reply(254)?] {
-        same(&rt, give(&rt, &mut journal, &mut book, &new), Ok(()));
+    for new in [reply(255)?, entry(Tick(2))?, first, reply(254)?] {
+        holds(&rt, give(&rt, &mut journal, &mut book, &new).is_ok());
     }
     same(&rt, book.entries(), 262);
     Ok(())
 }
 
 // Identity replies of 4840D6 whose last thirteen bits are those of IDENTIFICATION.
-const SAME_LAST_BITS: &[u8] = &[0x28, 0x00, 0x17, 0x00, 0xA2, 0xC0, 0x98];
+const SAME_LAST_BITS: &[u8] = b"\x28\x00\x17\x00\xA2\xC0\x98";
 
-const SAME_LAST_BITS_TOO: &[u8] = &[0x28, 0x00, 0x28, 0xFE, 0x23, 0xE0, 0x98];
+const SAME_LAST_BITS_TOO: &[u8] = b"\x28\x00\x28\xFE\x23\xE0\x98";
 
 #[test]
 fn frames_with_the_same_last_bits_are_told_apart(rt: HostRuntime) -> Result<(), Fail> {
     let mut journal = Journal::new(rt.alloc(), LIMITS);
     let mut book = Book::<4>::new();
     let script = [
-        (IDENTIFICATION, Ok(())),
-        (SHORT_AIR, Ok(())),
-        (SAME_LAST_BITS, Ok(())),
+        (IDENTIFICATION, Ok(0)),
+        (SHORT_AIR, Ok(1)),
+        (SAME_LAST_BITS, Ok(2)),
         (IDENTIFICATION, Err(Refusal::Repeated)),
         (SAME_LAST_BITS, Err(Refusal::Repeated)),
-        (SAME_LAST_BITS_TOO, Ok(())),
+        (SAME_LAST_BITS_TOO, Ok(3)),
         (SAME_LAST_BITS, Err(Refusal::Repeated)),
         (SHORT_AIR, Err(Refusal::Repeated)),
     ];
     for (bytes, wanted) in script {
         let heard = entry(Hear(bytes))?;
-        let answer = give(&rt, &mut journal, &mut book, &heard);
-        same(&rt, answer, wanted);
+        same(&rt, give(&rt, &mut journal, &mut book, &heard), wanted);
     }
     Ok(())
 }
@@ -101,10 +95,9 @@ fn a_second_copy_refuses_the_same(rt: HostRuntime) -> Result<(), Fail> {
         let call = Call::of(&heard);
         assert_eq!(rt; shown.verdict_of(&call), Ok(()));
         give_change(&mut shown, &mut spare, &heard);
-        let answer = if last == 255 {
-            Ok(())
-        } else {
-            Err(Refusal::Repeated)
+        let answer = match last {
+            255 => Ok(()),
+            _ => Err(Refusal::Repeated),
         };
         assert_eq!(rt; shown.verdict_of(&call), answer);
         assert_eq!(rt; spare.verdict_of(&call), answer);

@@ -1,16 +1,18 @@
 //! Stories of calls, each made once, and what they leave.
 
+use crate::book::played;
 use crate::calls::Call::{Hear, HearToo, Tick};
 use crate::calls::frame;
 use crate::comparing::{holds, same, same_at};
-use crate::journal::{MANY, Script, played, row};
+use crate::journal::{MANY, Script, row};
 use crate::known::{ALL_CALL, EVEN, IDENTIFICATION, IDENTITY, LOW, SPEED};
 use modes_fields::Velocity;
-use station_journal::{Journal, Refusal, Rows};
+use station_journal::Refusal::{NotLater, Repeated, Unknown};
+use station_journal::{Journal, Rows};
 use std::test::Fail;
 
 const AT_60_SECONDS: Script = &[
-    (Tick(0), Err(Refusal::NotLater(0))),
+    (Tick(0), Err(NotLater(0))),
     (Tick(1000), Ok(0)),
     (Hear(IDENTIFICATION), Ok(1)),
     (Tick(61_000), Ok(2)),
@@ -26,18 +28,26 @@ const REPLIES: Script = &[
 const STORIES: &[(&str, Script, (u64, u64, usize))] = &[
     ("a life of 60,000 ms", AT_60_SECONDS, (3, 61_000, 1)),
     (
-        "the last tick of all",
+        "a life that is over",
         &[
             (Tick(1000), Ok(0)),
             (Hear(IDENTIFICATION), Ok(1)),
             (Tick(61_000), Ok(2)),
             (Tick(61_001), Ok(3)),
-            (Tick(61_001), Err(Refusal::NotLater(61_001))),
-            (Tick(u64::MAX), Ok(4)),
-            (Tick(u64::MAX), Err(Refusal::NotLater(u64::MAX))),
-            (Tick(7), Err(Refusal::NotLater(u64::MAX))),
+            (Tick(61_001), Err(NotLater(61_001))),
         ],
-        (5, u64::MAX, 0),
+        (4, 61_001, 0),
+    ),
+    (
+        "the last tick of all",
+        &[
+            (Tick(0), Err(NotLater(0))),
+            (Hear(IDENTIFICATION), Ok(0)),
+            (Tick(u64::MAX), Ok(1)),
+            (Tick(u64::MAX), Err(NotLater(u64::MAX))),
+            (Tick(7), Err(NotLater(u64::MAX))),
+        ],
+        (2, u64::MAX, 0),
     ),
     (
         "a life that an overlaid reply prolongs",
@@ -46,7 +56,7 @@ const STORIES: &[(&str, Script, (u64, u64, usize))] = &[
             (Tick(60_000), Ok(1)),
             (Hear(IDENTITY), Ok(2)),
             (Tick(120_001), Ok(3)),
-            (Hear(IDENTITY), Err(Refusal::Unknown(0x510AF9))),
+            (Hear(IDENTITY), Err(Unknown(0x510AF9))),
         ],
         (4, 120_001, 0),
     ),
@@ -56,8 +66,8 @@ const STORIES: &[(&str, Script, (u64, u64, usize))] = &[
         &[
             (Hear(ALL_CALL), Ok(0)),
             (Hear(IDENTITY), Ok(1)),
-            (Hear(ALL_CALL), Err(Refusal::Repeated)),
-            (Hear(IDENTITY), Err(Refusal::Repeated)),
+            (Hear(ALL_CALL), Err(Repeated)),
+            (Hear(IDENTITY), Err(Repeated)),
         ],
         (2, 0, 1),
     ),
@@ -66,7 +76,7 @@ const STORIES: &[(&str, Script, (u64, u64, usize))] = &[
         &[
             (Tick(1), Ok(0)),
             (Hear(IDENTIFICATION), Ok(1)),
-            (HearToo(IDENTIFICATION), Err(Refusal::Repeated)),
+            (HearToo(IDENTIFICATION), Err(Repeated)),
             (Tick(2), Ok(2)),
             (HearToo(IDENTIFICATION), Ok(3)),
         ],
@@ -77,27 +87,25 @@ const STORIES: &[(&str, Script, (u64, u64, usize))] = &[
 #[test]
 fn stories_end_as_known(rt: HostRuntime) -> Result<(), Fail> {
     for (name, script, left) in STORIES {
-        let journal = played(&rt, rt.alloc(), MANY, *script)?;
-        same_at(
-            &rt,
-            (journal.len(), journal.now(), Rows::len(&journal)),
-            *left,
-            name,
-        );
+        let (journal, _) = played::<4>(&rt, rt.alloc(), *script)?;
+        let found = (journal.len(), journal.now(), Rows::len(&journal));
+        same_at(&rt, found, *left, name);
     }
     Ok(())
 }
 
 #[test]
 fn ticks_and_ages(rt: HostRuntime) -> Result<(), Fail> {
-    let journal = played(&rt, rt.alloc(), MANY, AT_60_SECONDS)?;
-    let klm = row(&journal, 0x4840D6)?;
-    same(&rt, klm.heard, 1000);
-    holds(
-        &rt,
-        klm.callsign.ok_or("no callsign")?.bytes() == b"KLM1023".as_slice(),
-    );
-    let journal = played(&rt, rt.alloc(), MANY, REPLIES)?;
+    let (journal, book) = played::<4>(&rt, rt.alloc(), AT_60_SECONDS)?;
+    for klm in [
+        row(&journal, 0x4840D6)?,
+        book.get(0x4840D6).ok_or("no aircraft")?,
+    ] {
+        same(&rt, klm.heard, 1000);
+        let callsign = klm.callsign.ok_or("no callsign")?;
+        same(&rt, callsign.bytes(), b"KLM1023".as_slice());
+    }
+    let (journal, _) = played::<4>(&rt, rt.alloc(), REPLIES)?;
     let low = row(&journal, 0x510AF9)?;
     let squawk = low.squawk.ok_or("no squawk")?;
     same(&rt, (low.altitude, squawk.value()), (Some(-1200), 0o356));

@@ -1,12 +1,45 @@
 //! Tables as JSON, with known texts.
 
-use super::{BARE, One, identified, is_printable, over_ground, placed, squawking, through_air};
-use crate::comparing::{holds, holds_at, same, same_at};
+ghost use Rattle.std.specs.Prelude.{All};
+ghost use Rattle.station_report.specs.Text.{IsPrintableRow};
+
+use super::{
+    BARE, climbing, identified, is_printable, over_ground, placed, squawking, through_air,
+};
+use crate::comparing::{holds, holds_at, same_at};
 use station_journal::{Aircraft, Rows};
 use station_report::{PlacedRows, ToWrite, table_json};
 use std::alloc::Global;
 use std::process::Abort;
 use std::test::Fail;
+
+// A table of one row, and the time of its position.
+#[derive(Drop)]
+struct One(Aircraft, Option<u64>);
+
+impl Rows for One {
+    ghost use Rattle.std.specs.Prelude.{[], ◌∷◌};
+
+    ghost rows = { λ r. r.0 ∷ [] };
+
+    fn len(&self) -> usize {
+        1
+    }
+
+    fn row(&self, _i: usize) -> Aircraft {
+        self.0
+    }
+}
+
+impl PlacedRows for One {
+    ghost use Rattle.std.specs.Prelude.{[], ◌∷◌};
+
+    ghost moments = { λ r. r.1 ∷ [] };
+
+    fn placed(&self, _i: usize) -> Option<u64> {
+        self.1
+    }
+}
 
 // A table of two rows without positions.
 #[derive(Drop)]
@@ -36,25 +69,36 @@ impl PlacedRows for Two {
     }
 }
 
-// An aircraft, the time of its position, the time at which its table is written in milliseconds and in seconds, and its
-// object there.
-type Row<'a> = (Aircraft, Option<u64>, u64, &'a str, &'a str);
+// At a time in milliseconds, over an origin and with a number of entries, the table is this line.
+fn is_line<R: PlacedRows>(
+    rt: &impl Abort,
+    alloc: Global,
+    rows: &R,
+    now: u64,
+    origin: u64,
+    entries: u64,
+    line: &str,
+)
+    requires { All (IsPrintableRow now) (R.rows rows.now) }
+{
+    let mut sink = ToWrite::new(Vec::new(alloc));
+    let written = table_json(rows, now, origin, entries, &mut sink);
+    same_at(rt, written, Ok(()), line);
+    same_at(rt, sink.into_inner().as_slice(), line.as_bytes(), line);
+}
+
+// An aircraft, the time of its position, and the time at which its table is written in milliseconds and in seconds. Then
+// its object there.
+type Row<'a> = ((Aircraft, Option<u64>, u64, &'a str), &'a str);
 
 fn have_their_objects(rt: &impl Abort, alloc: Global, rows: &[Row<'_>]) -> Result<(), Fail> {
-    for (aircraft, at, now, seconds, object) in rows {
-        holds_at(rt, is_printable(*now, *aircraft), object);
-        let mut sink = ToWrite::new(Vec::new(alloc));
-        let table = One(*aircraft, *at);
-        same_at(
-            rt,
-            table_json(&table, *now, 0, 7, &mut sink),
-            Ok(()),
-            object,
-        );
-        let text = format!(in alloc;
+    for ((aircraft, at, now, seconds), object) in rows {
+        let line = format!(in alloc;
             "{{\"now\":{seconds},\"messages\":7,\"aircraft\":[{object}]}}\n"
         )?;
-        same_at(rt, sink.into_inner().as_slice(), text.as_bytes(), object);
+        holds_at(rt, is_printable(*now, *aircraft), object);
+        let table = One(*aircraft, *at);
+        is_line(rt, alloc, &table, *now, 0, 7, line.as_str());
     }
     Ok(())
 }
@@ -63,17 +107,11 @@ fn have_their_objects(rt: &impl Abort, alloc: Global, rows: &[Row<'_>]) -> Resul
 fn callsigns_and_squawks_have_their_members(rt: HostRuntime) -> Result<(), Fail> {
     let rows = [
         (
-            identified(1000),
-            None,
-            61_000,
-            "61.000",
+            (identified(1000), None, 61_000, "61.000"),
             r#"{"hex":"4840d6","flight":"KLM1023","seen":60.000}"#,
         ),
         (
-            squawking(),
-            None,
-            1,
-            "0.001",
+            (squawking(), None, 1, "0.001"),
             r#"{"hex":"510af9","squawk":"0356","seen":0.001}"#,
         ),
     ];
@@ -84,31 +122,19 @@ fn callsigns_and_squawks_have_their_members(rt: HostRuntime) -> Result<(), Fail>
 fn velocities_have_their_members(rt: HostRuntime) -> Result<(), Fail> {
     let rows = [
         (
-            over_ground(-8, -159),
-            None,
-            0,
-            "0.000",
+            (over_ground(-8, -159), None, 0, "0.000"),
             r#"{"hex":"485020","gs":159.2,"speed":159,"track":183,"baro_rate":-832,"vert_rate":-832,"seen":0.000}"#,
         ),
         (
-            over_ground(0, 0),
-            None,
-            0,
-            "0.000",
+            (over_ground(0, 0), None, 0, "0.000"),
             r#"{"hex":"485020","gs":0.0,"speed":0,"baro_rate":-832,"vert_rate":-832,"seen":0.000}"#,
         ),
         (
-            through_air(true),
-            None,
-            0,
-            "0.000",
+            (through_air(true), None, 0, "0.000"),
             r#"{"hex":"a05f21","mag_heading":243.9,"tas":375,"baro_rate":-2304,"vert_rate":-2304,"seen":0.000}"#,
         ),
         (
-            through_air(false),
-            None,
-            0,
-            "0.000",
+            (through_air(false), None, 0, "0.000"),
             r#"{"hex":"a05f21","mag_heading":243.9,"ias":375,"baro_rate":-2304,"vert_rate":-2304,"seen":0.000}"#,
         ),
     ];
@@ -123,39 +149,21 @@ fn west() -> Aircraft {
 // A time that is to come is 0 seconds ago, and one that isn't known has no member.
 #[test]
 fn positions_have_their_times(rt: HostRuntime) -> Result<(), Fail> {
-    let climbing = Aircraft {
-        address: 0x40621D,
-        altitude: Some(38000),
-        heard: 1000,
-        ..placed((404184240, 7733248), (18069840, 4587520))
-    };
     let rows = [
         (
-            climbing,
-            Some(0),
-            1234,
-            "1.234",
+            (climbing(1000), Some(0), 1234, "1.234"),
             r#"{"hex":"40621d","alt_baro":38000,"altitude":38000,"lat":52.26578,"lon":3.93891,"seen_pos":1.234,"seen":0.234}"#,
         ),
         (
-            west(),
-            Some(60),
-            50,
-            "0.050",
+            (west(), Some(60), 50, "0.050"),
             r#"{"hex":"4840d6","lat":-0.00001,"lon":-180.00000,"seen_pos":0.000,"seen":0.050}"#,
         ),
         (
-            west(),
-            None,
-            0,
-            "0.000",
+            (west(), None, 0, "0.000"),
             r#"{"hex":"4840d6","lat":-0.00001,"lon":-180.00000,"seen":0.000}"#,
         ),
         (
-            BARE,
-            Some(0),
-            0,
-            "0.000",
+            (BARE, Some(0), 0, "0.000"),
             r#"{"hex":"4840d6","seen":0.000}"#,
         ),
     ];
@@ -163,46 +171,29 @@ fn positions_have_their_times(rt: HostRuntime) -> Result<(), Fail> {
 }
 
 #[test]
-fn two_aircraft_have_a_comma_between_them(rt: HostRuntime) -> Result<(), Fail> {
+fn two_aircraft_have_a_comma_between_them(rt: HostRuntime) {
     let table = Two(BARE, squawking());
-    holds(
-        &rt,
-        is_printable(1234, table.0) && is_printable(1234, table.1),
-    );
-    let mut sink = ToWrite::new(Vec::new(rt.alloc()));
-    let origin = 1_700_000_000_000;
-    same(&rt, table_json(&table, 1234, origin, 3, &mut sink), Ok(()));
-    let text = concat!(
+    let are_printable = is_printable(1234, table.0) && is_printable(1234, table.1);
+    holds(&rt, are_printable);
+    let line = concat!(
         r#"{"now":1700000001.234,"messages":3,"aircraft":["#,
         r#"{"hex":"4840d6","seen":1.234},"#,
         "{\"hex\":\"510af9\",\"squawk\":\"0356\",\"seen\":1.234}]}\n",
     );
-    same(&rt, sink.into_inner().as_slice(), text.as_bytes());
-    Ok(())
-}
-
-// An aircraft that was heard at the largest time.
-fn heard_last() -> Aircraft {
-    Aircraft {
-        heard: u64::MAX,
-        ..BARE
-    }
+    is_line(&rt, rt.alloc(), &table, 1234, 1_700_000_000_000, 3, line);
 }
 
 #[test]
-fn the_sum_of_the_largest_times_does_not_wrap(rt: HostRuntime) -> Result<(), Fail> {
-    let table = One(heard_last(), None);
-    holds(&rt, is_printable(u64::MAX, table.0));
-    let mut sink = ToWrite::new(Vec::new(rt.alloc()));
-    same(
-        &rt,
-        table_json(&table, u64::MAX, u64::MAX, u64::MAX, &mut sink),
-        Ok(()),
-    );
-    let text = concat!(
+fn the_sum_of_the_largest_times_does_not_wrap(rt: HostRuntime) {
+    let heard_last = Aircraft {
+        heard: u64::MAX,
+        ..BARE
+    };
+    let line = concat!(
         r#"{"now":36893488147419103.230,"messages":18446744073709551615,"aircraft":["#,
         "{\"hex\":\"4840d6\",\"seen\":0.000}]}\n",
     );
-    same(&rt, sink.into_inner().as_slice(), text.as_bytes());
-    Ok(())
+    let (table, largest) = (One(heard_last, None), u64::MAX);
+    holds(&rt, is_printable(largest, table.0));
+    is_line(&rt, rt.alloc(), &table, largest, largest, largest, line);
 }

@@ -1,7 +1,7 @@
 //! Sinks and writers that fail.
 
-use crate::comparing::{same, same_at};
-use crate::report::{HEADER, One, identified};
+use crate::comparing::{holds, same, same_at};
+use crate::report::{HEADER, are_printable, identified};
 use station_report::{Failed, Sink, ToWrite, WriteFault, flush_after, table};
 use std::io;
 use std::io::{ErrorKind, Write};
@@ -62,15 +62,12 @@ fn a_flush_that_fails_is_reported(rt: HostRuntime) {
 fn a_writer_without_room_for_the_last_byte_has_failed(rt: HostRuntime) -> Result<(), Fail> {
     let line = "4840D6 KLM1023       -    -            -      -          -          -   0\n";
     let text = format!(in rt.alloc(); "now 0 aircraft 1\n{HEADER}{line}")?;
+    let rows = Vec::from_array(rt.alloc(), [identified(0)])?;
+    holds(&rt, are_printable(0, rows.as_slice()));
     for (room, outcome) in [(164, Err(WriteFault)), (165, Ok(()))] {
         let mut bytes = [0u8; 165];
         let mut sink = ToWrite::new(&mut bytes[..room]);
-        same_at(
-            &rt,
-            table(&One(identified(0), None), 0, &mut sink),
-            outcome,
-            room,
-        );
+        same_at(&rt, table(&rows, 0, &mut sink), outcome, room);
         same_at(&rt, &bytes[..room], &text.as_bytes()[..room], room);
     }
     Ok(())
