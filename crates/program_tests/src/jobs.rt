@@ -32,20 +32,35 @@ use crate::comparing::{holds, same};
 use bounds::*;
 use station_main::{Alarms, StandardError, exit_code, obey, own_words};
 use std::alloc::{AllocError, Global};
-use std::env::FillError;
-use std::io::{self, Read, Write};
+use std::env::{Env, FillError};
+use std::io::{self, ErrorKind, Read, Write};
 use std::process::ExitCode;
 
-// What a trial asks of its runtime.
+// What a trial asks of its runtimes, under one name each.
 mod bounds {
-    pub use station_main::PathHost;
-    pub use std::env::Env;
+    use station_main::PathHost;
+    use std::env::Env;
     pub use std::fs::File;
-    pub use std::process::Abort;
+    use std::process::Abort;
     pub use std::rt::Files;
-    pub use std::sync::Wait;
-    pub use std::thread::Threads;
+    use std::sync::Wait;
+    use std::thread::Threads;
     pub use std::time::Clock;
+
+    /// What the program needs.
+    pub trait System: Threads + Wait + Clock + Files<File = File, Dir: Send> + Sync {}
+
+    impl<R: Threads + Wait + Clock + Files<File = File, Dir: Send> + Sync> System for R {}
+
+    /// What a trial needs besides.
+    pub trait Host: System + AllocGlobal + Abort + Env {}
+
+    impl<R: System + AllocGlobal + Abort + Env> Host for R {}
+
+    /// What the threads that read paths need.
+    pub trait Own: Wait + Clock + PathHost + Copy + Send + 'static {}
+
+    impl<W: Wait + Clock + PathHost + Copy + Send + 'static> Own for W {}
 }
 
 // The trials of the program over a runtime, one for each test. A method's proof knows the bounds of its runtime alone. Over
@@ -54,15 +69,23 @@ mod bounds {
 struct Trials<'a, R, W> {
     rt: &'a R,
     own: W,
+    alloc: Global,
 }
 
 impl<'a> Trials<'a, HostRuntime, HostRuntime> {
     fn on(rt: &'a HostRuntime) -> Self {
-        Trials { rt, own: *rt }
+        Trials {
+            rt,
+            own: *rt,
+            alloc: rt.alloc(),
+        }
     }
 }
 
 const NO_LINES: &[u8] = b"";
+
+// A run with the longest time between tables.
+const EVERY_HOUR: &str = "run --every=3600000";
 
 // The time at which these runs start, in milliseconds since 1970.
 const ORIGIN: u64 = 1_700_000_000_000;
@@ -71,137 +94,104 @@ const TABLE_OF_NOBODY: &str = tables!("now 0 aircraft 0" => []);
 
 const NO_MEMORY: &str = "groundstation: no memory\n";
 
-// What the program leaves: its status, its output and standard error.
-#[derive(Debug, Drop)]
+// What the program leaves: its status, its output, standard error, and what it reports at once.
+#[derive(Drop)]
 struct Ran {
     status: u8,
     out: Vec<u8>,
     err: Vec<u8>,
-}
-
-// What the program leaves beside its output: what it reports at once and at the end.
-#[derive(Debug, Drop)]
-struct Told {
-    status: u8,
-    alarm: Vec<u8>,
+    record_alarm: Vec<u8>,
     display_alarm: Vec<u8>,
     limit_alarm: Vec<u8>,
-    err: Vec<u8>,
 }
 
 // A stream whose first 2,048 bytes take no memory. Where an allocation is refused, it is made once more.
-fn stream(rt: &impl Abort, alloc: Global) -> Vec<u8> {
-    match Vec::with_capacity(alloc, 2_048) {
-        Ok(stream) => stream,
-        Err(_) => Vec::with_capacity(alloc, 2_048).expect(rt, "the second call has memory"),
-    }
+fn stream(alloc: Global) -> Result<Vec<u8>, AllocError> {
+    Vec::with_capacity(alloc, 2_048).or_else(|_| Vec::with_capacity(alloc, 2_048))
 }
 
-// Alarms that nothing reads.
-fn unread_alarms(alloc: Global) -> Alarms<Vec<u8>> {
-    Alarms {
-        record: Vec::new(alloc),
-        displays: Vec::new(alloc),
-        limits: Vec::new(alloc),
-    }
-}
-
-// Runs the program, and answers its status.
-fn status_of<
-    R: Threads + Wait + Clock + Files<File = File, Dir: Send> + Sync,
-    W: Wait + Clock + PathHost + Copy + Send + 'static,
-    I: Read + Drop,
-    O: Write + Send + Drop,
-    E: Write + Drop,
->(rt: &R, own: W, alloc: Global, words: &[&str], input: I, out: O, err: E) -> u8 {
-    let mut err = StandardError::new(err);
-    obey(
-        rt,
-        own,
-        alloc,
-        words,
-        ORIGIN,
-        input,
-        out,
-        unread_alarms(alloc),
-        &mut err,
-    )
-    .status
-}
-
-fn run_words<
-    R: Threads + Wait + Clock + Files<File = File, Dir: Send> + Sync + AllocGlobal + Abort,
-    W: Wait + Clock + PathHost + Copy + Send + 'static,
-    I: Read + Drop,
->(rt: &R, own: W, words: &[&str], input: I) -> Ran {
-    let mut out = stream(rt, rt.alloc());
-    let mut err = stream(rt, rt.alloc());
-    let status = status_of(rt, own, rt.alloc(), words, input, &mut out, &mut err);
-    Ran { status, out, err }
-}
-
-fn replay<
-    R: Threads + Wait + Clock + Files<File = File, Dir: Send> + Sync + AllocGlobal + Abort,
-    W: Wait + Clock + PathHost + Copy + Send + 'static,
-    I: Read + Drop,
->(rt: &R, own: W, input: I) -> Ran {
-    run_words(rt, own, ["groundstation", "replay"].as_slice(), input)
-}
-
-// The words of a line, which are parted by single blanks, and then these paths.
+// The program's name, the words of a line, and these paths.
 fn words_of<'a>(
     alloc: Global,
     line: &'a str,
     paths: &[&'a str],
 ) -> Result<Vec<&'a str>, AllocError> {
     let mut words = Vec::new(alloc);
-    for word in line.split(' ') {
+    words.push("groundstation")?;
+    for word in line.split_whitespace() {
         words.push(word)?;
     }
     words.extend_from_slice(paths)?;
     Ok(words)
 }
 
-// Runs the program on the words of a line and these paths.
-fn run_line<
-    R: Threads + Wait + Clock + Files<File = File, Dir: Send> + Sync,
-    W: Wait + Clock + PathHost + Copy + Send + 'static,
-    O: Write + Send + Drop,
->(rt: &R, own: W, alloc: Global, line: &str, paths: &[&str], out: O) -> Result<Told, AllocError> {
-    let words = words_of(alloc, line, paths)?;
-    let (mut alarm, mut display_alarm) = (Vec::new(alloc), Vec::new(alloc));
-    let (mut limit_alarm, mut err) = (Vec::new(alloc), Vec::new(alloc));
-    let alarms = Alarms {
-        record: &mut alarm,
-        displays: &mut display_alarm,
-        limits: &mut limit_alarm,
-    };
-    let mut reports = StandardError::new(&mut err);
-    let ran = obey(
-        rt,
-        own,
-        alloc,
-        words.as_slice(),
-        ORIGIN,
-        NO_LINES,
-        out,
-        alarms,
-        &mut reports,
-    );
-    let status = ran.status;
-    Ok(Told {
-        status,
-        alarm,
-        display_alarm,
-        limit_alarm,
-        err,
-    })
+fn text(bytes: &Vec<u8>) -> &str {
+    std::str::from_utf8(bytes.as_slice()).unwrap_or("")
 }
 
-fn text(bytes: &Vec<u8>) -> &str {
-    match std::str::from_utf8(bytes.as_slice()) {
-        Ok(text) => text,
-        Err(_) => "",
+impl<R: System, W: Own> Trials<'_, R, W> {
+    // The same trials over another runtime.
+    fn over<'b, S>(&self, rt: &'b S) -> Trials<'b, S, W> {
+        let (own, alloc) = (self.own, self.alloc);
+        Trials { rt, own, alloc }
+    }
+
+    // Runs the program on the words of a line and these paths. What it answers has no output, since that goes to `out`. Where
+    // an allocation for the words is refused, they are made once more.
+    fn run_to(
+        &self,
+        line: &str,
+        paths: &[&str],
+        input: impl Read + Drop,
+        out: impl Write + Send + Drop,
+    ) -> Result<Ran, AllocError> {
+        let (rt, own, alloc) = (self.rt, self.own, self.alloc);
+        let words = words_of(alloc, line, paths).or_else(|_| words_of(alloc, line, paths))?;
+        let words = words.as_slice();
+        let (mut record_alarm, mut display_alarm) = (Vec::new(alloc), Vec::new(alloc));
+        let (mut limit_alarm, mut err) = (Vec::new(alloc), stream(alloc)?);
+        let alarms = Alarms {
+            record: &mut record_alarm,
+            displays: &mut display_alarm,
+            limits: &mut limit_alarm,
+        };
+        let mut told = StandardError::new(&mut err);
+        let status = obey(rt, own, alloc, words, ORIGIN, input, out, alarms, &mut told).status;
+        Ok(Ran {
+            status,
+            out: Vec::new(alloc),
+            err,
+            record_alarm,
+            display_alarm,
+            limit_alarm,
+        })
+    }
+
+    // Runs the program on the words of a line and these paths, without input.
+    fn run(&self, line: &str, paths: &[&str]) -> Result<Ran, AllocError> {
+        let mut out = stream(self.alloc)?;
+        let ran = self.run_to(line, paths, NO_LINES, &mut out)?;
+        Ok(Ran { out, ..ran })
+    }
+
+    // Runs the program on the words of a line, with this input.
+    fn ask(&self, line: &str, input: impl Read + Drop) -> Result<Ran, AllocError> {
+        let mut out = stream(self.alloc)?;
+        let ran = self.run_to(line, [].as_slice(), input, &mut out)?;
+        Ok(Ran { out, ..ran })
+    }
+
+    // The exit code of a process with these words, its output and its standard error.
+    fn code_of(&self, words: Result<Vec<String>, ErrorKind>) -> (ExitCode, Vec<u8>, Vec<u8>) {
+        let (rt, own, alloc) = (self.rt, self.own, self.alloc);
+        let (mut out, mut err) = (Vec::new(alloc), Vec::new(alloc));
+        let alarms = Alarms {
+            record: io::sink(),
+            displays: io::sink(),
+            limits: io::sink(),
+        };
+        let code = exit_code(rt, own, alloc, words, NO_LINES, &mut out, alarms, &mut err);
+        (code, out, err)
     }
 }
 
@@ -211,7 +201,7 @@ struct Closed;
 
 impl Write for Closed {
     fn write(&mut self, _piece: &[u8]) -> io::Result<usize> {
-        Err(io::Error::from(io::ErrorKind::BrokenPipe))
+        Err(io::Error::from(ErrorKind::BrokenPipe))
     }
 
     fn flush(&mut self) -> io::Result<()> {
@@ -242,31 +232,19 @@ impl Env for NotText {
     }
 }
 
-impl<
-    R: Threads + Wait + Clock + Files<File = File, Dir: Send> + Sync + AllocGlobal + Abort + Env,
-    W: Wait + Clock + PathHost + Copy + Send + 'static,
-> Trials<'_, R, W> {
+impl<R: Host, W: Own> Trials<'_, R, W> {
+    // Ends the test unless the program left this.
+    fn leaves(&self, ran: &Ran, status: u8, out: &str, err: &str) {
+        same(self.rt, text(&ran.out), out);
+        same(self.rt, text(&ran.err), err);
+        same(self.rt, ran.status, status);
+    }
+
     fn a_word_that_is_not_utf8_is_refused(self) {
-        let (rt, own) = (self.rt, self.own);
-        let words = own_words(&(NotText, rt.alloc()));
-        let alloc = rt.alloc();
-        let (mut out, mut err) = (Vec::new(alloc), Vec::new(alloc));
-        let code = exit_code(
-            rt,
-            own,
-            alloc,
-            words,
-            NO_LINES,
-            &mut out,
-            unread_alarms(alloc),
-            &mut err,
-        );
-        holds(rt, code == ExitCode::from(2) && out.is_empty());
-        same(
-            rt,
-            text(&err),
-            "error: a word of the command line is not UTF-8\n",
-        );
+        let (code, out, err) = self.code_of(own_words(&(NotText, self.alloc)));
+        holds(self.rt, code == ExitCode::from(2) && out.is_empty());
+        let refused = "error: a word of the command line is not UTF-8\n";
+        same(self.rt, text(&err), refused);
     }
 }
 

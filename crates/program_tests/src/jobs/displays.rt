@@ -1,102 +1,72 @@
 //! The job `run` with a folder for displays.
 use super::bounds::*;
 use super::json::JSON_OF_BOTH;
-use super::run::{
-    IDENTIFICATION, ONE_FRAME_EACH, TABLE_OF_BOTH, TwoFiles, VELOCITY, path_text, remove, two_files,
-};
-use super::staged::Staged;
-use super::{Told, Trials, run_line, text};
+use super::run::{IDENTIFICATION, ONE_FRAME_EACH, TABLE_OF_BOTH, TwoFiles, VELOCITY};
+use super::{Ran, Trials, text};
 use crate::comparing::{holds, same};
 use std::fs;
-use std::io::{self, Write};
-use std::sync::atomic::AtomicBool;
 use std::test::*;
 
 const RECEIVER: &str = "{\"version\":\"groundstation 1.0.0\",\"refresh\":3600000,\"history\":0}";
 
-// Runs over the two files beside a staged clock, with tables in this folder.
-fn run_shown<
-    R: Threads + Wait + Clock + Files<File = File, Dir: Send> + Sync + AllocGlobal + Abort,
-    W: Wait + Clock + PathHost + Copy + Send + 'static,
-    O: Write + Send + Drop,
->(rt: &R, own: W, files: &TwoFiles, folder: &str, options: &str, out: O) -> io::Result<Told> {
-    let alloc = rt.alloc();
-    let has_ended = AtomicBool::new(false);
-    let staged = Staged::new(rt, [1_000_000].as_slice(), &has_ended);
-    let line = format!(in alloc; "groundstation run --every=3600000 --json={folder}{options}")?;
-    let paths = [path_text(&files.first)?, path_text(&files.second)?];
-    Ok(run_line(&staged, own, alloc, line.as_str(), paths.as_slice(), out)?)
-}
+impl<R: Host, W: Own> Trials<'_, R, W> {
+    // Runs with tables in this folder.
+    fn run_shown(&self, files: &TwoFiles, folder: &str, options: &str) -> Result<Ran, Fail> {
+        let options = format!(in self.alloc; "--json={folder} {options}")?;
+        self.run_still(files, options.as_str())
+    }
 
-impl<
-    R: Threads + Wait + Clock + Files<File = File, Dir: Send> + Sync + AllocGlobal + Abort + Env,
-    W: Wait + Clock + PathHost + Copy + Send + 'static,
-> Trials<'_, R, W> {
-    fn each_table_is_put_where_displays_find_it(self) -> Result<(), Fail> {
-        let (rt, own) = (self.rt, self.own);
-        let files = two_files(rt, IDENTIFICATION, VELOCITY)?;
-        let folder = path_text(&files.folder)?;
-        let mut out = Vec::new(rt.alloc());
-        let told = run_shown(rt, own, &files, folder, "", &mut out)?;
-        same(rt, text(&out), TABLE_OF_BOTH);
-        let table = fs::read(
-            rt,
-            format!(in rt.alloc(); "{folder}/aircraft.json")?.as_str(),
+    // Ends the test unless it was reported once that no table could be written to this folder.
+    fn reports_once(&self, ran: &Ran, folder: &str) -> Result<(), Fail> {
+        let report = format!(in self.alloc;
+            "groundstation: cannot write {folder}/aircraft.json\n"
         )?;
-        same(rt, text(&table), JSON_OF_BOTH);
-        let receiver = fs::read(
-            rt,
-            format!(in rt.alloc(); "{folder}/receiver.json")?.as_str(),
-        )?;
-        same(rt, text(&receiver), RECEIVER);
-        let beside = format!(in rt.alloc(); "{folder}/aircraft.json.new")?;
-        holds(rt, File::open(rt, beside.as_str()).is_err());
-        same(rt, text(&told.err), ONE_FRAME_EACH);
-        holds(rt, told.display_alarm.is_empty() && told.status == 0);
-        remove(rt, &files)?;
+        same(self.rt, text(&ran.display_alarm), report.as_str());
+        same(self.rt, ran.status, 1);
         Ok(())
+    }
+
+    fn each_table_is_put_where_displays_find_it(self) -> Result<(), Fail> {
+        let rt = self.rt;
+        let files = self.two_files(IDENTIFICATION, VELOCITY)?;
+        let folder = files.folder.as_str();
+        let ran = self.run_shown(&files, folder, "")?;
+        self.leaves(&ran, 0, TABLE_OF_BOTH, ONE_FRAME_EACH);
+        holds(rt, ran.display_alarm.is_empty());
+        for (name, text_of_file) in [("aircraft", JSON_OF_BOTH), ("receiver", RECEIVER)] {
+            let path = format!(in self.alloc; "{folder}/{name}.json")?;
+            let file = fs::read(rt, path.as_str())?;
+            same(rt, text(&file), text_of_file);
+        }
+        let beside = format!(in self.alloc; "{folder}/aircraft.json.new")?;
+        holds(rt, File::open(rt, beside.as_str()).is_err());
+        self.remove(&files.folder)
     }
 
     // Two rounds, so two tables, but one report.
     fn a_failed_write_for_displays_leaves_the_tables(self) -> Result<(), Fail> {
-        let (rt, own) = (self.rt, self.own);
-        let files = two_files(rt, IDENTIFICATION, VELOCITY)?;
-        let folder = format!(in rt.alloc(); "{}/nowhere", path_text(&files.folder)?)?;
-        let folder = folder.as_str();
-        let mut out = Vec::new(rt.alloc());
-        let told = run_shown(rt, own, &files, folder, " --rounds=2", &mut out)?;
-        same(
-            rt,
-            text(&out).strip_prefix(TABLE_OF_BOTH),
-            Some(TABLE_OF_BOTH),
-        );
-        let report = format!(in rt.alloc();
-            "groundstation: cannot write {folder}/aircraft.json\n"
-        )?;
-        same(rt, text(&told.display_alarm), report.as_str());
-        holds(rt, text(&told.err).starts_with(ONE_FRAME_EACH));
-        holds(rt, told.alarm.is_empty() && told.status == 1);
-        remove(rt, &files)?;
-        Ok(())
+        let rt = self.rt;
+        let files = self.two_files(IDENTIFICATION, VELOCITY)?;
+        let folder = format!(in self.alloc; "{}/nowhere", files.folder.as_str())?;
+        let ran = self.run_shown(&files, folder.as_str(), "--rounds=2")?;
+        let second_table = text(&ran.out).strip_prefix(TABLE_OF_BOTH);
+        same(rt, second_table, Some(TABLE_OF_BOTH));
+        self.reports_once(&ran, folder.as_str())?;
+        holds(rt, text(&ran.err).starts_with(ONE_FRAME_EACH));
+        holds(rt, ran.record_alarm.is_empty());
+        self.remove(&files.folder)
     }
 
     // A folder is where the file would be renamed to.
     fn a_table_that_cannot_be_renamed_is_reported(self) -> Result<(), Fail> {
-        let (rt, own) = (self.rt, self.own);
-        let files = two_files(rt, IDENTIFICATION, VELOCITY)?;
-        let folder = path_text(&files.folder)?;
-        let table = format!(in rt.alloc(); "{folder}/aircraft.json")?;
-        fs::create_dir(rt, table.as_str())?;
-        let mut out = Vec::new(rt.alloc());
-        let told = run_shown(rt, own, &files, folder, " --format=json", &mut out)?;
-        same(rt, text(&out), JSON_OF_BOTH);
-        let report = format!(in rt.alloc();
-            "groundstation: cannot write {folder}/aircraft.json\n"
-        )?;
-        same(rt, text(&told.display_alarm), report.as_str());
-        same(rt, told.status, 1);
-        remove(rt, &files)?;
-        Ok(())
+        let files = self.two_files(IDENTIFICATION, VELOCITY)?;
+        let folder = files.folder.as_str();
+        let table = format!(in self.alloc; "{folder}/aircraft.json")?;
+        fs::create_dir(self.rt, table.as_str())?;
+        let ran = self.run_shown(&files, folder, "--format=json")?;
+        same(self.rt, text(&ran.out), JSON_OF_BOTH);
+        self.reports_once(&ran, folder)?;
+        self.remove(&files.folder)
     }
 }
 

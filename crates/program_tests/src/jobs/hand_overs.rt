@@ -1,19 +1,17 @@
 //! The job `run` over stations that hand over.
 use super::bounds::*;
-use super::records::shown_again;
 use super::replies::all_call_replies;
-use super::run::{IDENTIFICATION, new_folder, path_text};
-use super::staged::{Staged, lasting_path};
+use super::run::IDENTIFICATION;
+use super::sleeps::at;
+use super::staged::Staged;
 use super::{Trials, text};
 use crate::comparing::{holds, same};
 use station_journal::{Entry, Recent};
-use station_main::{
-    Alarms, Asked, Due, Duties, Kept, Pace, StandardError, Tables, run_for_displays,
-};
+use station_main::{Alarms, Asked, Duties, Kept, Pace, StandardError, Tables, run_for_displays};
 use station_report::Format;
+use std::alloc::{AllocError, Global};
 use std::fs;
 use std::io::{self, ErrorKind, PipeWriter, Write};
-use std::sync::atomic::AtomicBool;
 use std::test::*;
 use std::thread::{self, join};
 use std::time::Duration;
@@ -35,14 +33,8 @@ fn hand_overs<R: Files + AllocGlobal>(rt: &R, record: &str) -> io::Result<usize>
         Err(error) if error.kind() == ErrorKind::NotFound => return Ok(0),
         lines => lines?,
     };
-    let (mut ticks, mut tables) = (0usize, 0usize);
-    for byte in lines.as_slice() {
-        match *byte {
-            b'+' => ticks = ticks.saturating_add(1),
-            b'?' => tables = tables.saturating_add(1),
-            _ => (),
-        }
-    }
+    let lines = text(&lines);
+    let (ticks, tables) = (lines.split('+').count(), lines.split('?').count());
     Ok(ticks.saturating_sub(tables))
 }
 
@@ -68,144 +60,104 @@ fn feed<R: Clock + Files + AllocGlobal>(
     text: &str,
     record: &str,
 ) -> io::Result<bool> {
-    let bytes = text.as_bytes();
-    let part = bytes.len() / usize::from(TIMES);
-    let mut at = 0;
+    let mut rest = text.as_bytes();
+    let part = rest.len() / usize::from(TIMES);
+    let mut length = part.saturating_sub(LATE);
     for time in 1..=usize::from(TIMES) {
-        let end = part
-            .saturating_mul(time)
-            .saturating_sub(LATE)
-            .min(bytes.len());
-        if end > at {
-            lines.write_all(&bytes[at..end])?;
-            at = end;
-        }
+        let (next, later) = rest.split_at(length.min(rest.len()));
+        lines.write_all(next)?;
+        (rest, length) = (later, part);
         if !await_hand_overs(rt, record, time)? {
             return Ok(false);
         }
     }
-    lines.write_all(&bytes[at.min(bytes.len())..])?;
+    lines.write_all(rest)?;
     Ok(true)
 }
 
-// The clock passes 71 seconds at each reading, so what was heard before a hand-over is not recent after it.
-fn moments<R: AllocGlobal>(rt: &R) -> Result<Vec<u64>, std::alloc::AllocError> {
-    let mut moments = Vec::new(rt.alloc());
-    for i in 0..10_000u64 {
-        moments.push(1_000_000 + 71_000 * i)?;
-    }
-    Ok(moments)
-}
-
-// A reporter with a table each `every` milliseconds.
-fn duties(every: u32) -> Duties {
-    let tables = Tables {
+// Tables each `every` milliseconds.
+fn tables_each(every: u32) -> Tables {
+    Tables {
         pace: Pace { every, tick: None },
         format: Format::Text,
-    };
-    Duties::first(tables, 0, LIMIT, false)
+    }
+}
+
+// A reporter with such tables.
+fn duties(every: u32) -> Duties {
+    Duties::first(tables_each(every), 0, LIMIT, false)
 }
 
 // What a hand-over leaves: this number of entries, and the time of the last tick.
-fn kept<R: AllocGlobal>(rt: &R, count: u8, last_tick: u64) -> Result<Kept, std::alloc::AllocError> {
-    let mut entries = Vec::new(rt.alloc());
+fn kept(alloc: Global, count: u8, last_tick: u64) -> Result<Kept, AllocError> {
+    let mut entries = Vec::new(alloc);
     for i in 0..count {
-        entries.push(Entry::Tick {
-            seat: 0,
-            at: 1 + u64::from(i),
-        })?;
+        let at = 1 + u64::from(i);
+        entries.push(Entry::Tick { seat: 0, at })?;
     }
-    Ok(Kept {
-        recent: Recent { base: 0, entries },
-        last_tick,
-    })
+    let recent = Recent { base: 0, entries };
+    Ok(Kept { recent, last_tick })
 }
 
-impl<
-    R: Threads + Wait + Clock + Files<File = File, Dir: Send> + Sync + AllocGlobal + Abort + Env,
-    W: Wait + Clock + PathHost + Copy + Send + 'static,
-> Trials<'_, R, W> {
-    fn a_hand_over_is_asked_for_right_after_a_table(self) {
-        let rt = self.rt;
-        // The interval between tables, the number of entries, the time now, when a table is due, and whether it is asked for.
-        let rows = [
-            (200, 20, 1_000, 1_200, true),
-            (200, 21, 1_000, 1_200, true),
-            (200, 19, 1_000, 1_200, false),
-            (200, 20, 1_001, 1_200, false),
-            (200, 20, 1_300, 1_200, false),
-            (1, 20, 1_000, 1_001, true),
-            (1_000, 20, 1_000, 2_000, true),
-            (1_000, 20, 1_001, 2_000, false),
-            (5_000, 20, 1_000, 2_000, true),
-            (5_000, 20, 1_001, 2_000, false),
-            (3_600_000, 20, 0, 3_600_000, true),
-            (3_600_000, 20, u64::MAX, u64::MAX, false),
-        ];
-        for (every, entries, now, table, is_asked) in rows {
-            let due = Due { table, tick: None };
-            same(rt, duties(every).asks(entries, now, due), is_asked);
-        }
-    }
-
-    fn a_hand_over_that_freed_little_is_followed_by_a_pause(self) -> Result<(), Fail> {
-        let rt = self.rt;
-        // How many entries were left, the time of the last tick, and when the next hand-over may be asked for.
-        let rows = [
-            (0, 5_000, 0),
-            (10, 5_000, 0),
-            (11, 5_000, 15_000),
-            (20, 0, 10_000),
-            (20, u64::MAX - 9_999, u64::MAX),
-        ];
-        let due = Due {
-            table: 20_000,
-            tick: None,
-        };
-        for (count, last_tick, not_before) in rows {
-            let next = duties(200).after_hand_over(&kept(rt, count, last_tick)?, due);
-            same(rt, next.not_before, not_before);
-            same(rt, next.due, due);
-            if let Some(early) = not_before.checked_sub(1) {
-                holds(
-                    rt,
-                    !next.asks(
-                        LIMIT,
-                        early,
-                        Due {
-                            table: u64::MAX,
-                            tick: None,
-                        },
-                    ),
-                );
-            }
-            holds(
-                rt,
-                not_before == u64::MAX
-                    || next.asks(
-                        LIMIT,
-                        not_before,
-                        Due {
-                            table: u64::MAX,
-                            tick: None,
-                        },
-                    ),
-            );
-        }
-        Ok(())
+#[test]
+fn a_hand_over_is_asked_for_right_after_a_table(rt: HostRuntime) {
+    // The interval between tables, the number of entries, the time now, when a table is due, and whether it is asked for.
+    for (every, entries, now, table, is_asked) in [
+        (200, 20, 1_000, 1_200, true),
+        (200, 21, 1_000, 1_200, true),
+        (200, 19, 1_000, 1_200, false),
+        (200, 20, 1_001, 1_200, false),
+        (200, 20, 1_300, 1_200, false),
+        (1, 20, 1_000, 1_001, true),
+        (1_000, 20, 1_000, 2_000, true),
+        (1_000, 20, 1_001, 2_000, false),
+        (5_000, 20, 1_000, 2_000, true),
+        (5_000, 20, 1_001, 2_000, false),
+        (3_600_000, 20, 0, 3_600_000, true),
+        (3_600_000, 20, u64::MAX, u64::MAX, false),
+    ] {
+        let asks = duties(every).asks(entries, now, at(table, None));
+        same(&rt, asks, is_asked);
     }
 }
 
-// The second path is silent after its first line.
+#[test]
+fn a_hand_over_that_freed_little_is_followed_by_a_pause(rt: HostRuntime) -> Result<(), Fail> {
+    let (due, never) = (at(20_000, None), at(u64::MAX, None));
+    // How many entries were left, the time of the last tick, and when the next hand-over may be asked for.
+    for (count, last_tick, not_before) in [
+        (0, 5_000, 0),
+        (10, 5_000, 0),
+        (11, 5_000, 15_000),
+        (20, 0, 10_000),
+        (20, u64::MAX - 9_999, u64::MAX),
+    ] {
+        let left = kept(rt.alloc(), count, last_tick)?;
+        let next = duties(200).after_hand_over(&left, due);
+        same(&rt, next.not_before, not_before);
+        same(&rt, next.due, due);
+        if let Some(early) = not_before.checked_sub(1) {
+            holds(&rt, !next.asks(LIMIT, early, never));
+        }
+        let asks = next.asks(LIMIT, not_before, never);
+        holds(&rt, asks || not_before == u64::MAX);
+    }
+    Ok(())
+}
+
+// The second path is silent after its first line. The clock passes 71 seconds at each reading, so what was heard before a
+// hand-over is not recent after it.
 #[test]
 fn hand_overs_lose_no_line_and_print_no_table(rt: HostRuntime) -> Result<(), Fail> {
-    let alloc = rt.alloc();
-    let folder = new_folder(&rt)?;
-    let record = format!(in alloc; "{}/record", path_text(&folder)?)?;
-    let moments = moments(&rt)?;
-    let has_ended = AtomicBool::new(false);
-    let staged = Staged::new(&rt, moments.as_slice(), &has_ended);
-    let (first, mut second) = (lasting_path(&rt, alloc)?, lasting_path(&rt, alloc)?);
+    let (trials, alloc) = (Trials::on(&rt), rt.alloc());
+    let folder = trials.new_folder()?;
+    let record = format!(in alloc; "{}/record", folder.as_str())?;
+    let mut moments = Vec::new(alloc);
+    for i in 0..10_000u64 {
+        moments.push(1_000_000 + 71_000 * i)?;
+    }
+    let staged = Staged::new(&rt, moments.as_slice());
+    let (first, mut second) = (trials.lasting_path()?, trials.lasting_path()?);
     second.lines.write_all(IDENTIFICATION.as_bytes())?;
     let (first_lines, second_lines) = (first.lines, second.lines);
     let paths = vec![in alloc; first.path, second.path]?;
@@ -213,13 +165,7 @@ fn hand_overs_lose_no_line_and_print_no_table(rt: HostRuntime) -> Result<(), Fai
     let path = format!(in alloc; "{record}")?;
     let asked_record = Some(record);
     let asked = Asked {
-        tables: Tables {
-            pace: Pace {
-                every: 3_600_000,
-                tick: None,
-            },
-            format: Format::Text,
-        },
+        tables: tables_each(3_600_000),
         rounds: 1,
         reopens: false,
         origin: 0,
@@ -229,11 +175,8 @@ fn hand_overs_lose_no_line_and_print_no_table(rt: HostRuntime) -> Result<(), Fai
         hand_over_at: LIMIT,
     };
     let (mut out, mut told) = (Vec::new(alloc), Vec::new(alloc));
-    let (mut alarm, mut display_alarm, mut limit_alarm) = (
-        Vec::new(alloc),
-        Vec::new(alloc),
-        Vec::new(alloc),
-    );
+    let (mut alarm, mut limit_alarm) = (Vec::new(alloc), Vec::new(alloc));
+    let mut display_alarm = Vec::new(alloc);
     let alarms = Alarms {
         record: &mut alarm,
         displays: &mut display_alarm,
@@ -250,31 +193,15 @@ fn hand_overs_lose_no_line_and_print_no_table(rt: HostRuntime) -> Result<(), Fai
         || { run_for_displays(&staged, rt, alloc, asked, &mut out, alarms, &mut err).status },
     );
     holds(&rt, were_fed?);
-    holds(
-        &rt,
-        status == 0 && alarm.is_empty() && limit_alarm.is_empty(),
+    let are_silent = alarm.is_empty() && limit_alarm.is_empty();
+    holds(&rt, status == 0 && are_silent);
+    let tallies = concat!(
+        "lines 120 frames 120 ticks 0 shows 0 blank 0 modeac 0 faults 0 accepted 120 refused 0\n",
+        "lines 1 frames 1 ticks 0 shows 0 blank 0 modeac 0 faults 0 accepted 1 refused 0\n",
     );
-    same(
-        &rt,
-        text(&told),
-        concat!(
-            "lines 120 frames 120 ticks 0 shows 0 blank 0 modeac 0 faults 0 accepted 120 refused 0\n",
-            "lines 1 frames 1 ticks 0 shows 0 blank 0 modeac 0 faults 0 accepted 1 refused 0\n",
-        ),
-    );
-    let (recorded, shown) = shown_again(&rt, rt, path.as_str())?;
+    same(&rt, text(&told), tallies);
+    let (recorded, shown) = trials.shown_again(path.as_str())?;
     same(&rt, text(&shown), text(&out));
     same(&rt, text(&recorded).split('*').count(), 122);
-    fs::remove_dir_all(&rt, &folder)?;
-    Ok(())
-}
-
-#[test]
-fn a_hand_over_is_asked_for_right_after_a_table(rt: HostRuntime) {
-    Trials::on(&rt).a_hand_over_is_asked_for_right_after_a_table()
-}
-
-#[test]
-fn a_hand_over_that_freed_little_is_followed_by_a_pause(rt: HostRuntime) -> Result<(), Fail> {
-    Trials::on(&rt).a_hand_over_that_freed_little_is_followed_by_a_pause()
+    trials.remove(&folder)
 }

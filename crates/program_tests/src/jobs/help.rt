@@ -1,16 +1,11 @@
 //! Command lines that ask for help or the version.
-use super::{NO_LINES, run_words, text, words_of};
+use super::{NO_LINES, Trials, text};
 use crate::comparing::{holds_at, same_at};
 use std::alloc::AllocError;
 
 // The lines for which help is asked fit a terminal of 80 columns.
 fn is_narrow(text: &str) -> bool {
-    for line in text.split('\n') {
-        if line.len() > 80 {
-            return false;
-        }
-    }
-    true
+    text.split('\n').all(|line| line.len() <= 80)
 }
 
 const HELP: &str = concat!(
@@ -67,34 +62,25 @@ const RUN_HELP_END: &str = concat!(
 #[test]
 fn help_is_written_to_standard_output(rt: HostRuntime) -> Result<(), AllocError> {
     for (line, front, end) in [
-        ("groundstation --help", HELP, ""),
-        ("groundstation run --help", RUN_HELP, RUN_HELP_END),
-        ("groundstation replay -h", REPLAY_HELP, REPLAY_HELP_END),
+        ("--help", HELP, ""),
+        ("run --help", RUN_HELP, RUN_HELP_END),
+        ("replay -h", REPLAY_HELP, REPLAY_HELP_END),
     ] {
-        let words = words_of(rt.alloc(), line, [].as_slice())?;
-        let help = run_words(&rt, rt, words.as_slice(), NO_LINES);
-        holds_at(
-            &rt,
-            help.status == 0 && help.err.is_empty() && is_narrow(text(&help.out)),
-            line,
-        );
-        let rest = text(&help.out)
-            .strip_prefix(front)
-            .unwrap_or("no such front");
-        holds_at(
-            &rt,
-            rest.ends_with(end) && rest.is_empty() == end.is_empty(),
-            line,
-        );
+        let help = Trials::on(&rt).ask(line, NO_LINES)?;
+        let shown = text(&help.out);
+        let is_help = help.status == 0 && help.err.is_empty() && is_narrow(shown);
+        holds_at(&rt, is_help, line);
+        let rest = shown.strip_prefix(front).unwrap_or("no such front");
+        let is_end = rest.ends_with(end) && rest.is_empty() == end.is_empty();
+        holds_at(&rt, is_end, line);
     }
     Ok(())
 }
 
 #[test]
 fn the_version_is_written_to_standard_output(rt: HostRuntime) -> Result<(), AllocError> {
-    for line in ["groundstation --version", "groundstation -V"] {
-        let words = words_of(rt.alloc(), line, [].as_slice())?;
-        let told = run_words(&rt, rt, words.as_slice(), NO_LINES);
+    for line in ["--version", "-V"] {
+        let told = Trials::on(&rt).ask(line, NO_LINES)?;
         same_at(&rt, text(&told.out), "groundstation 1.0.0\n", line);
         holds_at(&rt, told.err.is_empty() && told.status == 0, line);
     }

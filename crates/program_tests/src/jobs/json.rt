@@ -1,13 +1,10 @@
 //! Tables as JSON.
 use super::bounds::*;
-use super::run::{IDENTIFICATION, VELOCITY, path_text, remove, two_files};
+use super::run::{IDENTIFICATION, VELOCITY};
 use super::staged::Staged;
-use super::{NO_LINES, Trials, run_line, run_words, text, unread_alarms, words_of};
+use super::{Trials, text, words_of};
 use crate::comparing::{holds, same};
-use station_main::exit_code;
-use std::alloc::{AllocError, Global};
 use std::process::ExitCode;
-use std::sync::atomic::AtomicBool;
 use std::test::*;
 
 // An identification and its table, and 5,432 ms later the table once more.
@@ -37,23 +34,8 @@ pub const JSON_OF_BOTH: &str = concat!(
     "\"baro_rate\":-832,\"vert_rate\":-832,\"seen\":0.000}]}\n",
 );
 
-// The words of a line and these paths, each as text of its own.
-fn owned_words(alloc: Global, line: &str, paths: &[&str]) -> Result<Vec<String>, AllocError> {
-    let mut owned = Vec::new(alloc);
-    for word in words_of(alloc, line, paths)? {
-        owned.push(String::from_str(alloc, word)?)?;
-    }
-    Ok(owned)
-}
-
-impl<
-    R: Threads + Wait + Clock + Files<File = File, Dir: Send> + Sync + AllocGlobal + Abort + Env,
-    W: Wait + Clock + PathHost + Copy + Send + 'static,
-> Trials<'_, R, W> {
-    fn replay_writes_json_where_it_is_asked(self) -> Result<(), AllocError> {
-        let (rt, own) = (self.rt, self.own);
-        let line = "groundstation replay --format json";
-        let words = words_of(rt.alloc(), line, [].as_slice())?;
+impl<R: Host, W: Own> Trials<'_, R, W> {
+    fn replay_writes_json_where_it_is_asked(self) -> Result<(), Fail> {
         for (lines, tables, tally) in [
             (
                 LINES,
@@ -71,58 +53,37 @@ impl<
                 "lines 1 frames 0 ticks 0 shows 1 blank 0 modeac 0 faults 0 accepted 0 refused 0\n",
             ),
         ] {
-            let ran = run_words(rt, own, words.as_slice(), lines);
-            same(rt, text(&ran.out), tables);
-            same(rt, text(&ran.err), tally);
-            same(rt, ran.status, 0);
+            let ran = self.ask("replay --format json", lines)?;
+            self.leaves(&ran, 0, tables, tally);
         }
         Ok(())
     }
 
     fn run_writes_json_where_it_is_asked(self) -> Result<(), Fail> {
-        let (rt, own) = (self.rt, self.own);
-        let files = two_files(rt, IDENTIFICATION, VELOCITY)?;
-        let paths = [path_text(&files.first)?, path_text(&files.second)?];
-        let has_ended = AtomicBool::new(false);
-        let staged = Staged::new(rt, [1_000_000].as_slice(), &has_ended);
-        let line = "groundstation run --every 3600000 --format json";
-        let mut out = Vec::new(rt.alloc());
-        let told = run_line(&staged, own, rt.alloc(), line, paths.as_slice(), &mut out)?;
-        same(rt, text(&out), JSON_OF_BOTH);
-        same(rt, told.status, 0);
-        remove(rt, &files)?;
-        Ok(())
+        let files = self.two_files(IDENTIFICATION, VELOCITY)?;
+        let ran = self.run_still(&files, "--format json")?;
+        same(self.rt, text(&ran.out), JSON_OF_BOTH);
+        same(self.rt, ran.status, 0);
+        self.remove(&files.folder)
     }
 
     fn json_of_a_run_counts_from_the_time_of_the_system(self) -> Result<(), Fail> {
-        let (rt, own) = (self.rt, self.own);
-        let alloc = rt.alloc();
-        let files = two_files(rt, IDENTIFICATION, VELOCITY)?;
-        let paths = [path_text(&files.first)?, path_text(&files.second)?];
-        let has_ended = AtomicBool::new(false);
-        let staged = Staged::new(rt, [1_000_000].as_slice(), &has_ended);
-        let line = "groundstation run --every 3600000 --format json";
-        let words = owned_words(alloc, line, paths.as_slice())?;
-        let mut out = Vec::new(alloc);
-        let code = exit_code(
-            &staged,
-            own,
-            alloc,
-            Ok(words),
-            NO_LINES,
-            &mut out,
-            unread_alarms(alloc),
-            Vec::new(alloc),
-        );
-        same(rt, text(&out), JSON_OF_BOTH);
-        holds(rt, code == ExitCode::SUCCESS);
-        remove(rt, &files)?;
-        Ok(())
+        let files = self.two_files(IDENTIFICATION, VELOCITY)?;
+        let staged = Staged::new(self.rt, [1_000_000].as_slice());
+        let line = "run --every 3600000 --format json";
+        let mut words = Vec::new(self.alloc);
+        for word in words_of(self.alloc, line, files.paths().as_slice())? {
+            words.push(String::from_str(self.alloc, word)?)?;
+        }
+        let (code, out, _) = self.over(&staged).code_of(Ok(words));
+        same(self.rt, text(&out), JSON_OF_BOTH);
+        holds(self.rt, code == ExitCode::SUCCESS);
+        self.remove(&files.folder)
     }
 }
 
 #[test]
-fn replay_writes_json_where_it_is_asked(rt: HostRuntime) -> Result<(), AllocError> {
+fn replay_writes_json_where_it_is_asked(rt: HostRuntime) -> Result<(), Fail> {
     Trials::on(&rt).replay_writes_json_where_it_is_asked()
 }
 

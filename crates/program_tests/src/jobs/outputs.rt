@@ -1,8 +1,8 @@
 //! Outputs that fail once, that wait, and that report how they are written.
 use super::bounds::*;
 use super::replies::all_call_replies;
-use super::staged::{Feed, Staged, becomes_set, run_lasting};
-use super::{TABLE_OF_NOBODY, Trials, status_of, text};
+use super::staged::{Feed, Staged, becomes_set};
+use super::{TABLE_OF_NOBODY, Trials, text};
 use crate::comparing::{holds, same};
 use std::alloc::{AllocError, Global};
 use std::io::{self, ErrorKind, Write};
@@ -94,116 +94,93 @@ impl<'a> Write for Pieces<'a> {
     }
 }
 
-impl<
-    R: Threads + Wait + Clock + Files<File = File, Dir: Send> + Sync + AllocGlobal + Abort + Env,
-    W: Wait + Clock + PathHost + Copy + Send + 'static,
-> Trials<'_, R, W> {
-    fn replay_writes_nothing_after_a_failed_write(self) {
-        let (rt, own) = (self.rt, self.own);
+impl<R: Host, W: Own> Trials<'_, R, W> {
+    fn replay_writes_nothing_after_a_failed_write(self) -> Result<(), Fail> {
         let lines: &[u8] = b"?\n*8D4840D6202CC371C32CE0576098;\n?\n?\n*0000;\n?\n";
-        let (mut taken, mut err) = (Vec::new(rt.alloc()), Vec::new(rt.alloc()));
         let has_failed = AtomicBool::new(false);
+        let mut taken = Vec::new(self.alloc);
         let out = FailsOnce {
             taken: &mut taken,
             writes: 0,
             has_failed: &has_failed,
         };
-        let words = ["groundstation", "replay"];
-        let status = status_of(rt, own, rt.alloc(), words.as_slice(), lines, out, &mut err);
-        same(rt, text(&taken), TABLE_OF_NOBODY);
-        same(
-            rt,
-            text(&err),
-            concat!(
-                "lines 3 frames 1 ticks 0 shows 2 blank 0 modeac 0 faults 0 accepted 1 refused 0\n",
-                "groundstation: write failed\n",
-            ),
+        let ran = self.run_to("replay", [].as_slice(), lines, out)?;
+        same(self.rt, text(&taken), TABLE_OF_NOBODY);
+        let told = concat!(
+            "lines 3 frames 1 ticks 0 shows 2 blank 0 modeac 0 faults 0 accepted 1 refused 0\n",
+            "groundstation: write failed\n",
         );
-        same(rt, status, 1);
+        self.leaves(&ran, 1, "", told);
+        Ok(())
     }
 
     // The second table is due at 200 ms. The frame comes after its write has failed.
     fn run_writes_nothing_after_a_failed_write_and_reads_on(self) -> Result<(), Fail> {
-        let (rt, own) = (self.rt, self.own);
         let moments = [0, 50, 100, 150, 200, 250, 300, 350, 400];
-        let (has_ended, has_failed) = (AtomicBool::new(false), AtomicBool::new(false));
-        let staged = Staged::new(rt, moments.as_slice(), &has_ended);
-        let mut taken = Vec::new(rt.alloc());
+        let has_failed = AtomicBool::new(false);
+        let staged = Staged::new(self.rt, moments.as_slice());
+        let mut taken = Vec::new(self.alloc);
         let out = FailsOnce {
             taken: &mut taken,
             writes: 0,
             has_failed: &has_failed,
         };
         let feed = Feed::at(&has_failed, b"*8D4840D6202CC371C32CE0576098;\n");
-        let told = run_lasting(rt, &staged, own, "groundstation run --every 100", out, feed)?.told;
-        same(rt, text(&taken), tables!("now 100 aircraft 0" => []));
-        same(
-            rt,
-            text(&told.err),
-            concat!(
-                "lines 1 frames 1 ticks 0 shows 0 blank 0 modeac 0 faults 0 accepted 1 refused 0\n",
-                "groundstation: write failed\n",
-            ),
+        let (ran, _) = self.run_lasting(&staged, "run --every 100", out, feed)?;
+        same(self.rt, text(&taken), tables!("now 100 aircraft 0" => []));
+        let told = concat!(
+            "lines 1 frames 1 ticks 0 shows 0 blank 0 modeac 0 faults 0 accepted 1 refused 0\n",
+            "groundstation: write failed\n",
         );
-        same(rt, told.status, 1);
+        self.leaves(&ran, 1, "", told);
         Ok(())
     }
 
     fn output_that_waits_holds_no_receiver_up(self) -> Result<(), Fail> {
-        let (rt, own) = (self.rt, self.own);
         let (is_waiting, is_fed) = (AtomicBool::new(false), AtomicBool::new(false));
         let out = Waiting {
-            rt,
+            rt: self.rt,
             is_waiting: &is_waiting,
             is_fed: &is_fed,
         };
-        let lines = long_lines(rt.alloc())?;
+        let lines = long_lines(self.alloc)?;
         let feed = Feed {
             start: &is_waiting,
             text: lines.as_slice(),
             end: &is_fed,
         };
-        let told = run_lasting(rt, rt, own, "groundstation run --every 1", out, feed)?.told;
-        same(
-            rt,
-            text(&told.err),
-            "lines 160004 frames 4 ticks 0 shows 0 blank 160000 modeac 0 faults 0 accepted 4 refused 0\n",
-        );
-        same(rt, told.status, 0);
+        let (ran, _) = self.run_lasting(self.rt, "run --every 1", out, feed)?;
+        let tally =
+            "lines 160004 frames 4 ticks 0 shows 0 blank 160000 modeac 0 faults 0 accepted 4 refused 0\n";
+        self.leaves(&ran, 0, "", tally);
         Ok(())
     }
 
     // The first line has 37 bytes before its LF if its time has 20 digits, the header and each row have 73.
     fn a_full_table_is_written_at_once(self) -> Result<(), Fail> {
-        let (rt, own) = (self.rt, self.own);
         let moments = [0, 18_446_744_073_709_551_000];
-        let (has_ended, is_written) = (AtomicBool::new(false), AtomicBool::new(false));
-        let staged = Staged::new(rt, moments.as_slice(), &has_ended);
-        let (mut lengths, mut last) = (Vec::new(rt.alloc()), Vec::new(rt.alloc()));
+        let is_written = AtomicBool::new(false);
+        let staged = Staged::new(self.rt, moments.as_slice());
+        let (mut lengths, mut last) = (Vec::new(self.alloc), Vec::new(self.alloc));
         let out = Pieces {
             lengths: &mut lengths,
             last: &mut last,
             is_written: &is_written,
         };
-        let replies = all_call_replies(rt.alloc(), 1, 512)?;
+        let replies = all_call_replies(self.alloc, 1, 512)?;
         let feed = Feed::at(&is_written, replies.as_bytes());
-        let told = run_lasting(rt, &staged, own, "groundstation run --every 1", out, feed)?.told;
-        holds(
-            rt,
-            text(&last).starts_with("now 18446744073709551000 aircraft 512\n"),
-        );
-        same(
-            rt,
-            lengths.as_slice(),
-            [36 + 74, 38 + 74 + 512 * 74].as_slice(),
-        );
-        same(rt, told.status, 0);
+        let (ran, _) = self.run_lasting(&staged, "run --every 1", out, feed)?;
+        let first_line = "now 18446744073709551000 aircraft 512\n";
+        holds(self.rt, text(&last).starts_with(first_line));
+        let wanted = [36 + 74, 38 + 74 + 512 * 74];
+        same(self.rt, lengths.as_slice(), wanted.as_slice());
+        same(self.rt, ran.status, 0);
         Ok(())
     }
 }
 
 #[test]
-fn replay_writes_nothing_after_a_failed_write(rt: HostRuntime) {
+fn replay_writes_nothing_after_a_failed_write(rt: HostRuntime) -> Result<(), Fail> {
     Trials::on(&rt).replay_writes_nothing_after_a_failed_write()
 }
 

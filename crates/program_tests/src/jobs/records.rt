@@ -1,208 +1,141 @@
 //! The job `run` with a record.
 use super::bounds::*;
-use super::run::{
-    IDENTIFICATION, ONE_FRAME_EACH, TABLE_OF_BOTH, TwoFiles, VELOCITY, path_text, remove, two_files,
-};
-use super::staged::{Feed, Staged, run_lasting};
-use super::{Closed, Told, Trials, replay, run_line, text};
+use super::run::{IDENTIFICATION, ONE_FRAME_EACH, TABLE_OF_BOTH, TwoFiles, VELOCITY};
+use super::{Closed, EVERY_HOUR, NO_LINES, Ran, Trials, text};
 use crate::comparing::{holds, same};
-use std::alloc::{AllocError, Global};
 use std::fs;
-use std::io::{self, Write};
-use std::sync::atomic::AtomicBool;
+use std::io::Write;
 use std::test::*;
 
 const RECORD_FAILED: &str = "groundstation: record failed\n";
 
-// Runs over the two files, with a record in this file.
-fn run_recorded<
-    R: Threads + Wait + Clock + Files<File = File, Dir: Send> + Sync + AllocGlobal,
-    W: Wait + Clock + PathHost + Copy + Send + 'static,
-    O: Write + Send + Drop,
->(
-    rt: &R,
-    own: W,
-    files: &TwoFiles,
-    options: &str,
-    record: &str,
-    out: O,
-) -> Result<Told, AllocError> {
-    let alloc = rt.alloc();
-    let line = format!(in alloc; "groundstation run {options} --record={record}")?;
-    let paths = [path_text(&files.first)?, path_text(&files.second)?];
-    run_line(rt, own, alloc, line.as_str(), paths.as_slice(), out)
-}
+impl<R: Host, W: Own> Trials<'_, R, W> {
+    /// The bytes of a file, and what `replay` prints of them.
+    pub fn shown_again(&self, record: &str) -> Result<(Vec<u8>, Vec<u8>), Fail> {
+        let lines = fs::read(self.rt, record)?;
+        let shown = self.ask("replay", lines.as_slice())?;
+        Ok((lines, shown.out))
+    }
 
-// A path in the folder of the two files.
-fn record_path(alloc: Global, files: &TwoFiles, name: &str) -> Result<String, AllocError> {
-    let folder = path_text(&files.folder)?;
-    format!(in alloc; "{folder}/{name}")
-}
+    // Runs over the two files, with a record in this file.
+    fn run_recorded_to(
+        &self,
+        files: &TwoFiles,
+        options: &str,
+        record: &str,
+        out: impl Write + Send + Drop,
+    ) -> Result<Ran, Fail> {
+        let line = format!(in self.alloc; "{EVERY_HOUR} {options} --record={record}")?;
+        Ok(self.run_to(line.as_str(), files.paths().as_slice(), NO_LINES, out)?)
+    }
 
-// The bytes of a file, and what `replay` prints of them.
-pub fn shown_again<
-    R: Threads + Wait + Clock + Files<File = File, Dir: Send> + Sync + AllocGlobal + Abort,
-    W: Wait + Clock + PathHost + Copy + Send + 'static,
->(rt: &R, own: W, record: &str) -> io::Result<(Vec<u8>, Vec<u8>)> {
-    let lines = fs::read(rt, record)?;
-    let shown = replay(rt, own, lines.as_slice());
-    Ok((lines, shown.out))
-}
+    fn run_recorded(&self, files: &TwoFiles, options: &str, record: &str) -> Result<Ran, Fail> {
+        let mut out = Vec::new(self.alloc);
+        let ran = self.run_recorded_to(files, options, record, &mut out)?;
+        Ok(Ran { out, ..ran })
+    }
 
-impl<
-    R: Threads + Wait + Clock + Files<File = File, Dir: Send> + Sync + AllocGlobal + Abort + Env,
-    W: Wait + Clock + PathHost + Copy + Send + 'static,
-> Trials<'_, R, W> {
     // The frames of the two files are accepted in either order.
     fn a_record_of_two_files_is_shown_again(self) -> Result<(), Fail> {
-        let (rt, own) = (self.rt, self.own);
-        let files = two_files(rt, IDENTIFICATION, VELOCITY)?;
-        let record = record_path(rt.alloc(), &files, "record")?;
-        let mut out = Vec::new(rt.alloc());
-        let told = run_recorded(
-            rt,
-            own,
-            &files,
-            "--every=3600000",
-            record.as_str(),
-            &mut out,
-        )?;
-        let (lines, shown) = shown_again(rt, own, record.as_str())?;
-        let (first, second) = (IDENTIFICATION, VELOCITY);
-        let either = format!(in rt.alloc(); "{first}{second}?\n")?;
-        let or = format!(in rt.alloc(); "{second}{first}?\n")?;
-        holds(
-            rt,
-            text(&lines) == either.as_str() || text(&lines) == or.as_str(),
-        );
+        let rt = self.rt;
+        let files = self.two_files(IDENTIFICATION, VELOCITY)?;
+        let record = format!(in self.alloc; "{}/record", files.folder.as_str())?;
+        let ran = self.run_recorded(&files, "", record.as_str())?;
+        let (lines, shown) = self.shown_again(record.as_str())?;
+        let (first, second, lines) = (IDENTIFICATION, VELOCITY, text(&lines));
+        let either = format!(in self.alloc; "{first}{second}?\n")?;
+        let or = format!(in self.alloc; "{second}{first}?\n")?;
+        holds(rt, lines == either.as_str() || lines == or.as_str());
         same(rt, text(&shown), TABLE_OF_BOTH);
-        same(rt, text(&out), TABLE_OF_BOTH);
-        same(rt, text(&told.err), ONE_FRAME_EACH);
-        holds(rt, told.alarm.is_empty() && told.status == 0);
-        remove(rt, &files)?;
-        Ok(())
+        self.leaves(&ran, 0, TABLE_OF_BOTH, ONE_FRAME_EACH);
+        holds(rt, ran.record_alarm.is_empty());
+        self.remove(&files.folder)
     }
 
     // Ten tables of a clock that starts at 1,000,000 ms, and the one at the end of the path.
     fn a_record_of_ten_tables_is_shown_again(self) -> Result<(), Fail> {
-        let (rt, own) = (self.rt, self.own);
-        let files = two_files(rt, IDENTIFICATION, VELOCITY)?;
-        let record = record_path(rt.alloc(), &files, "record")?;
+        let rt = self.rt;
+        let folder = self.new_folder()?;
+        let record = format!(in self.alloc; "{}/record", folder.as_str())?;
         let path = record.as_str();
-        let line = format!(in rt.alloc(); "groundstation run --every=7000 --record={path}")?;
-        let mut moments = Vec::new(rt.alloc());
+        let line = format!(in self.alloc; "run --every=7000 --record={path}")?;
+        let mut moments = Vec::new(self.alloc);
         for table in 0..11u64 {
             moments.push(1_000_000 + 7_001 * table)?;
         }
-        let has_ended = AtomicBool::new(false);
-        let staged = Staged::new(rt, moments.as_slice(), &has_ended);
-        let feed = Feed::at(&has_ended, IDENTIFICATION.as_bytes());
-        let mut out = Vec::new(rt.alloc());
-        let lasted = run_lasting(rt, &staged, own, line.as_str(), &mut out, feed)?;
-        let (lines, shown) = shown_again(rt, own, path)?;
-        holds(
-            rt,
-            text(&lines).starts_with("+7001\n?\n+14002\n?\n+21003\n?\n"),
-        );
-        holds(
-            rt,
-            text(&lines).ends_with("+70010\n?\n*8D4840D6202CC371C32CE0576098;\n?\n"),
-        );
-        same(rt, text(&shown), text(&out));
-        holds(
-            rt,
-            text(&out).ends_with(
-                "\n4840D6 KLM1023       -    -            -      -          -          -   0\n",
-            ),
-        );
-        same(rt, lasted.told.status, 0);
-        remove(rt, &files)?;
-        Ok(())
+        let frame = IDENTIFICATION.as_bytes();
+        let lasted = self.run_through(moments.as_slice(), line.as_str(), frame)?;
+        let (lines, shown) = self.shown_again(path)?;
+        let (lines, tables) = (text(&lines), text(&lasted.ran.out));
+        holds(rt, lines.starts_with("+7001\n?\n+14002\n?\n+21003\n?\n"));
+        let last_lines = "+70010\n?\n*8D4840D6202CC371C32CE0576098;\n?\n";
+        holds(rt, lines.ends_with(last_lines));
+        same(rt, text(&shown), tables);
+        let last_row =
+            "\n4840D6 KLM1023       -    -            -      -          -          -   0\n";
+        holds(rt, tables.ends_with(last_row));
+        same(rt, lasted.ran.status, 0);
+        self.remove(&folder)
     }
 
     // No tick comes between the rounds, so the frames of the second are refused.
     fn a_record_goes_on_over_rounds(self) -> Result<(), Fail> {
-        let (rt, own) = (self.rt, self.own);
-        let files = two_files(rt, IDENTIFICATION, VELOCITY)?;
-        let record = record_path(rt.alloc(), &files, "record")?;
-        let mut out = Vec::new(rt.alloc());
-        let options = "--every=3600000 --rounds=3";
-        let told = run_recorded(rt, own, &files, options, record.as_str(), &mut out)?;
-        let (lines, shown) = shown_again(rt, own, record.as_str())?;
+        let rt = self.rt;
+        let files = self.two_files(IDENTIFICATION, VELOCITY)?;
+        let record = format!(in self.alloc; "{}/record", files.folder.as_str())?;
+        let ran = self.run_recorded(&files, "--rounds=3", record.as_str())?;
+        let (lines, shown) = self.shown_again(record.as_str())?;
         same(rt, lines.len(), IDENTIFICATION.len() + VELOCITY.len() + 6);
         holds(rt, text(&lines).ends_with(";\n?\n?\n?\n"));
-        same(rt, text(&shown), text(&out));
-        let tables = text(&out).strip_prefix(TABLE_OF_BOTH);
-        same(
-            rt,
-            tables.and_then(|later| later.strip_prefix(TABLE_OF_BOTH)),
-            Some(TABLE_OF_BOTH),
-        );
-        same(rt, told.status, 0);
-        remove(rt, &files)?;
-        Ok(())
+        let table = TABLE_OF_BOTH;
+        let tables = format!(in self.alloc; "{table}{table}{table}")?;
+        same(rt, text(&shown), tables.as_str());
+        same(rt, text(&ran.out), tables.as_str());
+        same(rt, ran.status, 0);
+        self.remove(&files.folder)
     }
 
     fn a_record_that_fails_leaves_the_tables(self) -> Result<(), Fail> {
-        let (rt, own) = (self.rt, self.own);
-        let files = two_files(rt, IDENTIFICATION, VELOCITY)?;
-        let mut out = Vec::new(rt.alloc());
-        let told = run_recorded(
-            rt,
-            own,
-            &files,
-            "--every=3600000 --rounds=2",
-            "/dev/full",
-            &mut out,
-        )?;
-        same(
-            rt,
-            text(&out).strip_prefix(TABLE_OF_BOTH),
-            Some(TABLE_OF_BOTH),
-        );
-        same(rt, text(&told.alarm), RECORD_FAILED);
-        holds(rt, text(&told.err).starts_with(ONE_FRAME_EACH));
-        holds(rt, !text(&told.err).contains("groundstation"));
-        same(rt, told.status, 1);
-        remove(rt, &files)?;
-        Ok(())
+        let rt = self.rt;
+        let files = self.two_files(IDENTIFICATION, VELOCITY)?;
+        let ran = self.run_recorded(&files, "--rounds=2", "/dev/full")?;
+        let second_table = text(&ran.out).strip_prefix(TABLE_OF_BOTH);
+        same(rt, second_table, Some(TABLE_OF_BOTH));
+        same(rt, text(&ran.record_alarm), RECORD_FAILED);
+        holds(rt, text(&ran.err).starts_with(ONE_FRAME_EACH));
+        holds(rt, !text(&ran.err).contains("groundstation"));
+        same(rt, ran.status, 1);
+        self.remove(&files.folder)
     }
 
     // A table that couldn't be written is recorded.
     fn a_record_has_the_table_that_failed(self) -> Result<(), Fail> {
-        let (rt, own) = (self.rt, self.own);
-        let files = two_files(rt, IDENTIFICATION, VELOCITY)?;
-        let record = record_path(rt.alloc(), &files, "record")?;
-        let told = run_recorded(rt, own, &files, "--every=3600000", record.as_str(), Closed)?;
-        let (_, shown) = shown_again(rt, own, record.as_str())?;
+        let rt = self.rt;
+        let files = self.two_files(IDENTIFICATION, VELOCITY)?;
+        let record = format!(in self.alloc; "{}/record", files.folder.as_str())?;
+        let ran = self.run_recorded_to(&files, "", record.as_str(), Closed)?;
+        let (_, shown) = self.shown_again(record.as_str())?;
         same(rt, text(&shown), TABLE_OF_BOTH);
-        let fault = text(&told.err).strip_prefix(ONE_FRAME_EACH);
+        let fault = text(&ran.err).strip_prefix(ONE_FRAME_EACH);
         same(rt, fault, Some("groundstation: write failed\n"));
-        holds(rt, told.alarm.is_empty() && told.status == 1);
-        remove(rt, &files)?;
-        Ok(())
+        holds(rt, ran.record_alarm.is_empty() && ran.status == 1);
+        self.remove(&files.folder)
     }
 
     // A file that has bytes, and one in a folder that isn't there.
     fn a_file_that_takes_no_record_is_refused(self) -> Result<(), Fail> {
-        let (rt, own) = (self.rt, self.own);
-        let files = two_files(rt, IDENTIFICATION, VELOCITY)?;
+        let files = self.two_files(IDENTIFICATION, VELOCITY)?;
         for name in ["first", "nowhere/record"] {
-            let record = record_path(rt.alloc(), &files, name)?;
-            let path = record.as_str();
-            let mut out = Vec::new(rt.alloc());
-            let told = run_recorded(rt, own, &files, "--every=3600000", path, &mut out)?;
-            let refused = format!(in rt.alloc(); "groundstation: cannot record to {path}\n")?;
-            same(rt, text(&told.err), refused.as_str());
-            holds(
-                rt,
-                out.is_empty() && told.alarm.is_empty() && told.status == 1,
-            );
+            let path = format!(in self.alloc; "{}/{name}", files.folder.as_str())?;
+            let path = path.as_str();
+            let ran = self.run_recorded(&files, "", path)?;
+            let refused = format!(in self.alloc; "groundstation: cannot record to {path}\n")?;
+            self.leaves(&ran, 1, "", refused.as_str());
+            holds(self.rt, ran.record_alarm.is_empty());
         }
-        let kept = fs::read(rt, &files.first)?;
-        same(rt, text(&kept), IDENTIFICATION);
-        remove(rt, &files)?;
-        Ok(())
+        let kept = fs::read(self.rt, files.first.as_str())?;
+        same(self.rt, text(&kept), IDENTIFICATION);
+        self.remove(&files.folder)
     }
 }
 

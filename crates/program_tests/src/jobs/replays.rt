@@ -1,11 +1,15 @@
 //! The job `replay`.
 use super::bounds::*;
-use super::{Closed, NO_MEMORY, TABLE_OF_NOBODY, Trials, replay, status_of, text, words_of};
+use super::run::TABLE_OF_FIRST;
+use super::{Closed, NO_MEMORY, TABLE_OF_NOBODY, Trials, text};
 use crate::comparing::{holds, same};
-use std::alloc::AllocError;
 use std::io::{self, Read};
+use std::test::*;
 
 const IDENTIFICATION: &[u8] = b"*8D4840D6202CC371C32CE0576098;\n?\n";
+
+const TALLY: &str =
+    "lines 2 frames 1 ticks 0 shows 1 blank 0 modeac 0 faults 0 accepted 1 refused 0\n";
 
 // Four frames are accepted and one isn't, three ticks and five aren't.
 const LINES_OF_ALL_KINDS: &[u8] = b"\
@@ -46,44 +50,28 @@ impl Read for Torn {
     }
 }
 
-impl<
-    R: Threads + Wait + Clock + Files<File = File, Dir: Send> + Sync + AllocGlobal + Abort + Env,
-    W: Wait + Clock + PathHost + Copy + Send + 'static,
-> Trials<'_, R, W> {
-    fn each_count_stands_by_its_word(self) {
-        let (rt, own) = (self.rt, self.own);
-        let counted = replay(rt, own, LINES_OF_ALL_KINDS);
-        same(
-            rt,
-            text(&counted.err),
-            "lines 23 frames 5 ticks 8 shows 1 blank 2 modeac 3 faults 4 accepted 7 refused 6\n",
-        );
-        same(rt, counted.status, 0);
+impl<R: Host, W: Own> Trials<'_, R, W> {
+    fn each_count_stands_by_its_word(self) -> Result<(), Fail> {
+        let counted = self.ask("replay", LINES_OF_ALL_KINDS)?;
+        let tally =
+            "lines 23 frames 5 ticks 8 shows 1 blank 2 modeac 3 faults 4 accepted 7 refused 6\n";
+        same(self.rt, text(&counted.err), tally);
+        same(self.rt, counted.status, 0);
+        Ok(())
     }
 
-    fn an_identification_is_shown(self) {
-        let (rt, own) = (self.rt, self.own);
-        let mut shown = replay(rt, own, IDENTIFICATION);
+    fn an_identification_is_shown(self) -> Result<(), Fail> {
+        let mut shown = self.ask("replay", IDENTIFICATION)?;
         if wants_memory(text(&shown.err)) {
-            holds(rt, shown.status == 1 && shown.out.is_empty());
-            shown = replay(rt, own, IDENTIFICATION);
+            holds(self.rt, shown.status == 1 && shown.out.is_empty());
+            shown = self.ask("replay", IDENTIFICATION)?;
         }
-        same(
-            rt,
-            text(&shown.out),
-            tables!("now 0 aircraft 1" => ["4840D6 KLM1023       -    -            -      -          -          -   0"]),
-        );
-        same(
-            rt,
-            text(&shown.err),
-            "lines 2 frames 1 ticks 0 shows 1 blank 0 modeac 0 faults 0 accepted 1 refused 0\n",
-        );
-        same(rt, shown.status, 0);
+        self.leaves(&shown, 0, TABLE_OF_FIRST, TALLY);
+        Ok(())
     }
 
-    fn nobody_is_shown_before_a_frame(self) {
-        let (rt, own) = (self.rt, self.own);
-        for (lines, tables, counts) in [
+    fn nobody_is_shown_before_a_frame(self) -> Result<(), Fail> {
+        for (lines, tables, tally) in [
             (
                 "",
                 "",
@@ -95,61 +83,41 @@ impl<
                 "lines 1 frames 0 ticks 0 shows 1 blank 0 modeac 0 faults 0 accepted 0 refused 0\n",
             ),
         ] {
-            let ran = replay(rt, own, lines.as_bytes());
-            same(rt, text(&ran.out), tables);
-            same(rt, text(&ran.err), counts);
-            same(rt, ran.status, 0);
+            let ran = self.ask("replay", lines.as_bytes())?;
+            self.leaves(&ran, 0, tables, tally);
         }
+        Ok(())
     }
 
-    fn a_failed_read_or_write_is_told_after_the_tally(self) -> Result<(), AllocError> {
-        let (rt, own) = (self.rt, self.own);
-        let torn = replay(rt, own, Torn { is_torn: false });
-        same(
-            rt,
-            text(&torn.err),
-            "lines 2 frames 1 ticks 0 shows 1 blank 0 modeac 0 faults 0 accepted 1 refused 0\n\
-            groundstation: read failed\n",
-        );
-        same(rt, torn.status, 1);
-        let mut err = Vec::new(rt.alloc());
-        let words = words_of(rt.alloc(), "groundstation replay", [].as_slice())?;
-        let status = status_of(
-            rt,
-            own,
-            rt.alloc(),
-            words.as_slice(),
-            IDENTIFICATION,
-            Closed,
-            &mut err,
-        );
-        same(
-            rt,
-            text(&err),
-            "lines 2 frames 1 ticks 0 shows 1 blank 0 modeac 0 faults 0 accepted 1 refused 0\n\
-            groundstation: write failed\n",
-        );
-        same(rt, status, 1);
+    fn a_failed_read_or_write_is_told_after_the_tally(self) -> Result<(), Fail> {
+        let torn = self.ask("replay", Torn { is_torn: false })?;
+        let fault = text(&torn.err).strip_prefix(TALLY);
+        same(self.rt, fault, Some("groundstation: read failed\n"));
+        same(self.rt, torn.status, 1);
+        let closed = self.run_to("replay", [].as_slice(), IDENTIFICATION, Closed)?;
+        let fault = text(&closed.err).strip_prefix(TALLY);
+        same(self.rt, fault, Some("groundstation: write failed\n"));
+        same(self.rt, closed.status, 1);
         Ok(())
     }
 }
 
 #[test]
-fn each_count_stands_by_its_word(rt: HostRuntime) {
+fn each_count_stands_by_its_word(rt: HostRuntime) -> Result<(), Fail> {
     Trials::on(&rt).each_count_stands_by_its_word()
 }
 
 #[test]
-fn an_identification_is_shown(rt: HostRuntime) {
+fn an_identification_is_shown(rt: HostRuntime) -> Result<(), Fail> {
     Trials::on(&rt).an_identification_is_shown()
 }
 
 #[test]
-fn nobody_is_shown_before_a_frame(rt: HostRuntime) {
+fn nobody_is_shown_before_a_frame(rt: HostRuntime) -> Result<(), Fail> {
     Trials::on(&rt).nobody_is_shown_before_a_frame()
 }
 
 #[test]
-fn a_failed_read_or_write_is_told_after_the_tally(rt: HostRuntime) -> Result<(), AllocError> {
+fn a_failed_read_or_write_is_told_after_the_tally(rt: HostRuntime) -> Result<(), Fail> {
     Trials::on(&rt).a_failed_read_or_write_is_told_after_the_tally()
 }

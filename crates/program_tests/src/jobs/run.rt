@@ -1,10 +1,10 @@
 //! The job `run`, over files.
 use super::bounds::*;
-use super::{NO_LINES, NO_MEMORY, Ran, Trials, run_line, run_words, text};
-use crate::comparing::{holds, holds_at, same};
-use std::alloc::AllocError;
+use super::staged::Staged;
+use super::{EVERY_HOUR, NO_MEMORY, Ran, Trials, text};
+use crate::comparing::{holds_at, same};
 use std::io::ErrorKind;
-use std::path::PathBuf;
+use std::test::*;
 use std::{env, fs, io};
 
 pub const IDENTIFICATION: &str = "*8D4840D6202CC371C32CE0576098;\n";
@@ -53,86 +53,18 @@ pub const TABLE_OF_SECOND: &str = tables!("now 0 aircraft 1" => [
     "485020 -             -    -      -8/-159   -832          -          -   0",
 ]);
 
-/// Two files in a folder of their own.
+/// Two files in a folder of their own, by their paths.
 #[derive(Drop)]
 pub struct TwoFiles {
-    pub folder: PathBuf,
-    pub first: PathBuf,
-    pub second: PathBuf,
+    pub folder: String,
+    pub first: String,
+    pub second: String,
 }
 
-pub fn new_folder<R: Files + AllocGlobal + env::Env>(rt: &R) -> io::Result<PathBuf> {
-    let base = env::temp_dir(rt)?;
-    for i in 0..10_000u32 {
-        let name = format!(in rt.alloc(); "groundstation_{i}")?;
-        let folder = base.as_path().join(rt.alloc(), name.as_str())?;
-        if fs::create_dir(rt, &folder).is_ok() {
-            return Ok(folder);
-        }
+impl TwoFiles {
+    pub fn paths(&self) -> [&str; 2] {
+        [self.first.as_str(), self.second.as_str()]
     }
-    Err(io::Error::from(ErrorKind::AlreadyExists))
-}
-
-// The paths of the two files.
-fn two_paths<R: Files + AllocGlobal>(
-    rt: &R,
-    folder: &PathBuf,
-    first_text: &str,
-    second_text: &str,
-) -> io::Result<(PathBuf, PathBuf)> {
-    let first = folder.as_path().join(rt.alloc(), "first")?;
-    let second = folder.as_path().join(rt.alloc(), "second")?;
-    fs::write(rt, &first, first_text)?;
-    fs::write(rt, &second, second_text)?;
-    Ok((first, second))
-}
-
-/// A folder or a file that is refused is made once more.
-pub fn two_files<R: Files + AllocGlobal + env::Env>(
-    rt: &R,
-    first_text: &str,
-    second_text: &str,
-) -> io::Result<TwoFiles> {
-    let folder = match new_folder(rt) {
-        Ok(folder) => folder,
-        Err(_) => new_folder(rt)?,
-    };
-    let (first, second) = match two_paths(rt, &folder, first_text, second_text) {
-        Ok(paths) => paths,
-        Err(_) => two_paths(rt, &folder, first_text, second_text)?,
-    };
-    Ok(TwoFiles {
-        folder,
-        first,
-        second,
-    })
-}
-
-/// Removes the folder, and once more if that is refused.
-pub fn remove<R: Files + AllocGlobal>(rt: &R, files: &TwoFiles) -> io::Result<()> {
-    match fs::remove_dir_all(rt, &files.folder) {
-        Ok(()) => Ok(()),
-        Err(_) => fs::remove_dir_all(rt, &files.folder),
-    }
-}
-
-pub fn path_text(path: &PathBuf) -> Result<&str, AllocError> {
-    match path.as_path().to_str() {
-        Some(path) => Ok(path),
-        None => Err(AllocError),
-    }
-}
-
-fn run_two<
-    R: Threads + Wait + Clock + Files<File = File, Dir: Send> + Sync + AllocGlobal + Abort,
-    W: Wait + Clock + PathHost + Copy + Send + 'static,
->(rt: &R, own: W, first: &str, second: &str) -> Ran {
-    run_words(
-        rt,
-        own,
-        ["groundstation", "run", "--every", "3600000", first, second].as_slice(),
-        NO_LINES,
-    )
 }
 
 // Whether a program that was refused memory or a thread may answer so: before a path is read nothing is shown, while the
@@ -152,116 +84,114 @@ const FAULTS_AND_FRAME: &str = concat!(
     "lines 1 frames 1 ticks 0 shows 0 blank 0 modeac 0 faults 0 accepted 1 refused 0\n",
 );
 
-pub const FAILED_READ_AND_FRAME: &str = concat!(
-    "lines 0 frames 0 ticks 0 shows 0 blank 0 modeac 0 faults 0 accepted 0 refused 0\n",
-    "groundstation: read failed\n",
-    "lines 1 frames 1 ticks 0 shows 0 blank 0 modeac 0 faults 0 accepted 1 refused 0\n",
-);
+const NO_FILE: &str = "groundstation: cannot open nofile\n";
 
-// The first file, or the folder, which can't be read.
-fn first_path(files: &TwoFiles, is_file: bool) -> &PathBuf {
-    if is_file { &files.first } else { &files.folder }
-}
-
-// Whether a run over these paths ends with status 1 and says this alone.
-fn says_alone<
-    R: Threads + Wait + Clock + Files<File = File, Dir: Send> + Sync + AllocGlobal,
-    W: Wait + Clock + PathHost + Copy + Send + 'static,
->(rt: &R, own: W, paths: &[&str], told: &str) -> Result<bool, AllocError> {
-    let mut out = Vec::new(rt.alloc());
-    let line = "groundstation run --every 3600000";
-    let ran = run_line(rt, own, rt.alloc(), line, paths, &mut out)?;
-    Ok(ran.status == 1 && out.is_empty() && text(&ran.err) == told)
-}
-
-impl<
-    R: Threads + Wait + Clock + Files<File = File, Dir: Send> + Sync + AllocGlobal + Abort + Env,
-    W: Wait + Clock + PathHost + Copy + Send + 'static,
-> Trials<'_, R, W> {
-    fn two_files_are_shown_in_one_table(self) -> io::Result<()> {
-        let (rt, own) = (self.rt, self.own);
-        let files = two_files(rt, IDENTIFICATION, VELOCITY)?;
-        let (first, second) = (path_text(&files.first)?, path_text(&files.second)?);
-        let mut ran = run_two(rt, own, first, second);
-        if is_refusal(text(&ran.out), text(&ran.err)) {
-            same(rt, ran.status, 1);
-            ran = run_two(rt, own, first, second);
+// What is refused is done once more.
+impl<R: Host, W: Own> Trials<'_, R, W> {
+    fn try_new_folder(&self) -> io::Result<String> {
+        let base = env::temp_dir(self.rt)?;
+        for i in 0..10_000u32 {
+            let folder = format!(in self.alloc; "{}/groundstation_{i}", base.as_str())?;
+            if fs::create_dir(self.rt, folder.as_str()).is_ok() {
+                return Ok(folder);
+            }
         }
-        same(rt, text(&ran.out), TABLE_OF_BOTH);
-        same(rt, text(&ran.err), ONE_FRAME_EACH);
-        same(rt, ran.status, 0);
-        remove(rt, &files)
+        Err(io::Error::from(ErrorKind::AlreadyExists))
+    }
+
+    pub fn new_folder(&self) -> io::Result<String> {
+        self.try_new_folder().or_else(|_| self.try_new_folder())
+    }
+
+    fn try_put(&self, folder: &String, name: &str, text: &str) -> io::Result<String> {
+        let path = format!(in self.alloc; "{folder}/{name}")?;
+        fs::write(self.rt, path.as_str(), text)?;
+        Ok(path)
+    }
+
+    /// Writes a file into a folder, and answers its path.
+    pub fn put(&self, folder: &String, name: &str, text: &str) -> io::Result<String> {
+        self.try_put(folder, name, text)
+            .or_else(|_| self.try_put(folder, name, text))
+    }
+
+    pub fn two_files(&self, first_text: &str, second_text: &str) -> io::Result<TwoFiles> {
+        let folder = self.new_folder()?;
+        let first = self.put(&folder, "first", first_text)?;
+        let second = self.put(&folder, "second", second_text)?;
+        Ok(TwoFiles {
+            folder,
+            first,
+            second,
+        })
+    }
+
+    pub fn remove(&self, folder: &String) -> Result<(), Fail> {
+        let path = folder.as_str();
+        fs::remove_dir_all(self.rt, path).or_else(|_| fs::remove_dir_all(self.rt, path))?;
+        Ok(())
+    }
+
+    /// Runs over the two files beside a clock that stands still.
+    pub fn run_still(&self, files: &TwoFiles, options: &str) -> Result<Ran, Fail> {
+        let staged = Staged::new(self.rt, [1_000_000].as_slice());
+        let line = format!(in self.alloc; "{EVERY_HOUR} {options}")?;
+        let trials = self.over(&staged);
+        Ok(trials.run(line.as_str(), files.paths().as_slice())?)
+    }
+
+    fn two_files_are_shown_in_one_table(self) -> Result<(), Fail> {
+        let files = self.two_files(IDENTIFICATION, VELOCITY)?;
+        let mut ran = self.run(EVERY_HOUR, files.paths().as_slice())?;
+        if is_refusal(text(&ran.out), text(&ran.err)) {
+            same(self.rt, ran.status, 1);
+            ran = self.run(EVERY_HOUR, files.paths().as_slice())?;
+        }
+        self.leaves(&ran, 0, TABLE_OF_BOTH, ONE_FRAME_EACH);
+        self.remove(&files.folder)
     }
 
     // A frame of both paths is accepted from either of them.
-    fn tallies_stand_in_the_order_of_the_paths(self) -> io::Result<()> {
-        let (rt, own) = (self.rt, self.own);
-        for (first, second, table, told, or_told, status) in [
-            (
-                Some(IDENTIFICATION),
-                IDENTIFICATION,
-                TABLE_OF_FIRST,
-                FIRST_ACCEPTED,
-                SECOND_ACCEPTED,
-                0,
-            ),
-            (
-                Some("\nx\n?\n*0000;\n+5"),
-                IDENTIFICATION,
-                TABLE_OF_FIRST,
-                FAULTS_AND_FRAME,
-                FAULTS_AND_FRAME,
-                0,
-            ),
-            (
-                None,
-                VELOCITY,
-                TABLE_OF_SECOND,
-                FAILED_READ_AND_FRAME,
-                FAILED_READ_AND_FRAME,
-                1,
-            ),
+    fn tallies_stand_in_the_order_of_the_paths(self) -> Result<(), Fail> {
+        for (first, told, or_told) in [
+            (IDENTIFICATION, FIRST_ACCEPTED, SECOND_ACCEPTED),
+            ("\nx\n?\n*0000;\n+5", FAULTS_AND_FRAME, FAULTS_AND_FRAME),
         ] {
-            let files = two_files(rt, first.unwrap_or(""), second)?;
-            let path = path_text(first_path(&files, first.is_some()))?;
-            let ran = run_two(rt, own, path, path_text(&files.second)?);
-            same(rt, text(&ran.out), table);
+            let files = self.two_files(first, IDENTIFICATION)?;
+            let ran = self.run(EVERY_HOUR, files.paths().as_slice())?;
             let lines = text(&ran.err);
-            holds_at(rt, lines == told || lines == or_told, lines);
-            same(rt, ran.status, status);
-            remove(rt, &files)?;
+            holds_at(self.rt, lines == told || lines == or_told, lines);
+            self.leaves(&ran, 0, TABLE_OF_FIRST, lines);
+            self.remove(&files.folder)?;
         }
         Ok(())
     }
 
-    fn where_a_path_cannot_be_opened_nothing_is_read(self) -> io::Result<()> {
-        let (rt, own) = (self.rt, self.own);
-        let files = two_files(rt, IDENTIFICATION, VELOCITY)?;
-        let first = path_text(&files.first)?;
-        let no_file = "groundstation: cannot open nofile\n";
-        let no_first_file = "groundstation: cannot open no first file\n";
-        holds(rt, says_alone(rt, own, ["nofile"].as_slice(), no_file)?);
-        holds(
-            rt,
-            says_alone(rt, own, [first, "nofile"].as_slice(), no_file)?,
-        );
+    fn where_a_path_cannot_be_opened_nothing_is_read(self) -> Result<(), Fail> {
+        let files = self.two_files(IDENTIFICATION, VELOCITY)?;
+        let one = self.run(EVERY_HOUR, ["nofile"].as_slice())?;
+        self.leaves(&one, 1, "", NO_FILE);
+        let second = self.run(EVERY_HOUR, [files.first.as_str(), "nofile"].as_slice())?;
+        self.leaves(&second, 1, "", NO_FILE);
         let both = ["no first file", "no second file"];
-        holds(rt, says_alone(rt, own, both.as_slice(), no_first_file)?);
-        remove(rt, &files)
+        let neither = self.run(EVERY_HOUR, both.as_slice())?;
+        let no_first_file = "groundstation: cannot open no first file\n";
+        self.leaves(&neither, 1, "", no_first_file);
+        self.remove(&files.folder)
     }
 }
 
 #[test]
-fn two_files_are_shown_in_one_table(rt: HostRuntime) -> io::Result<()> {
+fn two_files_are_shown_in_one_table(rt: HostRuntime) -> Result<(), Fail> {
     Trials::on(&rt).two_files_are_shown_in_one_table()
 }
 
 #[test]
-fn tallies_stand_in_the_order_of_the_paths(rt: HostRuntime) -> io::Result<()> {
+fn tallies_stand_in_the_order_of_the_paths(rt: HostRuntime) -> Result<(), Fail> {
     Trials::on(&rt).tallies_stand_in_the_order_of_the_paths()
 }
 
 #[test]
-fn where_a_path_cannot_be_opened_nothing_is_read(rt: HostRuntime) -> io::Result<()> {
+fn where_a_path_cannot_be_opened_nothing_is_read(rt: HostRuntime) -> Result<(), Fail> {
     Trials::on(&rt).where_a_path_cannot_be_opened_nothing_is_read()
 }

@@ -1,10 +1,8 @@
 //! How long the reporter sleeps, and what it does at a time.
 use super::bounds::*;
-use super::staged::{Feed, Staged, run_lasting};
-use super::{NO_LINES, Trials};
+use super::{EVERY_HOUR, NO_LINES, Trials};
 use crate::comparing::{holds, same};
 use station_main::{Act, Bell, Due, Pace, act_at};
-use std::sync::atomic::AtomicBool;
 use std::test::*;
 use std::time::{Duration, Instant};
 
@@ -24,7 +22,7 @@ const TABLES_AND_TICKS: Pace = Pace {
     tick: Some(80),
 };
 
-fn at(table: u64, tick: Option<u64>) -> Due {
+pub fn at(table: u64, tick: Option<u64>) -> Due {
     Due { table, tick }
 }
 
@@ -36,85 +34,68 @@ fn tick(at: u64, next_due: Due) -> Act {
     Act::Tick { at, next_due }
 }
 
-impl<
-    R: Threads + Wait + Clock + Files<File = File, Dir: Send> + Sync + AllocGlobal + Abort + Env,
-    W: Wait + Clock + PathHost + Copy + Send + 'static,
-> Trials<'_, R, W> {
-    fn a_sleep_lasts_until_a_table_is_due_or_is_the_longest(self) {
-        let rt = self.rt;
-        // The time now, and when a table is due, in milliseconds.
-        let acts = [
-            (0, 1_000, sleep(50)),
-            (0, u64::MAX, sleep(50)),
-            (949, 1_000, sleep(50)),
-            (950, 1_000, sleep(50)),
-            (951, 1_000, sleep(49)),
-            (999, 1_000, sleep(1)),
-            (1_000, 1_000, print(1_000, at(1_500, None))),
-            (1_007, 1_000, print(1_007, at(1_507, None))),
-            (u64::MAX, 1_000, print(u64::MAX, at(u64::MAX, None))),
-        ];
-        for (now, table, act) in acts {
-            same(rt, act_at(now, at(table, None), TABLES), act);
-        }
+#[test]
+fn a_sleep_lasts_until_a_table_is_due_or_is_the_longest(rt: HostRuntime) {
+    // The time now, and when a table is due, in milliseconds.
+    for (now, table, act) in [
+        (0, 1_000, sleep(50)),
+        (0, u64::MAX, sleep(50)),
+        (949, 1_000, sleep(50)),
+        (950, 1_000, sleep(50)),
+        (951, 1_000, sleep(49)),
+        (999, 1_000, sleep(1)),
+        (1_000, 1_000, print(1_000, at(1_500, None))),
+        (1_007, 1_000, print(1_007, at(1_507, None))),
+        (u64::MAX, 1_000, print(u64::MAX, at(u64::MAX, None))),
+    ] {
+        same(&rt, act_at(now, at(table, None), TABLES), act);
     }
+}
 
-    fn a_tick_comes_alone_where_no_table_is_due(self) {
-        let rt = self.rt;
-        // The time now, when a table and when a tick is due, in milliseconds.
-        let acts = [
-            (0, 1_000, 980, sleep(50)),
-            (940, 1_000, 980, sleep(40)),
-            (979, 1_000, 980, sleep(1)),
-            (980, 1_000, 980, tick(980, at(1_000, Some(1_060)))),
-            (999, 1_000, 980, tick(999, at(1_000, Some(1_079)))),
-            (999, 1_000, 1_060, sleep(1)),
-            (1_000, 1_000, 980, print(1_000, at(1_500, Some(1_080)))),
-            (1_001, 1_000, 1_060, print(1_001, at(1_501, Some(1_081)))),
-            (
-                u64::MAX,
-                1_000,
-                980,
-                print(u64::MAX, at(u64::MAX, Some(u64::MAX))),
-            ),
-        ];
-        for (now, table, first_tick, act) in acts {
-            let due = at(table, Some(first_tick));
-            same(rt, act_at(now, due, TABLES_AND_TICKS), act);
-        }
+#[test]
+fn a_tick_comes_alone_where_no_table_is_due(rt: HostRuntime) {
+    let latest = at(u64::MAX, Some(u64::MAX));
+    // The time now, when a table and when a tick is due, in milliseconds.
+    for (now, table, first_tick, act) in [
+        (0, 1_000, 980, sleep(50)),
+        (940, 1_000, 980, sleep(40)),
+        (979, 1_000, 980, sleep(1)),
+        (980, 1_000, 980, tick(980, at(1_000, Some(1_060)))),
+        (999, 1_000, 980, tick(999, at(1_000, Some(1_079)))),
+        (999, 1_000, 1_060, sleep(1)),
+        (1_000, 1_000, 980, print(1_000, at(1_500, Some(1_080)))),
+        (1_001, 1_000, 1_060, print(1_001, at(1_501, Some(1_081)))),
+        (u64::MAX, 1_000, 980, print(u64::MAX, latest)),
+    ] {
+        let due = at(table, Some(first_tick));
+        same(&rt, act_at(now, due, TABLES_AND_TICKS), act);
     }
+}
 
-    fn a_rest_beside_a_silent_bell_lasts(self) -> Result<(), Fail> {
-        let rt = self.rt;
-        let bell = Bell::new();
-        let began = Instant::now(rt)?;
-        for _ in 0..5 {
-            bell.rest(rt, Duration::from_millis(10));
-        }
-        let rested = began.elapsed(rt)?.as_millis();
-        holds(rt, !bell.has_rung());
-        holds(rt, rested >= 40 && rested < 5_000);
-        Ok(())
+#[test]
+fn a_rest_beside_a_silent_bell_lasts(rt: HostRuntime) -> Result<(), Fail> {
+    let bell = Bell::new();
+    let began = Instant::now(&rt)?;
+    for _ in 0..5 {
+        bell.rest(&rt, Duration::from_millis(10));
     }
+    let rested = began.elapsed(&rt)?.as_millis();
+    holds(&rt, !bell.has_rung());
+    holds(&rt, rested >= 40 && rested < 5_000);
+    Ok(())
+}
 
+impl<R: Host, W: Own> Trials<'_, R, W> {
     // No table is due, so each sleep lasts 50 ms: twenty readings within the 20 seconds that a path waits. A reading each
     // 10 ms, and ten more, are allowed.
     fn the_reporter_sleeps_between_its_readings_of_the_clock(self) -> Result<(), Fail> {
-        let (rt, own) = (self.rt, self.own);
-        let moments = [0; 20];
-        let has_looked = AtomicBool::new(false);
-        let staged = Staged::new(rt, moments.as_slice(), &has_looked);
-        let mut out = Vec::new(rt.alloc());
-        let feed = Feed::at(&has_looked, NO_LINES);
+        let rt = self.rt;
         let began = Instant::now(rt)?;
-        let line = "groundstation run --every=3600000";
-        let lasted = run_lasting(rt, &staged, own, line, &mut out, feed)?;
+        let lasted = self.run_through([0; 20].as_slice(), EVERY_HOUR, NO_LINES)?;
         let allowed = 10 + began.elapsed(rt)?.as_millis() / 10;
-        same(rt, lasted.told.status, 0);
-        holds(
-            rt,
-            u64::try_from(staged.readings())? <= u64::try_from(allowed)?,
-        );
+        same(rt, lasted.ran.status, 0);
+        let readings = u64::try_from(lasted.readings)?;
+        holds(rt, readings <= u64::try_from(allowed)?);
         Ok(())
     }
 
@@ -122,36 +103,16 @@ impl<
     // there: a run that waited for it would end 40 ms after its path. Processors may be busy, so one run of fifty that ends
     // sooner is enough.
     fn a_run_ends_while_its_reporter_sleeps(self) -> Result<(), Fail> {
-        let (rt, own) = (self.rt, self.own);
+        let rt = self.rt;
         for _ in 0..50 {
-            let has_looked = AtomicBool::new(false);
-            let staged = Staged::new(rt, [0].as_slice(), &has_looked);
-            let mut out = Vec::new(rt.alloc());
-            let feed = Feed::at(&has_looked, NO_LINES);
-            let line = "groundstation run --every=3600000";
-            let lasted = run_lasting(rt, &staged, own, line, &mut out, feed)?;
-            same(rt, lasted.told.status, 0);
+            let lasted = self.run_through([0].as_slice(), EVERY_HOUR, NO_LINES)?;
+            same(rt, lasted.ran.status, 0);
             if lasted.ended?.elapsed(rt)? < Duration::from_millis(38) {
                 return Ok(());
             }
         }
         Err(Fail::new("each run has waited for its reporter"))
     }
-}
-
-#[test]
-fn a_sleep_lasts_until_a_table_is_due_or_is_the_longest(rt: HostRuntime) {
-    Trials::on(&rt).a_sleep_lasts_until_a_table_is_due_or_is_the_longest()
-}
-
-#[test]
-fn a_tick_comes_alone_where_no_table_is_due(rt: HostRuntime) {
-    Trials::on(&rt).a_tick_comes_alone_where_no_table_is_due()
-}
-
-#[test]
-fn a_rest_beside_a_silent_bell_lasts(rt: HostRuntime) -> Result<(), Fail> {
-    Trials::on(&rt).a_rest_beside_a_silent_bell_lasts()
 }
 
 #[test]

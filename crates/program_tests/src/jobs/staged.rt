@@ -1,20 +1,19 @@
 //! What tests of `run` share: a clock that shows a test's times, a path that lasts, a run over it, and a bounded wait.
-use super::{Told, run_line};
+use super::bounds::*;
+use super::{NO_LINES, Ran, Trials};
 use crate::comparing::holds_at;
-use station_main::PathHost;
-use std::alloc::{Allocator, Global};
-use std::fs::{File, Metadata, OpenOptions};
+use std::alloc::Allocator;
+use std::fs::{Metadata, OpenOptions};
 use std::io::{self, PipeReader, PipeWriter, Write};
 use std::os::fd::AsRawFd;
-use std::process::Abort;
-use std::rt::Files;
 use std::sync::Wait;
 use std::sync::atomic::{AtomicBool, AtomicUsize, Ordering};
+use std::test::*;
 use std::thread::{self, Threads, join};
-use std::time::{Clock, Duration, Instant};
+use std::time::{Duration, Instant};
 
 /// A runtime whose clock shows one time after another, in milliseconds: each reading shows the next. The last one
-/// repeats, and the reading after it sets the flag. `hold_at` stops the clock earlier. The time since 1970 is always
+/// repeats, and the reading after it sets `has_ended`. `hold_at` stops the clock earlier. The time since 1970 is always
 /// 1,700,000,000,000 ms.
 #[derive(Drop)]
 pub struct Staged<'a, R> {
@@ -24,17 +23,18 @@ pub struct Staged<'a, R> {
     most: AtomicUsize,
     // Which one comes next.
     next: AtomicUsize,
-    has_ended: &'a AtomicBool,
+    /// Set once the last time has repeated.
+    pub has_ended: AtomicBool,
 }
 
 impl<'a, R> Staged<'a, R> {
-    pub fn new(rt: &'a R, moments: &'a [u64], has_ended: &'a AtomicBool) -> Staged<'a, R> {
+    pub fn new(rt: &'a R, moments: &'a [u64]) -> Staged<'a, R> {
         Staged {
             rt,
             moments,
             most: AtomicUsize::new(moments.len()),
             next: AtomicUsize::new(0),
-            has_ended,
+            has_ended: AtomicBool::new(false),
         }
     }
 
@@ -132,13 +132,6 @@ pub struct Lasting {
     end: PipeReader,
 }
 
-/// A path without lines so far.
-pub fn lasting_path<R: Files>(rt: &R, alloc: Global) -> io::Result<Lasting> {
-    let (end, lines) = io::pipe(rt)?;
-    let path = format!(in alloc; "/dev/fd/{}", end.as_raw_fd())?;
-    Ok(Lasting { path, lines, end })
-}
-
 /// Waits until the flag is set, for some 20 seconds at most, and answers whether it is.
 pub fn becomes_set<R: Clock>(rt: &R, flag: &AtomicBool) -> bool {
     for _ in 0..2_000 {
@@ -179,28 +172,52 @@ fn end_path<R: Clock>(rt: &R, mut lines: PipeWriter, feed: Feed<'_>) -> bool {
     is_fed
 }
 
-/// What a run leaves beside its output, and when its path ended.
+/// What a run over a lasting path leaves, when the path ended, and how often the clock was read.
 #[derive(Drop)]
 pub struct Lasted {
-    pub told: Told,
+    pub ran: Ran,
     pub ended: io::Result<Instant>,
+    pub readings: usize,
 }
 
-/// The job `run` by a clock, over one path that lasts until it is fed.
-pub fn run_lasting<
-    R: Threads + Clock + Files + Sync + AllocGlobal + Abort,
-    C: Threads + Wait + Clock + Files<File = File, Dir: Send> + Sync,
-    W: Wait + Clock + PathHost + Copy + Send + 'static,
-    O: Write + Send + Drop,
->(rt: &R, clock: &C, own: W, line: &str, out: O, feed: Feed<'_>) -> io::Result<Lasted> {
-    let lasting = lasting_path(rt, rt.alloc())?;
-    let lines = lasting.lines;
-    let path = lasting.path.as_str();
-    let ((is_fed, ended), told) = join(
-        rt,
-        || (end_path(rt, lines, feed), Instant::now(rt)),
-        || run_line(clock, own, rt.alloc(), line, [path].as_slice(), out),
-    );
-    holds_at(rt, is_fed, "the path got no text");
-    Ok(Lasted { told: told?, ended })
+impl<R: Host, W: Own> Trials<'_, R, W> {
+    /// A path without lines so far.
+    pub fn lasting_path(&self) -> io::Result<Lasting> {
+        let (end, lines) = io::pipe(self.rt)?;
+        let path = format!(in self.alloc; "/dev/fd/{}", end.as_raw_fd())?;
+        Ok(Lasting { path, lines, end })
+    }
+
+    /// Runs by a clock, over one path that lasts until it is fed. Answers what the run leaves, and when the path ended.
+    pub fn run_lasting(
+        &self,
+        clock: &impl System,
+        line: &str,
+        out: impl Write + Send + Drop,
+        feed: Feed<'_>,
+    ) -> Result<(Ran, io::Result<Instant>), Fail> {
+        let (rt, lasting) = (self.rt, self.lasting_path()?);
+        let (lines, path) = (lasting.lines, lasting.path.as_str());
+        let trials = self.over(clock);
+        let ((is_fed, ended), ran) = join(
+            rt,
+            || (end_path(rt, lines, feed), Instant::now(rt)),
+            move || trials.run_to(line, [path].as_slice(), NO_LINES, out),
+        );
+        holds_at(rt, is_fed, "the path got no text");
+        Ok((ran?, ended))
+    }
+
+    /// Runs by a clock that shows these times, over one path that gets this text and ends once all are shown.
+    pub fn run_through(&self, moments: &[u64], line: &str, text: &[u8]) -> Result<Lasted, Fail> {
+        let staged = Staged::new(self.rt, moments);
+        let mut out = Vec::new(self.alloc);
+        let feed = Feed::at(&staged.has_ended, text);
+        let (ran, ended) = self.run_lasting(&staged, line, &mut out, feed)?;
+        Ok(Lasted {
+            ran: Ran { out, ..ran },
+            ended,
+            readings: staged.readings(),
+        })
+    }
 }

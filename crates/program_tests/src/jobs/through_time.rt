@@ -1,9 +1,9 @@
 //! The job `run` while its paths last.
 use super::bounds::*;
-use super::staged::{Feed, Staged, becomes_set, lasting_path, run_lasting};
-use super::{NO_LINES, Trials, run_line, text};
+use super::run::{IDENTIFICATION, VELOCITY};
+use super::staged::becomes_set;
+use super::{NO_LINES, Trials, text};
 use crate::comparing::{holds, same};
-use std::alloc::{AllocError, Global};
 use std::io::{self, Write};
 use std::sync::atomic::{AtomicBool, Ordering};
 use std::test::*;
@@ -18,28 +18,6 @@ const TABLES_OF_NOBODY: &str = tables!(
     "now 60305 aircraft 0" => [],
     "now 60305 aircraft 0" => [],
 );
-
-// Three hours and 2,100 ms of a clock that starts at 1,000,000 ms: the millisecond before each table is due, and then a
-// time 7 ms after it was due.
-fn three_hours(alloc: Global) -> Result<Vec<u64>, AllocError> {
-    let mut moments = Vec::new(alloc);
-    moments.push(1_000_000)?;
-    for table in 1..301u64 {
-        moments.push(999_992 + 36_007 * table)?;
-        moments.push(1_000_000 + 36_007 * table)?;
-    }
-    Ok(moments)
-}
-
-// The tables of these three hours, and the one at the end of the path.
-fn tables_of_three_hours(alloc: Global) -> Result<String, AllocError> {
-    let mut tables = String::new(alloc);
-    for table in 1..302u64 {
-        let now = 36_007 * table.min(300);
-        tables.push_str(format!(in alloc; "now {now} aircraft 0\n{HEADER}")?.as_str())?;
-    }
-    Ok(tables)
-}
 
 // Sets the flag at a table of both aircraft.
 #[derive(Drop)]
@@ -63,57 +41,50 @@ impl<'a> Write for Seen<'a> {
     }
 }
 
-impl<
-    R: Threads + Wait + Clock + Files<File = File, Dir: Send> + Sync + AllocGlobal + Abort + Env,
-    W: Wait + Clock + PathHost + Copy + Send + 'static,
-> Trials<'_, R, W> {
+impl<R: Host, W: Own> Trials<'_, R, W> {
     // The clock starts at 1,000,000 ms. It shows the millisecond before each table is due and the one when it is, and skips
     // a minute at once. The last table comes at the end of the path.
     fn a_table_is_printed_when_it_is_due_and_at_the_end(self) -> Result<(), Fail> {
-        let (rt, own) = (self.rt, self.own);
         let moments = [
             1_000_000, 1_000_050, 1_000_099, 1_000_100, 1_000_150, 1_000_199, 1_000_200, 1_060_205,
             1_060_304, 1_060_305,
         ];
-        let has_ended = AtomicBool::new(false);
-        let staged = Staged::new(rt, moments.as_slice(), &has_ended);
-        let mut out = Vec::new(rt.alloc());
-        let feed = Feed::at(&has_ended, NO_LINES);
-        let line = "groundstation run --every 100";
-        let lasted = run_lasting(rt, &staged, own, line, &mut out, feed)?;
-        same(rt, text(&out), TABLES_OF_NOBODY);
-        same(rt, lasted.told.status, 0);
+        let lasted = self.run_through(moments.as_slice(), "run --every 100", NO_LINES)?;
+        same(self.rt, text(&lasted.ran.out), TABLES_OF_NOBODY);
+        same(self.rt, lasted.ran.status, 0);
         Ok(())
     }
 
+    // Three hours and 2,100 ms of a clock that starts at 1,000,000 ms: the millisecond before each table is due, and then a
+    // time 7 ms after it was due. One more table comes at the end of the path.
     fn three_hundred_tables_are_printed_in_three_hours(self) -> Result<(), Fail> {
-        let (rt, own) = (self.rt, self.own);
-        let moments = three_hours(rt.alloc())?;
-        let has_ended = AtomicBool::new(false);
-        let staged = Staged::new(rt, moments.as_slice(), &has_ended);
-        let mut out = Vec::new(rt.alloc());
-        let feed = Feed::at(&has_ended, NO_LINES);
-        let line = "groundstation run --every 36000";
-        let lasted = run_lasting(rt, &staged, own, line, &mut out, feed)?;
-        same(rt, text(&out), tables_of_three_hours(rt.alloc())?.as_str());
-        same(rt, lasted.told.status, 0);
+        let (mut moments, mut tables) = (Vec::new(self.alloc), String::new(self.alloc));
+        moments.push(1_000_000)?;
+        for table in 1..301u64 {
+            moments.push(999_992 + 36_007 * table)?;
+            moments.push(1_000_000 + 36_007 * table)?;
+        }
+        for table in 1..302u64 {
+            let now = 36_007 * table.min(300);
+            tables.push_str(format!(in self.alloc; "now {now} aircraft 0\n{HEADER}")?.as_str())?;
+        }
+        let lasted = self.run_through(moments.as_slice(), "run --every 36000", NO_LINES)?;
+        same(self.rt, text(&lasted.ran.out), tables.as_str());
+        same(self.rt, lasted.ran.status, 0);
         Ok(())
     }
 
     fn paths_are_read_and_shown_side_by_side(self) -> Result<(), Fail> {
-        let (rt, own) = (self.rt, self.own);
-        let are_shown = AtomicBool::new(false);
-        let mut first = lasting_path(rt, rt.alloc())?;
-        let mut second = lasting_path(rt, rt.alloc())?;
-        first.lines.write_all(b"*8D4840D6202CC371C32CE0576098;\n")?;
-        second.lines.write_all(b"*8D485020994409940838175B284F;\n")?;
+        let (rt, are_shown) = (self.rt, AtomicBool::new(false));
+        let (mut first, mut second) = (self.lasting_path()?, self.lasting_path()?);
+        first.lines.write_all(IDENTIFICATION.as_bytes())?;
+        second.lines.write_all(VELOCITY.as_bytes())?;
         let paths = [first.path.as_str(), second.path.as_str()];
         let out = Seen {
             are_shown: &are_shown,
         };
-        let line = "groundstation run --every 10";
         let (first_lines, second_lines) = (first.lines, second.lines);
-        let (were_shown, told) = join(
+        let (were_shown, ran) = join(
             rt,
             || {
                 let were_shown = becomes_set(rt, &are_shown);
@@ -121,10 +92,10 @@ impl<
                 drop(second_lines);
                 were_shown
             },
-            || run_line(rt, own, rt.alloc(), line, paths.as_slice(), out),
+            move || self.run_to("run --every 10", paths.as_slice(), NO_LINES, out),
         );
         holds(rt, were_shown);
-        same(rt, told?.status, 0);
+        same(rt, ran?.status, 0);
         Ok(())
     }
 }
