@@ -6,8 +6,8 @@ use Rattle.std.proofs.Math.Nat.{mul-lt-mul_of_pos_left}
 use borrow.Author.Differences.{up, down, product_is}
 use Rattle.modes_cpr.specs.Floor.{floor, modulo}
 use Rattle.modes_cpr.specs.declared.points.Degrees.{Degrees}
-use Rattle.modes_cpr.specs.Pair.{bins, angle, decoded}
-use Rattle.modes_cpr.specs.Encoding.{zone_of, bin_of, sent}
+use Rattle.modes_cpr.specs.Pair.{bins, angle, decoded_angle}
+use Rattle.modes_cpr.specs.Encoding.{zone_of, bin_of, sent_bin}
 use Rattle.modes_cpr.proofs.FloorLemmas.{floor_unique}
 
 -- in units of 1/(2^17 z) of a zone
@@ -33,15 +33,15 @@ bin_of-angle z y k some small =
     let r : modulo ((angle z k (pos y)).num *ℤ pos z) (360 * (z * bins)) ≡ pos (360 * z * y) = ap (λ v. (angle z k (pos y)).num *ℤ pos z -ℤ pos (360 * (z * bins)) *ℤ v) q ∙ omega (arith, ints) in
     floor_unique _ (2 * (360 * (z * bins))) (pos y) (record { low = omega (arith, ints); high = omega (arith, ints) })
 
-pub sent-small : (y : ℕ) → y < bins → sent (pos y) ≡ y
-sent-small y h =
+pub sent_bin-small : (y : ℕ) → y < bins → sent_bin (pos y) ≡ y
+sent_bin-small y h =
     let q : floor (pos y) bins ≡ pos 0 = floor_unique (pos y) bins (pos 0) (record { low = omega (arith, ints); high = omega (arith, ints) }) in
     ap (λ v. unsigned_abs (pos y -ℤ pos bins *ℤ v)) q ∙ omega arith
 
 -- what is decoded is the angle of the same bin in some zone
-pub decoded-angle : (limit z y : ℕ) (j : ℤ) → (k : ℤ) × (decoded limit z j y ≡ angle z k (pos y))
-unfolding decoded
-decoded-angle limit z y j = by (int_le (pos (limit * (z * bins))) (angle z (modulo j z) (pos y)).num)
+pub decoded_angle-angle : (limit z y : ℕ) (j : ℤ) → (k : ℤ) × (decoded_angle limit z j y ≡ angle z k (pos y))
+unfolding decoded_angle
+decoded_angle-angle limit z y j = by (int_le (pos (limit * (z * bins))) (angle z (modulo j z) (pos y)).num)
   where
     a : Degrees
     a = angle z (modulo j z) (pos y)

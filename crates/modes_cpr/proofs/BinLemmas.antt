@@ -6,7 +6,7 @@ use borrow.Author.Differences.{up, down, sum_is_lem, product_is}
 use Rattle.modes_cpr.specs.Floor.{floor, modulo}
 use Rattle.modes_cpr.specs.declared.points.Degrees.{Degrees}
 use Rattle.modes_cpr.specs.Pair.{bins, zone_index}
-use Rattle.modes_cpr.specs.Encoding.{zone_of, bin_of, sent}
+use Rattle.modes_cpr.specs.Encoding.{zone_of, bin_of, sent_bin}
 use Rattle.modes_cpr.proofs.WholeNumberLemmas.{*ℤ--ℤ}
 use Rattle.modes_cpr.proofs.FloorLemmas.{floor_is, floor_unique, modulo_shift}
 
@@ -36,9 +36,9 @@ pub record IsSent (K q : ℤ) (y : ℕ) : Type 0 where
   pub up_is : bins * up q + y + down K ≡ up K + bins * down q
   pub small : y < bins
 
-pub steps-sent : (z : ℕ) (a : Degrees) → IsSent (steps z a) (zone_of z a +ℤ floor (bin_of z a) bins) (sent (bin_of z a))
+pub steps-sent_bin : (z : ℕ) (a : Degrees) → IsSent (steps z a) (zone_of z a +ℤ floor (bin_of z a) bins) (sent_bin (bin_of z a))
 unfolding steps
-steps-sent z a =
+steps-sent_bin z a =
     let f = floor_is (bin_of z a) bins (omega arith) in
     record { up_is = omega (arith, ints); small = omega (arith, ints) }
 

@@ -7,7 +7,7 @@ use Rattle.std.proofs.Math.Nat.{mul-le-mul_left, le_of_mul-le-mul_left}
 use borrow.Author.Differences.{up, down, neg_is, product_is}
 use Rattle.modes_cpr.specs.Floor.{floor, modulo}
 use Rattle.modes_cpr.specs.declared.points.Degrees.{Degrees}
-use Rattle.modes_cpr.specs.Pair.{bins, angle, wrapped, decoded, is_latitude}
+use Rattle.modes_cpr.specs.Pair.{bins, angle, wrapped_angle, decoded_angle, is_latitude}
 use Rattle.modes_cpr.specs.Laws.{IsWithinHalfBin, IsWithinHalfBinRound}
 use Rattle.modes_cpr.proofs.WholeNumberLemmas.{*ℤ-+ℤ}
 use Rattle.modes_cpr.proofs.FloorLemmas.{floor_unique}
@@ -22,14 +22,14 @@ pub record IsQuarter (z : ℕ) (K : ℤ) : Type 0 where
   pub low : 4 * down K ≤ 4 * up K + z * bins
   pub high : 4 * up K ≤ 4 * down K + z * bins
 
-below_limit : (limit : ℕ) (n : ℤ) (den : ℕ) → n <ℤ pos (limit * den) → wrapped limit (record { num = n; den = den }) ≡ (let f : Degrees = record { num = n; den = den } in f)
+below_limit : (limit : ℕ) (n : ℤ) (den : ℕ) → n <ℤ pos (limit * den) → wrapped_angle limit (record { num = n; den = den }) ≡ (let f : Degrees = record { num = n; den = den } in f)
 below_limit limit n den h =
     let t : int_le (pos (limit * den)) n ≡ false = sym (omega (arith, ints)) in
     let f : Degrees = record { num = n -ℤ pos (360 * den); den = den } in
     let g : Degrees = record { num = n; den = den } in
     ap (λ v. cond v f g) t
 
-above_limit : (limit : ℕ) (n : ℤ) (den : ℕ) → pos (limit * den) ≤ℤ n → wrapped limit (record { num = n; den = den }) ≡ (let f : Degrees = record { num = n -ℤ pos (360 * den); den = den } in f)
+above_limit : (limit : ℕ) (n : ℤ) (den : ℕ) → pos (limit * den) ≤ℤ n → wrapped_angle limit (record { num = n; den = den }) ≡ (let f : Degrees = record { num = n -ℤ pos (360 * den); den = den } in f)
 above_limit limit n den h =
     let t : int_le (pos (limit * den)) n ≡ true = sym (omega (arith, ints)) in
     let f : Degrees = record { num = n -ℤ pos (360 * den); den = den } in
@@ -37,26 +37,26 @@ above_limit limit n den h =
     ap (λ v. cond v f g) t
 
 -- south of the equator the index is one turn too great, and the turn is taken away
-pub latitude-decoded : (z y : ℕ) (j q K : ℤ) → 0 < z → IsSent K q y → IsQuarter z K → modulo j z ≡ modulo q z → decoded 270 z j y ≡ at_step z K
-unfolding decoded
-latitude-decoded z y j q K some s quarter same = by_lt_z K (pos 0) south north
+pub latitude-decoded_angle : (z y : ℕ) (j q K : ℤ) → 0 < z → IsSent K q y → IsQuarter z K → modulo j z ≡ modulo q z → decoded_angle 270 z j y ≡ at_step z K
+unfolding decoded_angle
+latitude-decoded_angle z y j q K some s quarter same = by_lt_z K (pos 0) south north
   where
     fraction : ℤ → Degrees
     fraction v = record { num = v; den = z * bins }
 
-    south : K <ℤ pos 0 → decoded 270 z j y ≡ at_step z K
+    south : K <ℤ pos 0 → decoded_angle 270 z j y ≡ at_step z K
     south h =
         let t : floor q z ≡ negsuc 0 = floor_unique q z (negsuc 0) (record { low = omega (arith, ints); high = omega (arith, ints) }) in
         let m : modulo j z ≡ q +ℤ pos z = same ∙ ap (λ v. q -ℤ pos z *ℤ v) t ∙ omega (arith, ints) in
         let n : pos 360 *ℤ ((q +ℤ pos z) *ℤ pos bins +ℤ pos y) -ℤ pos (360 * (z * bins)) ≡ pos 360 *ℤ K = omega (arith, ints) in
-        ap (λ v. wrapped 270 (angle z v (pos y))) m ∙ above_limit 270 (pos 360 *ℤ ((q +ℤ pos z) *ℤ pos bins +ℤ pos y)) (z * bins) (omega (arith, ints)) ∙ ap fraction n
+        ap (λ v. wrapped_angle 270 (angle z v (pos y))) m ∙ above_limit 270 (pos 360 *ℤ ((q +ℤ pos z) *ℤ pos bins +ℤ pos y)) (z * bins) (omega (arith, ints)) ∙ ap fraction n
 
-    north : pos 0 ≤ℤ K → decoded 270 z j y ≡ at_step z K
+    north : pos 0 ≤ℤ K → decoded_angle 270 z j y ≡ at_step z K
     north h =
         let t : floor q z ≡ pos 0 = floor_unique q z (pos 0) (record { low = omega (arith, ints); high = omega (arith, ints) }) in
         let m : modulo j z ≡ q = same ∙ ap (λ v. q -ℤ pos z *ℤ v) t ∙ omega (arith, ints) in
         let n : pos 360 *ℤ (q *ℤ pos bins +ℤ pos y) ≡ pos 360 *ℤ K = omega (arith, ints) in
-        ap (λ v. wrapped 270 (angle z v (pos y))) m ∙ below_limit 270 (pos 360 *ℤ (q *ℤ pos bins +ℤ pos y)) (z * bins) (omega (arith, ints)) ∙ ap fraction n
+        ap (λ v. wrapped_angle 270 (angle z v (pos y))) m ∙ below_limit 270 (pos 360 *ℤ (q *ℤ pos bins +ℤ pos y)) (z * bins) (omega (arith, ints)) ∙ ap fraction n
 
 pub is_latitude-at_step : (z : ℕ) (K : ℤ) → IsQuarter z K → is_latitude (at_step z K) ≡ true
 is_latitude-at_step z K quarter =
@@ -111,11 +111,11 @@ within-turned z K t a h =
     (neg_ℤ t, subst (λ v. 2 ^ 18 * z * v ≤ 360 * (z * bins * a.den)) (sym e) w)
 
 -- up to whole turns, the bins decode in a grid of z zones to the point, rounded to the nearest bin
-pub longitude-decoded : (z x : ℕ) (m p K : ℤ) (a : Degrees) → 0 < z → IsNearest z a K → IsSent K p x → modulo m z ≡ modulo p z
-    → IsWithinHalfBinRound z (decoded 180 z m x) a
-unfolding decoded
-longitude-decoded z x m p K a some h s same =
-    subst (λ v. IsWithinHalfBinRound z (wrapped 180 (angle z v (pos x))) a) (sym same) (by (int_le (pos (180 * (z * bins))) n))
+pub longitude-decoded_angle : (z x : ℕ) (m p K : ℤ) (a : Degrees) → 0 < z → IsNearest z a K → IsSent K p x → modulo m z ≡ modulo p z
+    → IsWithinHalfBinRound z (decoded_angle 180 z m x) a
+unfolding decoded_angle
+longitude-decoded_angle z x m p K a some h s same =
+    subst (λ v. IsWithinHalfBinRound z (wrapped_angle 180 (angle z v (pos x))) a) (sym same) (by (int_le (pos (180 * (z * bins))) n))
   where
     f : ℤ
     f = floor p z

@@ -6,13 +6,13 @@ use Rattle.modes_fields.specs.declared.place.Place.{Place}
 use Rattle.modes_cpr.specs.Floor.{floor, modulo}
 use Rattle.modes_cpr.specs.declared.points.Degrees.{Degrees}
 use Rattle.modes_cpr.specs.declared.points.Position.{Position}
-use Rattle.modes_cpr.specs.Pair.{bins, latitude_zones, longitude_zones, decoded, zone_index, position_by}
-use Rattle.modes_cpr.specs.Encoding.{zone_of, bin_of, sent, place_by}
+use Rattle.modes_cpr.specs.Pair.{bins, latitude_zones, longitude_zones, decoded_angle, zone_index, position_by}
+use Rattle.modes_cpr.specs.Encoding.{zone_of, bin_of, sent_bin, place_by}
 use Rattle.modes_cpr.specs.Laws.{IsZoneCount, IsWithinHalfBin, IsWithinHalfBinRound, zones_at, Near}
 use Rattle.modes_cpr.proofs.FloorLemmas.{floor_unique}
-use Rattle.modes_cpr.proofs.BinLemmas.{steps, IsNearest, IsSent, steps-nearest, steps-sent, same_point, zone_index_is, even_zone, odd_zone}
+use Rattle.modes_cpr.proofs.BinLemmas.{steps, IsNearest, IsSent, steps-nearest, steps-sent_bin, same_point, zone_index_is, even_zone, odd_zone}
 use Rattle.modes_cpr.proofs.PairLemmas.{found_at}
-use Rattle.modes_cpr.proofs.DecodedLemmas.{at_step, IsQuarter, quarter-nearest, latitude-decoded, is_latitude-at_step, within-at_step, longitude-decoded}
+use Rattle.modes_cpr.proofs.DecodedLemmas.{at_step, IsQuarter, quarter-nearest, latitude-decoded_angle, is_latitude-at_step, within-at_step, longitude-decoded_angle}
 
 -- ---- the index of a zone, from the two roundings of one point
 
@@ -79,8 +79,8 @@ near nl counts lat lon newest some_lat some_lon range equal = subst (λ o. IsSom
     near_lat : (b : Bool) → IsNearest (latitude_zones b) lat (steps (latitude_zones b) lat)
     near_lat b = steps-nearest (latitude_zones b) lat some_lat
 
-    sent_lat : (b : Bool) → IsSent (steps (latitude_zones b) lat) (zone b) (sent (bin_of (latitude_zones b) lat))
-    sent_lat b = steps-sent (latitude_zones b) lat
+    sent_lat : (b : Bool) → IsSent (steps (latitude_zones b) lat) (zone b) (sent_bin (bin_of (latitude_zones b) lat))
+    sent_lat b = steps-sent_bin (latitude_zones b) lat
 
     quarter : (b : Bool) → IsQuarter (latitude_zones b) (steps (latitude_zones b) lat)
     quarter b = quarter-nearest (latitude_zones b) (steps (latitude_zones b) lat) lat some_lat range (near_lat b)
@@ -91,18 +91,18 @@ near nl counts lat lon newest some_lat some_lon range equal = subst (λ o. IsSom
     j_is : j ≡ pos 60 *ℤ zone true -ℤ pos 59 *ℤ zone false
     j_is = index_found 59 lat (steps 60 lat) (steps 59 lat) (zone false) (zone true) even.lat odd.lat some_lat (omega arith) (omega arith) (near_lat false) (near_lat true) (sent_lat false) (sent_lat true)
 
-    lat0 : decoded 270 60 j even.lat ≡ at_step 60 (steps 60 lat)
-    lat0 = latitude-decoded 60 even.lat j (zone false) (steps 60 lat) (omega arith) (sent_lat false) (quarter false) (ap (λ v. modulo v 60) j_is ∙ even_zone 59 (zone false) (zone true))
+    lat0 : decoded_angle 270 60 j even.lat ≡ at_step 60 (steps 60 lat)
+    lat0 = latitude-decoded_angle 60 even.lat j (zone false) (steps 60 lat) (omega arith) (sent_lat false) (quarter false) (ap (λ v. modulo v 60) j_is ∙ even_zone 59 (zone false) (zone true))
 
-    lat1 : decoded 270 59 j odd.lat ≡ at_step 59 (steps 59 lat)
-    lat1 = latitude-decoded 59 odd.lat j (zone true) (steps 59 lat) (omega arith) (sent_lat true) (quarter true) (ap (λ v. modulo v 59) j_is ∙ odd_zone 59 (zone false) (zone true) (omega arith))
+    lat1 : decoded_angle 270 59 j odd.lat ≡ at_step 59 (steps 59 lat)
+    lat1 = latitude-decoded_angle 59 odd.lat j (zone true) (steps 59 lat) (omega arith) (sent_lat true) (quarter true) (ap (λ v. modulo v 59) j_is ∙ odd_zone 59 (zone false) (zone true) (omega arith))
 
     m : ℤ
     m = zone_index N even.lon odd.lon
 
     position : position_by nl even odd newest ≡ Some (let p : Position = record {
       lat = if newest then at_step 59 (steps 59 lat) else at_step 60 (steps 60 lat);
-      lon = decoded 180 (longitude_zones N newest) m (if newest then odd.lon else even.lon);
+      lon = decoded_angle 180 (longitude_zones N newest) m (if newest then odd.lon else even.lon);
     } in p)
     position = found_at nl even odd newest (at_step 60 (steps 60 lat)) (at_step 59 (steps 59 lat)) lat0 lat1 (is_latitude-at_step 60 (steps 60 lat) (quarter false)) (is_latitude-at_step 59 (steps 59 lat) (quarter true)) equal
 
@@ -127,14 +127,14 @@ near nl counts lat lon newest some_lat some_lon range equal = subst (λ o. IsSom
     near_lon : (b : Bool) → IsNearest (grid b) lon (steps (grid b) lon)
     near_lon b = steps-nearest (grid b) lon some_lon
 
-    sent_lon : (b : Bool) → IsSent (steps (grid b) lon) (band b) (sent (bin_of (grid b) lon))
-    sent_lon b = steps-sent (grid b) lon
+    sent_lon : (b : Bool) → IsSent (steps (grid b) lon) (band b) (sent_bin (bin_of (grid b) lon))
+    sent_lon b = steps-sent_bin (grid b) lon
 
     m_is : (b : Bool) → modulo m (grid b) ≡ modulo (if b then band true else band false) (grid b)
     m_is b = subst (λ n. modulo m n ≡ modulo (if b then band true else band false) n) (same b)
         (longitude_index N b lon (steps (grid false) lon) (steps (grid true) lon) (band false) (band true) even.lon odd.lon some_lon (counts.least _ _) (counts.most _ _)
         (near_lon false) (subst (λ n. IsNearest n lon (steps (grid true) lon)) (sym (same true)) (near_lon true)) (sent_lon false) (sent_lon true))
 
-    within_lon : (b : Bool) → IsWithinHalfBinRound (grid b) (decoded 180 (longitude_zones N b) m (if b then odd.lon else even.lon)) lon
-    within_lon true = subst (λ n. IsWithinHalfBinRound (grid true) (decoded 180 n m odd.lon) lon) (sym (same true)) (longitude-decoded (grid true) odd.lon m (band true) (steps (grid true) lon) lon (some_grid true) (near_lon true) (sent_lon true) (m_is true))
-    within_lon false = longitude-decoded (grid false) even.lon m (band false) (steps (grid false) lon) lon (some_grid false) (near_lon false) (sent_lon false) (m_is false)
+    within_lon : (b : Bool) → IsWithinHalfBinRound (grid b) (decoded_angle 180 (longitude_zones N b) m (if b then odd.lon else even.lon)) lon
+    within_lon true = subst (λ n. IsWithinHalfBinRound (grid true) (decoded_angle 180 n m odd.lon) lon) (sym (same true)) (longitude-decoded_angle (grid true) odd.lon m (band true) (steps (grid true) lon) lon (some_grid true) (near_lon true) (sent_lon true) (m_is true))
+    within_lon false = longitude-decoded_angle (grid false) even.lon m (band false) (steps (grid false) lon) lon (some_grid false) (near_lon false) (sent_lon false) (m_is false)

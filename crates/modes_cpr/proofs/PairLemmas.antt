@@ -6,11 +6,11 @@ use Rattle.std.proofs.lemmas.Int.{to_z-of_z}
 use Rattle.modes_fields.specs.declared.place.Place.{Place}
 use Rattle.modes_cpr.specs.declared.points.Degrees.{Degrees}
 use Rattle.modes_cpr.specs.declared.points.Position.{Position}
-use Rattle.modes_cpr.specs.Pair.{longitude_zones, decoded, zone_index, is_latitude, position_by}
+use Rattle.modes_cpr.specs.Pair.{longitude_zones, decoded_angle, zone_index, is_latitude, position_by}
 
 -- an angle that the code decoded with an index that it computed
-pub decoded_at : (limit z y : ℕ) (i j : ℤ) (a : Degrees) → FitsSigned w64 i → i ≡ j → a ≡ decoded limit z (to_z w64 (of_z w64 i)) y → decoded limit z j y ≡ a
-decoded_at limit z y i j a fits e h = ap (λ v. decoded limit z v y) (sym (to_z-of_z w64 i fits ∙ e)) ∙ sym h
+pub decoded_at : (limit z y : ℕ) (i j : ℤ) (a : Degrees) → FitsSigned w64 i → i ≡ j → a ≡ decoded_angle limit z (to_z w64 (of_z w64 i)) y → decoded_angle limit z j y ≡ a
+decoded_at limit z y i j a fits e h = ap (λ v. decoded_angle limit z v y) (sym (to_z-of_z w64 i fits ∙ e)) ∙ sym h
 
 -- NL, where the code computed it
 pub zones_at_num : (nl : ℤ → ℕ → ℕ) (a : Degrees) → FitsSigned w64 a.num → (n : ℕ) → n ≡ nl (to_z w64 (of_z w64 a.num)) a.den → n ≡ nl a.num a.den
@@ -21,12 +21,12 @@ pub zones_tested : (nl : ℤ → ℕ → ℕ) (a : Degrees) → FitsSigned w64 a
 zones_tested nl a fits n r e = e ∙ ap (λ v. nl v a.den == n) (to_z-of_z w64 a.num fits)
 
 module _ (nl : ℤ → ℕ → ℕ) (even odd : Place) (newest : Bool) (a0 a1 : Degrees)
-    (d0 : decoded 270 60 (zone_index 60 even.lat odd.lat) even.lat ≡ a0)
-    (d1 : decoded 270 59 (zone_index 60 even.lat odd.lat) odd.lat ≡ a1) where
+    (d0 : decoded_angle 270 60 (zone_index 60 even.lat odd.lat) even.lat ≡ a0)
+    (d1 : decoded_angle 270 59 (zone_index 60 even.lat odd.lat) odd.lat ≡ a1) where
   abbrev pub made : Degrees → Degrees → Position
   made u v = record {
     lat = if newest then v else u;
-    lon = decoded 180 (longitude_zones (nl u.num u.den) newest) (zone_index (nl u.num u.den) even.lon odd.lon) (if newest then odd.lon else even.lon);
+    lon = decoded_angle 180 (longitude_zones (nl u.num u.den) newest) (zone_index (nl u.num u.den) even.lon odd.lon) (if newest then odd.lon else even.lon);
   }
 
   abbrev passes : Degrees → Degrees → Bool
@@ -38,7 +38,7 @@ module _ (nl : ℤ → ℕ → ℕ) (even odd : Place) (newest : Bool) (a0 a1 : 
   position_at : (t : Bool) → passes a0 a1 ≡ t → position_by nl even odd newest ≡ (if t then Some (made a0 a1) else None)
   unfolding position_by
   position_at t e =
-      ap (λ u. outcome u (decoded 270 59 (zone_index 60 even.lat odd.lat) odd.lat)) d0 ∙ ap (outcome a0) d1
+      ap (λ u. outcome u (decoded_angle 270 59 (zone_index 60 even.lat odd.lat) odd.lat)) d0 ∙ ap (outcome a0) d1
       ∙ ap (λ b. if b then Some (made a0 a1) else None) e
 
   pub found_at : is_latitude a0 ≡ true → is_latitude a1 ≡ true → nl a0.num a0.den ≡ nl a1.num a1.den → position_by nl even odd newest ≡ Some (made a0 a1)
@@ -58,10 +58,10 @@ module _ (nl : ℤ → ℕ → ℕ) (even odd : Place) (newest : Bool) (a0 a1 : 
   pub made_is : (lat lon : Degrees) (n g x : ℕ) (i : ℤ)
       → lat ≡ (if newest then a1 else a0) → x ≡ (if newest then odd.lon else even.lon) → n ≡ nl a0.num a0.den
       → FitsSigned w64 i → i ≡ zone_index n even.lon odd.lon → g ≡ longitude_zones n newest
-      → lon ≡ decoded 180 g (to_z w64 (of_z w64 i)) x
+      → lon ≡ decoded_angle 180 g (to_z w64 (of_z w64 i)) x
       → (let p : Position = record { lat = lat; lon = lon } in p) ≡ made a0 a1
   made_is lat lon n g x i lat_is x_is n_is fits i_is g_is lon_is =
       let zones : g ≡ longitude_zones (nl a0.num a0.den) newest = g_is ∙ ap (λ v. longitude_zones v newest) n_is in
       let index : to_z w64 (of_z w64 i) ≡ zone_index (nl a0.num a0.den) even.lon odd.lon = to_z-of_z w64 i fits ∙ i_is ∙ ap (λ v. zone_index v even.lon odd.lon) n_is in
-      let whole : lon ≡ (made a0 a1).lon = lon_is ∙ (λ k. decoded 180 (zones k) (index k) (x_is k)) in
+      let whole : lon ≡ (made a0 a1).lon = lon_is ∙ (λ k. decoded_angle 180 (zones k) (index k) (x_is k)) in
       (λ k. record { lat = lat_is k; lon = whole k })

@@ -4,13 +4,13 @@ use Rattle.std.proofs.lemmas.Int.{ints, to_z-of_z}
 use Rattle.modes_fields.specs.declared.place.Place.{Place}
 use Rattle.modes_cpr.specs.declared.points.Degrees.{Degrees}
 use Rattle.modes_cpr.specs.Pair.{bins, latitude_zones, longitude_zones, angle}
-use Rattle.modes_cpr.specs.Encoding.{zone_of, bin_of, sent, rounded_latitude, place_by}
+use Rattle.modes_cpr.specs.Encoding.{zone_of, bin_of, sent_bin, rounded_latitude, place_by}
 use Rattle.modes_cpr.proofs.FloorLemmas.{modulo_is}
 use Rattle.modes_cpr.proofs.BinLemmas.{steps, steps-nearest}
 use Rattle.modes_cpr.proofs.DecodedLemmas.{quarter-nearest}
 
-pub sent-pos : (y : ℕ) → y % bins ≡ sent (pos y)
-sent-pos y = ap unsigned_abs (modulo_is (pos y) bins (omega arith))
+pub sent_bin-pos : (y : ℕ) → y % bins ≡ sent_bin (pos y)
+sent_bin-pos y = ap unsigned_abs (modulo_is (pos y) bins (omega arith))
 
 -- the rounded latitude is a latitude
 pub rounded_in_range : (odd : Bool) (lat : Degrees) → 0 < lat.den → unsigned_abs lat.num ≤ 90 * lat.den
@@ -37,7 +37,7 @@ pub place_is : (nl : ℤ → ℕ → ℕ) (odd : Bool) (lat lon a : Degrees) (z 
     → (let p : Place = record { odd = odd; lat = y % bins; lon = x % bins } in p) ≡ place_by nl lat lon odd
 unfolding place_by
 place_is nl odd lat lon a z n g y x z_is a_is n_is g_is y_is x_is =
-    let lat_is : y % bins ≡ sent (bin_of (latitude_zones odd) lat) = sent-pos y ∙ ap sent (y_is ∙ ap (λ v. bin_of v lat) z_is) in
+    let lat_is : y % bins ≡ sent_bin (bin_of (latitude_zones odd) lat) = sent_bin-pos y ∙ ap sent_bin (y_is ∙ ap (λ v. bin_of v lat) z_is) in
     let zones : g ≡ longitude_zones (nl (rounded_latitude odd lat).num (rounded_latitude odd lat).den) odd = g_is ∙ ap (λ v. longitude_zones v odd) (n_is ∙ ap (λ (v : Degrees). nl v.num v.den) a_is) in
-    let lon_is : x % bins ≡ sent (bin_of (longitude_zones (nl (rounded_latitude odd lat).num (rounded_latitude odd lat).den) odd) lon) = sent-pos x ∙ ap sent (x_is ∙ ap (λ v. bin_of v lon) zones) in
+    let lon_is : x % bins ≡ sent_bin (bin_of (longitude_zones (nl (rounded_latitude odd lat).num (rounded_latitude odd lat).den) odd) lon) = sent_bin-pos x ∙ ap sent_bin (x_is ∙ ap (λ v. bin_of v lon) zones) in
     (λ i. record { odd = odd; lat = lat_is i; lon = lon_is i })

@@ -5,18 +5,18 @@ use Rattle.std.specs.Prelude.{◌==◌, ◌&&◌, if◌then◌else◌}
 use Rattle.modes_fields.specs.declared.place.Place.{Place}
 use Rattle.modes_cpr.specs.declared.points.Degrees.{Degrees}
 use Rattle.modes_cpr.specs.declared.points.Position.{Position}
-use Rattle.modes_cpr.specs.Pair.{bins, latitude_zones, longitude_zones, angle, decoded, zone_index, is_latitude, position_by}
-use Rattle.modes_cpr.specs.Encoding.{zone_of, bin_of, sent, place_by}
+use Rattle.modes_cpr.specs.Pair.{bins, latitude_zones, longitude_zones, angle, decoded_angle, zone_index, is_latitude, position_by}
+use Rattle.modes_cpr.specs.Encoding.{zone_of, bin_of, sent_bin, place_by}
 use Rattle.modes_cpr.specs.Laws.{RoundTrip}
-use Rattle.modes_cpr.proofs.AngleLemmas.{zone_of-angle, bin_of-angle, sent-small, decoded-angle}
+use Rattle.modes_cpr.proofs.AngleLemmas.{zone_of-angle, bin_of-angle, sent_bin-small, decoded_angle-angle}
 
 -- the angle of bin y in one of z zones
 record IsAngle (z y : ℕ) (a : Degrees) : Type 0 where
   zone : ℤ
   is : a ≡ angle z zone (pos y)
 
-sent_again : (z y : ℕ) (a : Degrees) → 0 < z → y < bins → IsAngle z y a → sent (bin_of z a) ≡ y
-sent_again z y a some small h = ap (λ v. sent (bin_of z v)) h.is ∙ ap sent (bin_of-angle z y h.zone some small) ∙ sent-small y small
+sent_again : (z y : ℕ) (a : Degrees) → 0 < z → y < bins → IsAngle z y a → sent_bin (bin_of z a) ≡ y
+sent_again z y a some small h = ap (λ v. sent_bin (bin_of z v)) h.is ∙ ap sent_bin (bin_of-angle z y h.zone some small) ∙ sent_bin-small y small
 
 rounded_again : (z y : ℕ) (a : Degrees) → 0 < z → y < bins → IsAngle z y a → angle z (zone_of z a) (bin_of z a) ≡ a
 rounded_again z y a some small h =
@@ -42,12 +42,12 @@ placed nl odd y x n lat lon sy sx ha hn hb =
     let zones : Degrees → ℕ = λ r. longitude_zones (nl r.num r.den) odd in
     let rounded : Degrees = angle (latitude_zones odd) (zone_of (latitude_zones odd) lat) (bin_of (latitude_zones odd) lat) in
     let band : zones rounded ≡ longitude_zones n odd = ap zones (rounded_again (latitude_zones odd) y lat (some_band odd) sy ha) ∙ ap (λ m. longitude_zones m odd) hn in
-    ap (λ u. place u (sent (bin_of (zones rounded) lon))) (sent_again (latitude_zones odd) y lat (some_band odd) sy ha)
-    ∙ ap (λ m. place y (sent (bin_of m lon))) band
+    ap (λ u. place u (sent_bin (bin_of (zones rounded) lon))) (sent_again (latitude_zones odd) y lat (some_band odd) sy ha)
+    ∙ ap (λ m. place y (sent_bin (bin_of m lon))) band
     ∙ ap (place y) (sent_again (longitude_zones n odd) x lon (some_zone n odd) sx hb)
 
-angle_of_decoded : (limit z y : ℕ) (j : ℤ) → IsAngle z y (decoded limit z j y)
-angle_of_decoded limit z y j = let d = decoded-angle limit z y j in record { zone = d.0; is = d.1 }
+angle_of_decoded : (limit z y : ℕ) (j : ℤ) → IsAngle z y (decoded_angle limit z j y)
+angle_of_decoded limit z y j = let d = decoded_angle-angle limit z y j in record { zone = d.0; is = d.1 }
 
 pub round_trip : (nl : ℤ → ℕ → ℕ) → RoundTrip nl
 unfolding position_by
@@ -57,10 +57,10 @@ round_trip nl even odd newest_odd p he ho h = by newest_odd (is_latitude lat0 &&
     j = zone_index 60 even.lat odd.lat
 
     lat0 : Degrees
-    lat0 = decoded 270 60 j even.lat
+    lat0 = decoded_angle 270 60 j even.lat
 
     lat1 : Degrees
-    lat1 = decoded 270 59 j odd.lat
+    lat1 = decoded_angle 270 59 j odd.lat
 
     n : ℕ
     n = nl lat0.num lat0.den
@@ -69,7 +69,7 @@ round_trip nl even odd newest_odd p he ho h = by newest_odd (is_latitude lat0 &&
     m = zone_index n even.lon odd.lon
 
     made : Bool → Position
-    made newest = record { lat = if newest then lat1 else lat0; lon = decoded 180 (longitude_zones n newest) m (if newest then odd.lon else even.lon) }
+    made newest = record { lat = if newest then lat1 else lat0; lon = decoded_angle 180 (longitude_zones n newest) m (if newest then odd.lon else even.lon) }
 
     by : (newest t : Bool) → (is_latitude lat0 && is_latitude lat1 && (nl lat0.num lat0.den == nl lat1.num lat1.den)) ≡ t → (if t then Some (made newest) else None) ≡ Some p → place_by nl p.lat p.lon newest ≡ (if newest then odd else even)
     by newest false e s = cc

@@ -15,8 +15,8 @@ unfoldable pub bin_of : ℕ → Degrees → ℤ
 bin_of z a = floor (pos (2 * bins) *ℤ modulo (a.num *ℤ pos z) (360 * a.den) +ℤ pos (360 * a.den)) (2 * (360 * a.den))
 
 -- mod(y, 2^17)
-abbrev pub sent : ℤ → ℕ
-sent y = unsigned_abs (modulo y bins)
+abbrev pub sent_bin : ℤ → ℕ
+sent_bin y = unsigned_abs (modulo y bins)
 
 -- the latitude of the nearest bin
 abbrev pub rounded_latitude : Bool → Degrees → Degrees
@@ -28,10 +28,10 @@ place_by nl lat lon odd =
     let r = rounded_latitude odd lat in
     record {
       odd = odd;
-      lat = sent (bin_of (latitude_zones odd) lat);
-      lon = sent (bin_of (longitude_zones (nl r.num r.den) odd) lon);
+      lat = sent_bin (bin_of (latitude_zones odd) lat);
+      lon = sent_bin (bin_of (longitude_zones (nl r.num r.den) odd) lon);
     }
 
 -- the place, with the table's number of zones
-abbrev pub place_of : Degrees → Degrees → Bool → Place
-place_of = place_by zone_count
+abbrev pub place_at : Degrees → Degrees → Bool → Place
+place_at = place_by zone_count

@@ -28,12 +28,12 @@ abbrev pub angle : ℕ → ℤ → ℤ → Degrees
 angle z j y = record { num = pos 360 *ℤ (j *ℤ pos bins +ℤ y); den = z * bins }
 
 -- a, less 360 where it is `limit` or more
-abbrev pub wrapped : ℕ → Degrees → Degrees
-wrapped limit a = if int_le (pos (limit * a.den)) a.num then record { num = a.num -ℤ pos (360 * a.den); den = a.den } else a
+abbrev pub wrapped_angle : ℕ → Degrees → Degrees
+wrapped_angle limit a = if int_le (pos (limit * a.den)) a.num then record { num = a.num -ℤ pos (360 * a.den); den = a.den } else a
 
 -- the angle of bin y in zone mod(j, z)
-unfoldable pub decoded : ℕ → ℕ → ℤ → ℕ → Degrees
-decoded limit z j y = wrapped limit (angle z (modulo j z) (pos y))
+unfoldable pub decoded_angle : ℕ → ℕ → ℤ → ℕ → Degrees
+decoded_angle limit z j y = wrapped_angle limit (angle z (modulo j z) (pos y))
 
 -- neither below -90 nor above 90
 abbrev pub is_latitude : Degrees → Bool
@@ -44,14 +44,14 @@ unfoldable pub position_by : (ℤ → ℕ → ℕ) → Place → Place → Bool 
 position_by nl even odd newest_odd =
     -- the latitude of each place
     let j = zone_index 60 even.lat odd.lat in
-    let lat0 = decoded 270 60 j even.lat in
-    let lat1 = decoded 270 59 j odd.lat in
+    let lat0 = decoded_angle 270 60 j even.lat in
+    let lat1 = decoded_angle 270 59 j odd.lat in
     -- the longitude of the newest place, in a grid of n zones at its latitude
     let n = nl lat0.num lat0.den in
     let m = zone_index n even.lon odd.lon in
     let lat = if newest_odd then lat1 else lat0 in
     let x = if newest_odd then odd.lon else even.lon in
-    if is_latitude lat0 && is_latitude lat1 && (n == nl lat1.num lat1.den) then Some (record { lat = lat; lon = decoded 180 (longitude_zones n newest_odd) m x })
+    if is_latitude lat0 && is_latitude lat1 && (n == nl lat1.num lat1.den) then Some (record { lat = lat; lon = decoded_angle 180 (longitude_zones n newest_odd) m x })
     else None
 
 -- the position, with the table's number of zones

@@ -1,7 +1,7 @@
 //! The position of an even and an odd place.
 
 ghost use Rattle.std.specs.Prelude.{◌≡◌, ◌<◌, ◌≤◌, ◌^◌, ◌*◌, ℕ, pos, unsigned_abs, IfSome, false, true};
-ghost use Rattle.modes_cpr.specs.Pair.{zone_index as zone_index_of, wrapped as wrapped_of, IsWhole, decoded as decoded_of, is_latitude as is_latitude_of, position_of};
+ghost use Rattle.modes_cpr.specs.Pair.{zone_index as zone_index_of, wrapped_angle, IsWhole, decoded_angle, is_latitude as is_latitude_of, position_of};
 
 use crate::grids::{BINS, angle, longitude_zones};
 use crate::points::{Degrees, Position};
@@ -52,7 +52,7 @@ fn zone_index(zones: u8, even: u32, odd: u32) -> i64
 fn decoded(limit: u16, zones: u8, index: i64, bin: u32) -> Degrees
     requires zones { 0 < zones }
     requires limit { limit ≤ 360 }
-    ensures value { result ≡ decoded_of limit zones index bin }
+    ensures value { result ≡ decoded_angle limit zones index bin }
     ensures whole { 0 < result.den }
 {
     let zone = modulo(index, zones as u64);
@@ -63,7 +63,7 @@ fn decoded(limit: u16, zones: u8, index: i64, bin: u32) -> Degrees
 fn wrapped(limit: u16, angle: Degrees) -> Degrees
     requires limit { limit ≤ 360 }
     requires fits { unsigned_abs angle.num < 2 ^ 62 }
-    ensures value { result ≡ wrapped_of limit angle }
+    ensures value { result ≡ wrapped_angle limit angle }
     ensures whole { result.den ≡ angle.den }
 {
     if angle.num >= limit as i64 * angle.den as i64 {

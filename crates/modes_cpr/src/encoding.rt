@@ -2,7 +2,7 @@
 
 ghost use Rattle.std.specs.Prelude.{◌≡◌, ◌<◌, ◌≤◌, ◌^◌, ◌*◌, ℕ, pos, ◌*ℤ◌, unsigned_abs};
 ghost use Rattle.modes_fields.specs.Places.{IsPlace};
-ghost use Rattle.modes_cpr.specs.Encoding.{zone_of as zone_of_angle, bin_of as bin_of_angle, sent as sent_of, place_of};
+ghost use Rattle.modes_cpr.specs.Encoding.{zone_of as zone_of_angle, bin_of as bin_of_angle, sent_bin, place_at};
 
 use crate::grids::{BINS, angle, latitude_zones, longitude_zones};
 use crate::points::Degrees;
@@ -18,7 +18,7 @@ pub fn encode(lat: Degrees, lon: Degrees, odd: bool) -> Place
     requires lon_whole { 0 < lon.den }
     requires lat { unsigned_abs lat.num ≤ 90 * lat.den }
     requires lon { unsigned_abs lon.num ≤ 360 * lon.den }
-    ensures value { result ≡ place_of lat lon odd }
+    ensures value { result ≡ place_at lat lon odd }
     ensures place { IsPlace odd result }
 {
     let bands = latitude_zones(odd);

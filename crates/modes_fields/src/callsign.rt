@@ -15,15 +15,15 @@ impl Model for Callsign {
 
     ghost Value = { List ℕ };
 
-    ghost use Rattle.modes_fields.specs.Kept.{callsign_in, IsPaddedCallsign, kept, kept-callsign_in};
+    ghost use Rattle.modes_fields.specs.Kept.{callsign_in, IsPaddedCallsign, padded_callsign, padded_callsign-callsign_in};
 
     ghost view = { callsign_in };
 
     ghost invariant = { IsPaddedCallsign };
 
-    ghost inverse = { kept };
+    ghost inverse = { padded_callsign };
 
-    ghost inverse_ok = { kept-callsign_in };
+    ghost inverse_ok = { padded_callsign-callsign_in };
 }
 
 impl Callsign {

@@ -6,7 +6,7 @@ use Rattle.std.proofs.lemmas.List.{map-append, length-take-le, get_or-take, take
 use Rattle.std.specs.Option.{option_to_list}
 use Rattle.modes_frame.specs.declared.cutter.Cut.{Cut}
 use Rattle.modes_frame.specs.declared.cutter.Cut.TheVariants.{Whole}
-use Rattle.modes_frame.specs.Lines.{Pieces, onto, pieces, cut, pending, ended_cuts, grown, after, told, lengthened}
+use Rattle.modes_frame.specs.Lines.{Pieces, onto, pieces, cut_of, pending, ended_cuts, grown_cut, cut_after, cut_ended_by, lengthened_cut}
 
 -- the pieces with a line feed at the end, and with another byte
 abbrev ended_by : Pieces → Pieces
@@ -19,9 +19,9 @@ onto-ended : (d : ℕ) (lines : List (List ℕ)) (rest : List ℕ) → onto d (l
 onto-ended d [] rest = refl
 onto-ended d (l ∷ ls) rest = refl
 
-onto-grown : (d c : ℕ) (lines : List (List ℕ)) (rest : List ℕ) → onto d lines (rest ++ c ∷ []) ≡ grown_by (onto d lines rest) c
-onto-grown d c [] rest = refl
-onto-grown d c (l ∷ ls) rest = refl
+onto-grown_cut : (d c : ℕ) (lines : List (List ℕ)) (rest : List ℕ) → onto d lines (rest ++ c ∷ []) ≡ grown_by (onto d lines rest) c
+onto-grown_cut d c [] rest = refl
+onto-grown_cut d c (l ∷ ls) rest = refl
 
 -- a byte before the pieces, where is_line_feed says what it is
 abbrev step_of : Bool → ℕ → Pieces → Pieces
@@ -31,9 +31,9 @@ step-ended : (b : Bool) (d : ℕ) (p : Pieces) → step_of b d (ended_by p) ≡ 
 step-ended true d p = refl
 step-ended false d p = onto-ended d p.ended p.rest
 
-step-grown : (b : Bool) (d c : ℕ) (p : Pieces) → step_of b d (grown_by p c) ≡ grown_by (step_of b d p) c
-step-grown true d c p = refl
-step-grown false d c p = onto-grown d c p.ended p.rest
+step-grown_cut : (b : Bool) (d c : ℕ) (p : Pieces) → step_of b d (grown_by p c) ≡ grown_by (step_of b d p) c
+step-grown_cut true d c p = refl
+step-grown_cut false d c p = onto-grown_cut d c p.ended p.rest
 
 pub pieces-line_feed : (bs : List ℕ) → pieces (bs ++ 10 ∷ []) ≡ ended_by (pieces bs)
 pieces-line_feed [] = refl
@@ -41,11 +41,11 @@ pieces-line_feed (d ∷ bs) = ap (step_of (nat_eq d 10) d) (pieces-line_feed bs)
 
 pub pieces-more : (bs : List ℕ) (c : ℕ) → nat_eq c 10 ≡ false → pieces (bs ++ c ∷ []) ≡ grown_by (pieces bs) c
 pieces-more [] c h = ap (λ b. step_of b c (record { ended = []; rest = [] })) h
-pieces-more (d ∷ bs) c h = ap (step_of (nat_eq d 10) d) (pieces-more bs c h) ∙ step-grown (nat_eq d 10) d c (pieces bs)
+pieces-more (d ∷ bs) c h = ap (step_of (nat_eq d 10) d) (pieces-more bs c h) ∙ step-grown_cut (nat_eq d 10) d c (pieces bs)
 
 -- the cut of a line and one more byte
-cut-more : (line : List ℕ) (c : ℕ) → cut (line ++ c ∷ []) ≡ grown (cut line) c
-cut-more line c =
+cut_of-more : (line : List ℕ) (c : ℕ) → cut_of (line ++ c ∷ []) ≡ grown_cut (cut_of line) c
+cut_of-more line c =
     let len = length-append line (c ∷ []) in
     elim (cases_Bool (nat_le (length line) 64)) [
       | inl fits ↦ rw fits (elim (cases_Bool (nat_lt (length line) 64)) [
@@ -56,17 +56,17 @@ cut-more line c =
     ]
 
 -- what a byte does to the pending line, and which line it ends
-pub pending-push : (bs : List ℕ) (c : ℕ) → after (pending bs) c ≡ pending (bs ++ c ∷ [])
+pub pending-push : (bs : List ℕ) (c : ℕ) → cut_after (pending bs) c ≡ pending (bs ++ c ∷ [])
 pending-push bs c = elim (eqb_tells c 10) [
-  | inl h ↦ subst (λ (k : ℕ). after (pending bs) k ≡ pending (bs ++ k ∷ [])) (sym h.1) (ap (λ p. cut p.rest) (sym (pieces-line_feed bs)))
-  | inr h ↦ ap (λ b. cond b (Whole []) (grown (pending bs) c)) h.0 ∙ sym (cut-more (pieces bs).rest c) ∙ ap (λ p. cut p.rest) (sym (pieces-more bs c h.0))
+  | inl h ↦ subst (λ (k : ℕ). cut_after (pending bs) k ≡ pending (bs ++ k ∷ [])) (sym h.1) (ap (λ p. cut_of p.rest) (sym (pieces-line_feed bs)))
+  | inr h ↦ ap (λ b. cond b (Whole []) (grown_cut (pending bs) c)) h.0 ∙ sym (cut_of-more (pieces bs).rest c) ∙ ap (λ p. cut_of p.rest) (sym (pieces-more bs c h.0))
 ]
 
-pub ended-push : (bs : List ℕ) (c : ℕ) → ended_cuts (bs ++ c ∷ []) ≡ ended_cuts bs ++ option_to_list (told (pending bs) c)
+pub ended-push : (bs : List ℕ) (c : ℕ) → ended_cuts (bs ++ c ∷ []) ≡ ended_cuts bs ++ option_to_list (cut_ended_by (pending bs) c)
 ended-push bs c = elim (eqb_tells c 10) [
-  | inl h ↦ subst (λ (k : ℕ). ended_cuts (bs ++ k ∷ []) ≡ ended_cuts bs ++ option_to_list (told (pending bs) k)) (sym h.1)
-      (ap (λ p. map cut p.ended) (pieces-line_feed bs) ∙ map-append cut (pieces bs).ended ((pieces bs).rest ∷ []))
-  | inr h ↦ ap (λ p. map cut p.ended) (pieces-more bs c h.0) ∙ sym (append-nil (ended_cuts bs)) ∙ ap (λ b. ended_cuts bs ++ option_to_list (cond b (Some (pending bs)) None)) (sym h.0)
+  | inl h ↦ subst (λ (k : ℕ). ended_cuts (bs ++ k ∷ []) ≡ ended_cuts bs ++ option_to_list (cut_ended_by (pending bs) k)) (sym h.1)
+      (ap (λ p. map cut_of p.ended) (pieces-line_feed bs) ∙ map-append cut_of (pieces bs).ended ((pieces bs).rest ∷ []))
+  | inr h ↦ ap (λ p. map cut_of p.ended) (pieces-more bs c h.0) ∙ sym (append-nil (ended_cuts bs)) ∙ ap (λ b. ended_cuts bs ++ option_to_list (cond b (Some (pending bs)) None)) (sym h.0)
 ]
 
 -- ---- more bytes, none of them a line feed
@@ -83,27 +83,27 @@ lengthened_by p cs = record { ended = p.ended; rest = p.rest ++ cs }
 no-line_feed : (c : ℕ) → c ≢ 10 → nat_eq c 10 ≡ false
 no-line_feed c other = elim (eqb_tells c 10) [ inl h ↦ absurd (other h.1) | inr h ↦ h.0 ]
 
-pieces-grown : (bs cs : List ℕ) → HasNone cs → pieces (bs ++ cs) ≡ lengthened_by (pieces bs) cs
-pieces-grown bs [] none = ap pieces (append-nil bs) ∙ ap (λ r. record { ended = (pieces bs).ended; rest = r }) (sym (append-nil (pieces bs).rest))
-pieces-grown bs (c ∷ cs) none =
+pieces-grown_cut : (bs cs : List ℕ) → HasNone cs → pieces (bs ++ cs) ≡ lengthened_by (pieces bs) cs
+pieces-grown_cut bs [] none = ap pieces (append-nil bs) ∙ ap (λ r. record { ended = (pieces bs).ended; rest = r }) (sym (append-nil (pieces bs).rest))
+pieces-grown_cut bs (c ∷ cs) none =
     ap pieces (sym (append_assoc bs (c ∷ []) cs))
-    ∙ pieces-grown (bs ++ c ∷ []) cs (has-none-rest c cs none)
+    ∙ pieces-grown_cut (bs ++ c ∷ []) cs (has-none-rest c cs none)
     ∙ ap (λ p. lengthened_by p cs) (pieces-more bs c (no-line_feed c (none 0 (omega arith))))
     ∙ ap (λ r. record { ended = (pieces bs).ended; rest = r }) (append_assoc (pieces bs).rest (c ∷ []) cs)
 
-cut-lengthened : (line cs : List ℕ) → lengthened (cut line) cs ≡ cut (line ++ cs)
-cut-lengthened line cs =
+cut_of-lengthened_cut : (line cs : List ℕ) → lengthened_cut (cut_of line) cs ≡ cut_of (line ++ cs)
+cut_of-lengthened_cut line cs =
     let len = length-append line cs in
     elim (cases_Bool (nat_le (length line) 64)) [
       | inl fits ↦ rw fits refl
       | inr long ↦ rw long (let more : nat_le (length (line ++ cs)) 64 ≡ false = search (rules, tests) in rw more)
     ]
 
-pub pending-lengthened : (bs cs : List ℕ) → HasNone cs → lengthened (pending bs) cs ≡ pending (bs ++ cs)
-pending-lengthened bs cs none = cut-lengthened (pieces bs).rest cs ∙ ap (λ p. cut p.rest) (sym (pieces-grown bs cs none))
+pub pending-lengthened_cut : (bs cs : List ℕ) → HasNone cs → lengthened_cut (pending bs) cs ≡ pending (bs ++ cs)
+pending-lengthened_cut bs cs none = cut_of-lengthened_cut (pieces bs).rest cs ∙ ap (λ p. cut_of p.rest) (sym (pieces-grown_cut bs cs none))
 
-pub ended-lengthened : (bs cs : List ℕ) → HasNone cs → ended_cuts (bs ++ cs) ≡ ended_cuts bs
-ended-lengthened bs cs none = ap (λ p. map cut p.ended) (pieces-grown bs cs none)
+pub ended-lengthened_cut : (bs cs : List ℕ) → HasNone cs → ended_cuts (bs ++ cs) ≡ ended_cuts bs
+ended-lengthened_cut bs cs none = ap (λ p. map cut_of p.ended) (pieces-grown_cut bs cs none)
 
 pub none-before : (bytes : List ℕ) (end : ℕ) → end ≤ length bytes → ((k : ℕ) → k < end → get_or bytes k 0 ≢ 10) → HasNone (take end bytes)
 none-before bytes end within none k h =
@@ -120,10 +120,10 @@ to-line_feed before bytes end within is =
 
 -- after the bytes before a line feed, the cutter has what is pending, and no line has ended
 pub held-before : (self new : Cut) (before bytes : List ℕ) (end : ℕ) → end ≤ length bytes → ((k : ℕ) → k < end → get_or bytes k 0 ≢ 10)
-    → new ≡ lengthened self (take end bytes) → self ≡ pending before → new ≡ pending (before ++ take end bytes)
+    → new ≡ lengthened_cut self (take end bytes) → self ≡ pending before → new ≡ pending (before ++ take end bytes)
 held-before self new before bytes end within none e h =
-    e ∙ ap (λ v. lengthened v (take end bytes)) h ∙ pending-lengthened before (take end bytes) (none-before bytes end within none)
+    e ∙ ap (λ v. lengthened_cut v (take end bytes)) h ∙ pending-lengthened_cut before (take end bytes) (none-before bytes end within none)
 
 pub ended-before : (before bytes : List ℕ) (end : ℕ) → end ≤ length bytes → ((k : ℕ) → k < end → get_or bytes k 0 ≢ 10)
     → ended_cuts (before ++ take end bytes) ≡ ended_cuts before
-ended-before before bytes end within none = ended-lengthened before (take end bytes) (none-before bytes end within none)
+ended-before before bytes end within none = ended-lengthened_cut before (take end bytes) (none-before bytes end within none)

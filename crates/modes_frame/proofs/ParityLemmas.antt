@@ -9,7 +9,7 @@ use Rattle.std.proofs.lemmas.List.Sums.{fold-append}
 use Rattle.std.proofs.lemmas.Grind.{flat_map-append}
 use Rattle.modes_frame.proofs.AllByteLemmas.{all_of_width, all_of_width-at}
 use Rattle.modes_frame.proofs.NumberLemmas.{number-after, length-byte_bits}
-use Rattle.modes_frame.specs.Frames.{byte_bits, bits_of, brought_down, generator, reduced, divide, remainder_of, parity_of}
+use Rattle.modes_frame.specs.Frames.{byte_bits, bits_of, brought_down, generator, reduced_rest, divide, remainder_of, parity_of}
 
 -- ---- exclusive or of numbers in two parts
 
@@ -31,17 +31,17 @@ brought_down-xor : (u v : ℕ) (bit : Bool) → brought_down (bit_xor u v) bit �
 brought_down-xor u v true = (omega arith) ∙ sym (xor-parts 1 u 0 v 1 (omega arith) (omega arith)) ∙ (λ i. bit_xor ((let e : u * 2 + 0 ≡ 2 * u + 0 = omega arith in e) i) ((let e : v * 2 + 1 ≡ 2 * v + 1 = omega arith in e) i))
 brought_down-xor u v false = (omega arith) ∙ sym (xor-parts 1 u 0 v 0 (omega arith) (omega arith)) ∙ (λ i. bit_xor ((let e : u * 2 + 0 ≡ 2 * u + 0 = omega arith in e) i) ((let e : v * 2 + 0 ≡ 2 * v + 0 = omega arith in e) i))
 
-carried : (n : ℕ) → n < 2 ^ 24 → reduced (1 * 2 ^ 24 + n) ≡ bit_xor n generator
+carried : (n : ℕ) → n < 2 ^ 24 → reduced_rest (1 * 2 ^ 24 + n) ≡ bit_xor n generator
 carried n h = grind arith
 
-stays : (n : ℕ) → n < 2 ^ 24 → reduced (0 * 2 ^ 24 + n) ≡ n
+stays : (n : ℕ) → n < 2 ^ 24 → reduced_rest (0 * 2 ^ 24 + n) ≡ n
 stays n h = grind arith
 
-pub reduced-lt : (n : ℕ) → n < 2 ^ 25 → reduced n < 2 ^ 24
-reduced-lt n h = elim (cases_lt n 16777216) [
-  | inl low ↦ let e : reduced n ≡ n = grind arith in subst (λ (m : ℕ). m < 2 ^ 24) (sym e) low
+pub reduced_rest-lt : (n : ℕ) → n < 2 ^ 25 → reduced_rest n < 2 ^ 24
+reduced_rest-lt n h = elim (cases_lt n 16777216) [
+  | inl low ↦ let e : reduced_rest n ≡ n = grind arith in subst (λ (m : ℕ). m < 2 ^ 24) (sym e) low
   | inr high ↦
-      let e : reduced n ≡ bit_xor (n - 16777216) generator = grind arith in
+      let e : reduced_rest n ≡ bit_xor (n - 16777216) generator = grind arith in
       subst (λ (m : ℕ). m < 2 ^ 24) (sym e) (xor_lt 24 (n - 16777216) generator (omega arith) (omega arith))
 ]
 
@@ -50,20 +50,20 @@ module _ (a b : ℕ) (la : a < 2 ^ 24) (lb : b < 2 ^ 24) where
   lab : bit_xor a b < 2 ^ 24
   lab = xor_lt 24 a b la lb
 
-  xor-neither : reduced (bit_xor (0 * 2 ^ 24 + a) (0 * 2 ^ 24 + b)) ≡ bit_xor (reduced (0 * 2 ^ 24 + a)) (reduced (0 * 2 ^ 24 + b))
-  xor-neither = ap reduced (xor-parts 24 0 a 0 b la lb) ∙ stays (bit_xor a b) lab ∙ (λ i. bit_xor (sym (stays a la) i) (sym (stays b lb) i))
+  xor-neither : reduced_rest (bit_xor (0 * 2 ^ 24 + a) (0 * 2 ^ 24 + b)) ≡ bit_xor (reduced_rest (0 * 2 ^ 24 + a)) (reduced_rest (0 * 2 ^ 24 + b))
+  xor-neither = ap reduced_rest (xor-parts 24 0 a 0 b la lb) ∙ stays (bit_xor a b) lab ∙ (λ i. bit_xor (sym (stays a la) i) (sym (stays b lb) i))
 
-  xor-first : reduced (bit_xor (1 * 2 ^ 24 + a) (0 * 2 ^ 24 + b)) ≡ bit_xor (reduced (1 * 2 ^ 24 + a)) (reduced (0 * 2 ^ 24 + b))
-  xor-first = ap reduced (xor-parts 24 1 a 0 b la lb) ∙ carried (bit_xor a b) lab
+  xor-first : reduced_rest (bit_xor (1 * 2 ^ 24 + a) (0 * 2 ^ 24 + b)) ≡ bit_xor (reduced_rest (1 * 2 ^ 24 + a)) (reduced_rest (0 * 2 ^ 24 + b))
+  xor-first = ap reduced_rest (xor-parts 24 1 a 0 b la lb) ∙ carried (bit_xor a b) lab
       ∙ xor_assoc a b generator ∙ ap (λ n. bit_xor a n) (xor_comm b generator) ∙ sym (xor_assoc a generator b)
       ∙ (λ i. bit_xor (sym (carried a la) i) (sym (stays b lb) i))
 
-  xor-second : reduced (bit_xor (0 * 2 ^ 24 + a) (1 * 2 ^ 24 + b)) ≡ bit_xor (reduced (0 * 2 ^ 24 + a)) (reduced (1 * 2 ^ 24 + b))
-  xor-second = ap reduced (xor-parts 24 0 a 1 b la lb) ∙ carried (bit_xor a b) lab ∙ xor_assoc a b generator
+  xor-second : reduced_rest (bit_xor (0 * 2 ^ 24 + a) (1 * 2 ^ 24 + b)) ≡ bit_xor (reduced_rest (0 * 2 ^ 24 + a)) (reduced_rest (1 * 2 ^ 24 + b))
+  xor-second = ap reduced_rest (xor-parts 24 0 a 1 b la lb) ∙ carried (bit_xor a b) lab ∙ xor_assoc a b generator
       ∙ (λ i. bit_xor (sym (stays a la) i) (sym (carried b lb) i))
 
-  xor-both : reduced (bit_xor (1 * 2 ^ 24 + a) (1 * 2 ^ 24 + b)) ≡ bit_xor (reduced (1 * 2 ^ 24 + a)) (reduced (1 * 2 ^ 24 + b))
-  xor-both = ap reduced (xor-parts 24 1 a 1 b la lb) ∙ stays (bit_xor a b) lab
+  xor-both : reduced_rest (bit_xor (1 * 2 ^ 24 + a) (1 * 2 ^ 24 + b)) ≡ bit_xor (reduced_rest (1 * 2 ^ 24 + a)) (reduced_rest (1 * 2 ^ 24 + b))
+  xor-both = ap reduced_rest (xor-parts 24 1 a 1 b la lb) ∙ stays (bit_xor a b) lab
       ∙ sym (xor_assoc a generator (bit_xor b generator)
       ∙ ap (λ n. bit_xor a n) (ap (λ n. bit_xor generator n) (xor_comm b generator) ∙ sym (xor_assoc generator generator b) ∙ ap (λ n. bit_xor n b) (xor_self generator) ∙ xor_zero_l b))
       ∙ (λ i. bit_xor (sym (carried a la) i) (sym (carried b lb) i))
@@ -71,13 +71,13 @@ module _ (a b : ℕ) (la : a < 2 ^ 24) (lb : b < 2 ^ 24) where
 half_of : (n : ℕ) → n < 2 ^ 25 → (n ≡ 0 * 2 ^ 24 + n % 2 ^ 24) ⊎ (n ≡ 1 * 2 ^ 24 + n % 2 ^ 24)
 half_of n h = grind arith
 
-reduced-xor : (u v : ℕ) → u < 2 ^ 25 → v < 2 ^ 25 → reduced (bit_xor u v) ≡ bit_xor (reduced u) (reduced v)
-reduced-xor u v lu lv =
+reduced_rest-xor : (u v : ℕ) → u < 2 ^ 25 → v < 2 ^ 25 → reduced_rest (bit_xor u v) ≡ bit_xor (reduced_rest u) (reduced_rest v)
+reduced_rest-xor u v lu lv =
     let a = u % 2 ^ 24 in
     let b = v % 2 ^ 24 in
     let la : a < 2 ^ 24 = omega arith in
     let lb : b < 2 ^ 24 = omega arith in
-    let P : ℕ → ℕ → Type 0 = λ x y. reduced (bit_xor x y) ≡ bit_xor (reduced x) (reduced y) in
+    let P : ℕ → ℕ → Type 0 = λ x y. reduced_rest (bit_xor x y) ≡ bit_xor (reduced_rest x) (reduced_rest y) in
     let at : (x y : ℕ) → u ≡ x → v ≡ y → P x y → P u v = λ x y e f p. subst (λ (n : ℕ). P n v) (sym e) (subst (λ (n : ℕ). P x n) (sym f) p) in
     elim (half_of u lu) [
       | inl x ↦ elim (half_of v lv) [ inl y ↦ at _ _ x y (xor-neither a b la lb) | inr y ↦ at _ _ x y (xor-second a b la lb) ]
@@ -86,8 +86,8 @@ reduced-xor u v lu lv =
 
 pub divide-lt : (rest : ℕ) (bit : Bool) → rest < 2 ^ 24 → divide rest bit < 2 ^ 24
 unfolding divide
-divide-lt rest true h = reduced-lt (2 * rest + 1) (omega arith)
-divide-lt rest false h = reduced-lt (2 * rest + 0) (omega arith)
+divide-lt rest true h = reduced_rest-lt (2 * rest + 1) (omega arith)
+divide-lt rest false h = reduced_rest-lt (2 * rest + 0) (omega arith)
 
 brought_down-lt : (rest : ℕ) (bit : Bool) → rest < 2 ^ 24 → brought_down rest bit < 2 ^ 25
 brought_down-lt rest true h = omega arith
@@ -95,7 +95,7 @@ brought_down-lt rest false h = omega arith
 
 divide-xor : (u v : ℕ) (bit : Bool) → u < 2 ^ 24 → v < 2 ^ 24 → divide (bit_xor u v) bit ≡ bit_xor (divide u false) (divide v bit)
 unfolding divide
-divide-xor u v bit lu lv = ap reduced (brought_down-xor u v bit) ∙ reduced-xor (brought_down u false) (brought_down v bit) (brought_down-lt u false lu) (brought_down-lt v bit lv)
+divide-xor u v bit lu lv = ap reduced_rest (brought_down-xor u v bit) ∙ reduced_rest-xor (brought_down u false) (brought_down v bit) (brought_down-lt u false lu) (brought_down-lt v bit lv)
 
 -- ---- many steps
 
@@ -140,7 +140,7 @@ undivided [] v h = refl
 undivided (bit ∷ bits) v h =
     let room = room-more v (length bits) bit h in
     let few : brought_down v bit + 1 ≤ 2 ^ 24 = lt-of-product (brought_down v bit + 1) (2 ^ length bits) (one-le-pow (length bits) 2 (omega arith)) room in
-    let same : reduced (brought_down v bit) ≡ brought_down v bit = grind arith in
+    let same : reduced_rest (brought_down v bit) ≡ brought_down v bit = grind arith in
     ap (λ n. fold divide n bits) same ∙ undivided bits (brought_down v bit) room
 
 -- ---- a byte more

@@ -14,10 +14,10 @@ use Rattle.modes_frame.specs.declared.cutter.Cut.TheVariants.{Whole}
 use Rattle.modes_frame.specs.declared.line.Line.TheVariants.{Frame}
 use Rattle.modes_frame.specs.declared.plain.PlainLine.{PlainLine}
 use Rattle.modes_frame.specs.Frames.{df_of, IsFrame}
-use Rattle.modes_frame.specs.Lines.{ended_cuts, pending, lengthened}
+use Rattle.modes_frame.specs.Lines.{ended_cuts, pending, lengthened_cut}
 use Rattle.modes_frame.specs.Plain.{IsFrameLine, EndsFrame}
-use Rattle.modes_frame.specs.Reading.{is_blank, front_trimmed, back_trimmed, trimmed, reading_of, line_of, said_by, fits_length, digits_of, body_of}
-use Rattle.modes_frame.proofs.LineLemmas.{HasNone, pending-lengthened, ended-lengthened, pending-push, ended-push}
+use Rattle.modes_frame.specs.Reading.{is_blank, front_trimmed, back_trimmed, trimmed_line, reading_of, line_reading, said_by, fits_length, digits_of, body_of}
+use Rattle.modes_frame.proofs.LineLemmas.{HasNone, pending-lengthened_cut, ended-lengthened_cut, pending-push, ended-push}
 use Rattle.modes_frame.proofs.RuleLemmas.{ends-at, ended-test}
 
 -- ---- what the line says
@@ -25,7 +25,7 @@ use Rattle.modes_frame.proofs.RuleLemmas.{ends-at, ended-test}
 abbrev line_with : List ℕ → List ℕ
 line_with digits = 42 ∷ digits ++ 59 ∷ []
 
-no-blank : (digits : List ℕ) → trimmed (line_with digits) ≡ line_with digits
+no-blank : (digits : List ℕ) → trimmed_line (line_with digits) ≡ line_with digits
 unfolding front_trimmed back_trimmed
 no-blank digits =
     let line = line_with digits in
@@ -83,7 +83,7 @@ module _ (digits frame : List ℕ) (few : (length digits ≡ 14) ⊎ (length dig
   line-said =
       let short = short-line in
       let no : nat_lt 64 (length (line_with digits)) ≡ false = search (rules, tests) in
-      rw no (ap line_of (no-blank digits) ∙ body-said)
+      rw no (ap line_reading (no-blank digits) ∙ body-said)
 
   pub frame-line : (bytes : List ℕ) → bytes ≡ line_with digits ++ 10 ∷ [] → IsFrameLine bytes frame
   frame-line bytes parts = record {
@@ -104,12 +104,12 @@ module _ (held : Cut) (bytes frame : List ℕ) (none : held ≡ pending []) (lin
   whole =
       let fits = line.short in
       let yes : nat_le (length line.line) 64 ≡ true = search (rules, tests) in
-      sym (pending-lengthened before line.line line.no_line_feed) ∙ ap (λ c. lengthened c line.line) (sym h ∙ none) ∙ rw yes refl
+      sym (pending-lengthened_cut before line.line line.no_line_feed) ∙ ap (λ c. lengthened_cut c line.line) (sym h ∙ none) ∙ rw yes refl
 
   ended-frame : ended_cuts (before ++ bytes) ≡ ended_cuts before ++ Whole line.line ∷ []
   ended-frame =
       ap ended_cuts grown ∙ ended-push (before ++ line.line) 10
-      ∙ ap (λ ls. ls ++ pending (before ++ line.line) ∷ []) (ended-lengthened before line.line line.no_line_feed)
+      ∙ ap (λ ls. ls ++ pending (before ++ line.line) ∷ []) (ended-lengthened_cut before line.line line.no_line_feed)
       ∙ ap (λ c. ended_cuts before ++ c ∷ []) whole
 
   left-frame : held ≡ pending (before ++ bytes)

@@ -5,13 +5,13 @@ use Rattle.std.proofs.lemmas.List.{length-drop, take_all, take_more}
 use Rattle.std.proofs.Math.Seq.{get_or-append_seam}
 use Rattle.modes_frame.specs.declared.line.Line.{Line}
 use Rattle.modes_frame.specs.declared.line.LineFault.{LineFault}
-use Rattle.modes_frame.proofs.TrimLemmas.{trimmed-is}
+use Rattle.modes_frame.proofs.TrimLemmas.{trimmed_line-is}
 use Rattle.std.proofs.lemmas.List.Elements.{All-nil, All-cons}
 use Rattle.hex.specs.Hex.{decode_pairs, digit_or_error, hex_digit_value, ◌>>=◌}
 use Rattle.hex.specs.declared.error.FromHexError.{FromHexError}
 use Rattle.hex.specs.declared.error.FromHexError.TheVariants.{InvalidHexCharacter, OddLength, InvalidStringLength, OutOfMemory}
 use Rattle.modes_frame.specs.Frames.{df_of}
-use Rattle.modes_frame.specs.Reading.{is_start, counter_len, fits_length, said_by, from_digits, digits_of, body_of, line_of, trimmed}
+use Rattle.modes_frame.specs.Reading.{is_start, counter_len, fits_length, said_by, from_digits, digits_of, body_of, line_reading, trimmed_line}
 use Rattle.modes_frame.specs.LineRules.{IsStart, IsEnclosed, HasLength, IsDigit, Writes, IsFirstBad, Carries, Says, Reads}
 
 -- ---- digits
@@ -193,12 +193,12 @@ start-other : (c counter : ℕ) → is_start c ≡ false → ¬ IsStart c counte
 start-other c counter e (inl h) = grind arith
 start-other c counter e (inr h) = grind arith
 
-pub says : (rest : List ℕ) → Says rest (line_of rest)
+pub says : (rest : List ℕ) → Says rest (line_reading rest)
 says [] = refl
 says (c ∷ cs) = says-if (c ∷ cs) (is_start c) _ _
     (λ e. let known = start-known c e in says-body c known.0 cs known.1)
     (λ e. (c, cs, refl, λ counter. start-other c counter e))
 
 -- the reading of a line that is not too long is the answer that the rules give
-pub reads-short : (line : List ℕ) → length line ≤ 64 → Reads line (line_of (trimmed line))
-reads-short line short = inr (short, (trimmed line, trimmed-is line, says (trimmed line)))
+pub reads-short : (line : List ℕ) → length line ≤ 64 → Reads line (line_reading (trimmed_line line))
+reads-short line short = inr (short, (trimmed_line line, trimmed_line-is line, says (trimmed_line line)))

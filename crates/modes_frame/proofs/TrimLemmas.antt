@@ -5,7 +5,7 @@ use Rattle.std.proofs.lemmas.List.{length-take-le, length-drop, length-reverse, 
 use Rattle.std.proofs.lemmas.List.Sums.{prefix_len_passes, prefix_len_stops, prefix_len-le-length, suffix_len-le-length}
 use Rattle.std.proofs.lemmas.List.Elements.{All-from_get_or}
 use Rattle.std.proofs.Math.Seq.{get_or-append_seam}
-use Rattle.modes_frame.specs.Reading.{is_blank, front_trimmed, back_trimmed, trimmed}
+use Rattle.modes_frame.specs.Reading.{is_blank, front_trimmed, back_trimmed, trimmed_line}
 use Rattle.modes_frame.specs.LineRules.{IsBlank, IsTrimmed}
 
 -- the number of blanks at the front, what follows them, the number of blanks at the back of that, and what is left
@@ -76,9 +76,9 @@ module _ (line : List ℕ) where
       ∙ sym (get_or-take (kept line) (rest line) (length cs) 0 (omega arith)) ∙ ap (λ l. get_or l (length cs) 0) e ∙ get_or-append_seam cs c [] 0 in
       no_blank c (ap is_blank (sym is) ∙ prefix_len_stops is_blank (reverse (rest line)) 0 (omega arith))
 
-pub trimmed-is : (line : List ℕ) → IsTrimmed line (trimmed line)
+pub trimmed_line-is : (line : List ℕ) → IsTrimmed line (trimmed_line line)
 unfolding front_trimmed back_trimmed
-trimmed-is line = record {
+trimmed_line-is line = record {
   front = take (ahead line) line;
   back = drop (kept line) (rest line);
   parts = parts line;

@@ -37,14 +37,14 @@ has_parity df remainder = if df == 11 then nat_lt remainder 128 else remainder =
 abbrev pub is_unassigned : ℕ → Bool
 is_unassigned address = address == 0 || address == 0xFFFFFF
 
-abbrev pub assigned : ℕ → Bool → Result Claim CheckFault
-assigned address overlaid = if is_unassigned address then Err (Unassigned address) else Ok (record { address = address; overlaid = overlaid })
+abbrev pub assigned_claim : ℕ → Bool → Result Claim CheckFault
+assigned_claim address overlaid = if is_unassigned address then Err (Unassigned address) else Ok (record { address = address; overlaid = overlaid })
 
 -- the claim, by the downlink format, the control field, the remainder of the whole frame and the announced address
 abbrev pub claim_by : ℕ → ℕ → ℕ → ℕ → Result Claim CheckFault
 claim_by df control remainder address =
     if is_overlaid_format df then Ok (record { address = remainder; overlaid = true })
-    else if is_announced_format df control then (if has_parity df remainder then assigned address (not (remainder == 0)) else Err (BadParity remainder))
+    else if is_announced_format df control then (if has_parity df remainder then assigned_claim address (not (remainder == 0)) else Err (BadParity remainder))
     else Err (Unsupported df)
 
 unfoldable pub claim_of : List ℕ → Result Claim CheckFault

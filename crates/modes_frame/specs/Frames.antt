@@ -37,12 +37,12 @@ abbrev pub generator : ℕ
 generator = 0xFFF409
 
 -- a rest, less the generator where it has x^24 in it
-abbrev pub reduced : ℕ → ℕ
-reduced n = if nat_le 16777216 n then bit_xor (n - 16777216) generator else n
+abbrev pub reduced_rest : ℕ → ℕ
+reduced_rest n = if nat_le 16777216 n then bit_xor (n - 16777216) generator else n
 
 -- one step of the long division: the next bit is brought down, and the generator taken away where it fits
 unfoldable pub divide : ℕ → Bool → ℕ
-divide rest bit = reduced (brought_down rest bit)
+divide rest bit = reduced_rest (brought_down rest bit)
 
 -- what is left of bits, as a polynomial whose highest coefficient is bit 1, after division by the generator
 abbrev pub remainder_of : List ℕ → ℕ

@@ -23,8 +23,8 @@ pieces (c ∷ cs) = if c == 10 then record { ended = [] ∷ (pieces cs).ended; r
     else onto c (pieces cs).ended (pieces cs).rest
 
 -- a line of more than 64 bytes is too long
-abbrev pub cut : List ℕ → Cut
-cut line = if nat_le (length line) longest_line then Whole line else TooLong
+abbrev pub cut_of : List ℕ → Cut
+cut_of line = if nat_le (length line) longest_line then Whole line else TooLong
 
 -- the last piece is a line where it isn't empty
 abbrev pub last_line : List ℕ → List (List ℕ)
@@ -33,26 +33,26 @@ last_line (c ∷ cs) = (c ∷ cs) ∷ []
 
 -- the lines that a line feed ended; `cuts` has the last line too
 abbrev pub ended_cuts : List ℕ → List Cut
-ended_cuts bytes = map cut (pieces bytes).ended
+ended_cuts bytes = map cut_of (pieces bytes).ended
 
 abbrev pub cuts : List ℕ → List Cut
-cuts bytes = map cut ((pieces bytes).ended ++ last_line (pieces bytes).rest)
+cuts bytes = map cut_of ((pieces bytes).ended ++ last_line (pieces bytes).rest)
 
 -- the beginning of a line that no line feed has ended yet
 abbrev pub pending : List ℕ → Cut
-pending bytes = cut (pieces bytes).rest
+pending bytes = cut_of (pieces bytes).rest
 
 -- ---- byte by byte
 
-abbrev pub grown : Cut → ℕ → Cut
-grown (Whole line) byte = if nat_lt (length line) longest_line then Whole (line ++ byte ∷ []) else TooLong
-grown TooLong byte = TooLong
+abbrev pub grown_cut : Cut → ℕ → Cut
+grown_cut (Whole line) byte = if nat_lt (length line) longest_line then Whole (line ++ byte ∷ []) else TooLong
+grown_cut TooLong byte = TooLong
 
-abbrev pub after : Cut → ℕ → Cut
-after held byte = if byte == 10 then Whole [] else grown held byte
+abbrev pub cut_after : Cut → ℕ → Cut
+cut_after held byte = if byte == 10 then Whole [] else grown_cut held byte
 
-abbrev pub told : Cut → ℕ → Option Cut
-told held byte = if byte == 10 then Some held else None
+abbrev pub cut_ended_by : Cut → ℕ → Option Cut
+cut_ended_by held byte = if byte == 10 then Some held else None
 
 abbrev pub told_last : Cut → Option Cut
 told_last (Whole []) = None
@@ -60,6 +60,6 @@ told_last (Whole (c ∷ cs)) = Some (Whole (c ∷ cs))
 told_last TooLong = Some TooLong
 
 -- a line with bytes after it, none of them a line feed
-abbrev pub lengthened : Cut → List ℕ → Cut
-lengthened (Whole line) piece = cut (line ++ piece)
-lengthened TooLong piece = TooLong
+abbrev pub lengthened_cut : Cut → List ℕ → Cut
+lengthened_cut (Whole line) piece = cut_of (line ++ piece)
+lengthened_cut TooLong piece = TooLong

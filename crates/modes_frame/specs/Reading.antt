@@ -25,8 +25,8 @@ unfoldable pub back_trimmed : List ℕ → List ℕ
 back_trimmed line = take (length line - suffix_len is_blank line) line
 
 -- the line without the blanks at both ends
-abbrev pub trimmed : List ℕ → List ℕ
-trimmed line = back_trimmed (front_trimmed line)
+abbrev pub trimmed_line : List ℕ → List ℕ
+trimmed_line line = back_trimmed (front_trimmed line)
 
 -- ---- from the start byte on
 
@@ -61,13 +61,13 @@ abbrev pub body_of : ℕ → List ℕ → Result Line LineFault
 body_of start rest = if nat_lt 0 (length rest) && slice_index rest (length rest - 1) == 59 then digits_of start (take (length rest - 1) rest) else Err NoEnd
 
 -- what a line without blanks at its ends says
-abbrev pub line_of : List ℕ → Result Line LineFault
-line_of [] = Ok Blank
-line_of (start ∷ rest) = if is_start start then body_of start rest else Err NoStart
+abbrev pub line_reading : List ℕ → Result Line LineFault
+line_reading [] = Ok Blank
+line_reading (start ∷ rest) = if is_start start then body_of start rest else Err NoStart
 
 -- what a whole line says: one of more than 64 bytes is too long, blanks included
 abbrev pub reading_of : List ℕ → Result Line LineFault
-reading_of line = if nat_lt longest_line (length line) then Err Faults.TooLong else line_of (trimmed line)
+reading_of line = if nat_lt longest_line (length line) then Err Faults.TooLong else line_reading (trimmed_line line)
 
 -- ---- the digits' bytes
 

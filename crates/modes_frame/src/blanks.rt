@@ -1,11 +1,11 @@
 //! The blanks at the ends of a line.
 ghost use Rattle.std.specs.Prelude.{◌≡◌, ◌≤◌, length};
-ghost use Rattle.modes_frame.specs.Reading.{is_blank, front_trimmed, back_trimmed, trimmed};
+ghost use Rattle.modes_frame.specs.Reading.{is_blank, front_trimmed, back_trimmed, trimmed_line};
 
 /// The line without the spaces, tabs and carriage returns at its ends. All other bytes stay, also vertical tabs,
 /// form feeds and line feeds.
 pub fn trim_blanks(line: &[u8]) -> &[u8]
-    ensures value { result.now ≡ trimmed line.now }
+    ensures value { result.now ≡ trimmed_line line.now }
     ensures within { length result.now ≤ length line.now }
 {
     without_back(without_front(line))

@@ -1,6 +1,5 @@
 -- One aircraft: its track shows what a search finds, before and after each entry.
-use Rattle.std.proofs.Common.{◌≡◌, ℕ, ◌-◌, ◌<◌, Bool, true, false, List, ◌∷◌, Option, Some, None, refl, ap, ◌∙◌, arith}
-use Rattle.std.specs.Prelude.{nat_le, unwrap_or}
+use Rattle.std.proofs.Common.{◌≡◌, ℕ, ◌-◌, ◌<◌, Bool, true, false, List, ◌∷◌, Option, Some, None, refl, ap, ◌∙◌, arith, nat_le, unwrap_or}
 use Rattle.std.proofs.lemmas.Bool.Decides.{nat_tests}
 use Rattle.station_journal.specs.Past.{Frame}
 use Rattle.modes_fields.specs.declared.place.Place.{Place}
@@ -14,7 +13,7 @@ use Rattle.station_journal.specs.Past.{IsTimed}
 use Rattle.station_journal.proofs.RecentSoundLemmas.{old_later}
 use Rattle.station_journal.proofs.SearchLemmas.{newest_old, newest_fix_old, heard_by_newest}
 use Rattle.station_book.specs.declared.tracks.Track.{Track}
-use Rattle.station_book.specs.Tracks.{blank, kept_partner, kept_fix, updated}
+use Rattle.station_book.specs.Tracks.{blank, kept_partner, kept_fix, updated_track}
 use Rattle.station_book.specs.Matching.{AgreeFrom, Tracks, TracksAt}
 
 -- the values of a track show what a search finds, now and later
@@ -125,7 +124,7 @@ module _ (base a : ℕ) (past : List Entry) where
     now_live : live base (Heard seat frame ∷ past) a ≡ true
     now_live = rw own (grind (arith, nat_tests))
 
-    pub updated_by_own : (track : Track) → track.address ≡ a → Serves base past a track → Tracks base (Heard seat frame ∷ past) a (updated (clock base past) (fields_of frame) track)
+    pub updated_by_own : (track : Track) → track.address ≡ a → Serves base past a track → Tracks base (Heard seat frame ∷ past) a (updated_track (clock base past) (fields_of frame) track)
     updated_by_own track same serves = record {
       address = same;
       live = now_live;
@@ -140,6 +139,6 @@ module _ (base a : ℕ) (past : List Entry) where
       position = rw (newer_fix, same_fix track serves (place_of frame)) (agree_newer 60000 (clock base past) (stamp (clock base past) (fix_by base a past (place_of frame))) track.position (newest_fix base a past) serves.position);
     }
 
-    pub heard_of_own : (kept : Option Track) → TracksAt base past a kept → Tracks base (Heard seat frame ∷ past) a (updated (clock base past) (fields_of frame) (unwrap_or kept (blank a)))
+    pub heard_of_own : (kept : Option Track) → TracksAt base past a kept → Tracks base (Heard seat frame ∷ past) a (updated_track (clock base past) (fields_of frame) (unwrap_or kept (blank a)))
     heard_of_own None absent = updated_by_own (blank a) refl (blank_serves absent)
     heard_of_own (Some track) t = updated_by_own track t.address (tracks_serve track t)

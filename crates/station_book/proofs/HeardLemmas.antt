@@ -2,7 +2,7 @@
 use Rattle.std.proofs.Common.{◌≡◌, ℕ, ◌-◌, ◌≤◌, List, [], ◌∷◌, ◌++◌, refl, arith}
 use Rattle.std.proofs.lemmas.Bool.Decides.{nat_tests}
 use Rattle.station_book.specs.declared.tracks.Track.{Track}
-use Rattle.station_book.specs.Tracks.{put_track, swept, HeardFrom}
+use Rattle.station_book.specs.Tracks.{put_track, tracks_left, HeardFrom}
 
 pub heard_earlier : (early late : ℕ) (tracks : List Track) → early ≤ late → HeardFrom late tracks → HeardFrom early tracks
 heard_earlier early late [] le heard = tt
@@ -17,6 +17,6 @@ heard_append moment track [] le heard = (le, tt)
 heard_append moment track (other ∷ rest) le heard = (heard.0, heard_append moment track rest le heard.1)
 
 -- a sweep drops nothing where no track is old
-pub none_swept : (moment now : ℕ) (tracks : List Track) → now - moment ≤ 60000 → HeardFrom moment tracks → swept now tracks ≡ tracks
+pub none_swept : (moment now : ℕ) (tracks : List Track) → now - moment ≤ 60000 → HeardFrom moment tracks → tracks_left now tracks ≡ tracks
 none_swept moment now [] recent heard = refl
 none_swept moment now (track ∷ rest) recent heard = grind (arith, nat_tests, heard.0, none_swept moment now rest recent heard.1)

@@ -1,6 +1,5 @@
 -- The laws of the book over whole journals.
-use Rattle.std.proofs.Common.{◌≡◌, ℕ, ◌<◌, true, List, [], ◌∷◌, ◌++◌, length, None, refl, ◌∙◌, arith}
-use Rattle.std.specs.Prelude.{nat_lt}
+use Rattle.std.proofs.Common.{◌≡◌, ℕ, ◌<◌, true, List, [], ◌∷◌, ◌++◌, length, None, refl, ◌∙◌, arith, nat_lt}
 use Rattle.std.proofs.lemmas.Bool.Decides.{nat_tests}
 use mathlib.Core.List.{reverse}
 use Rattle.std.proofs.lemmas.List.{length-reverse}
@@ -11,7 +10,7 @@ use Rattle.station_journal.proofs.SoundLemmas.{sound_legal}
 use Rattle.station_book.specs.declared.call.Call.{Call}
 use Rattle.station_book.specs.declared.call.Call.TheVariants.{Tick, Heard}
 use Rattle.station_book.specs.Call.{call_of, entry_of}
-use Rattle.station_book.specs.State.{BookState, applied, offered, rows, placed_rows, fits}
+use Rattle.station_book.specs.State.{BookState, applied_book, book_offered, rows, placed_rows, fits}
 use Rattle.station_book.specs.Matching.{MatchesPast, Matches, Shows, book_of_past, book_after}
 use Rattle.station_book.proofs.MatchingLemmas.{matches_starting, matches_applied, matches_push}
 use Rattle.station_book.proofs.TableLemmas.{rows_are_table, placed_are_table}
@@ -32,11 +31,11 @@ shows_from_match n base book entries m = record {
   entry = same_refusal n base (reverse entries) book m;
 }
 
-pub match_after_accepted : (log : Log) (book : BookState) (entry : Entry) → refusal_of log entry ≡ None → Matches log.limits.aircraft log.base book log.entries → Matches log.limits.aircraft log.base (applied book (call_of entry)) (log.entries ++ entry ∷ [])
+pub match_after_accepted : (log : Log) (book : BookState) (entry : Entry) → refusal_of log entry ≡ None → Matches log.limits.aircraft log.base book log.entries → Matches log.limits.aircraft log.base (applied_book book (call_of entry)) (log.entries ++ entry ∷ [])
 match_after_accepted log book entry accepted m =
     matches_push log.limits.aircraft log.base log.entries entry book (fits_from_accepts log.limits log.base (past_of log) entry m.sound accepted) m
 
-pub match_after_fit : (n base : ℕ) (book : BookState) (journal : List Entry) (entry : Entry) → fits n book (call_of entry) ≡ true → Matches n base book journal → Matches n base (applied book (call_of entry)) (journal ++ entry ∷ [])
+pub match_after_fit : (n base : ℕ) (book : BookState) (journal : List Entry) (entry : Entry) → fits n book (call_of entry) ≡ true → Matches n base book journal → Matches n base (applied_book book (call_of entry)) (journal ++ entry ∷ [])
 match_after_fit n base book journal entry fit m = matches_push n base journal entry book (fits_back n base (reverse journal) book m entry fit) m
 
 pub accepted_fits_book : (log : Log) (book : BookState) (entry : Entry) → refusal_of log entry ≡ None → Matches log.limits.aircraft log.base book log.entries → fits log.limits.aircraft book (call_of entry) ≡ true
@@ -44,17 +43,17 @@ accepted_fits_book log book entry accepted m =
     fits_from log.limits.aircraft log.base (past_of log) book m entry (fits_from_accepts log.limits log.base (past_of log) entry m.sound accepted)
 
 -- an offered call that fits is applied
-pub offer_of_fit : (n : ℕ) (book : BookState) (call : Call) → fits n book call ≡ true → book.entries < most_entries → offered n book call ≡ applied book call
+pub offer_of_fit : (n : ℕ) (book : BookState) (call : Call) → fits n book call ≡ true → book.entries < most_entries → book_offered n book call ≡ applied_book book call
 offer_of_fit n book call fit few =
     let test : nat_lt book.entries most_entries ≡ true = grind (arith, nat_tests) in
     rw (fit, test) refl
 
-pub offer_is_taken : (log : Log) (book : BookState) (entry : Entry) → refusal_of log entry ≡ None → length log.entries < most_entries → Matches log.limits.aircraft log.base book log.entries → offered log.limits.aircraft book (call_of entry) ≡ applied book (call_of entry)
+pub offer_is_taken : (log : Log) (book : BookState) (entry : Entry) → refusal_of log entry ≡ None → length log.entries < most_entries → Matches log.limits.aircraft log.base book log.entries → book_offered log.limits.aircraft book (call_of entry) ≡ applied_book book (call_of entry)
 offer_is_taken log book entry accepted few m =
     let count : book.entries ≡ length log.entries = m.entries ∙ length-reverse log.entries in
     offer_of_fit log.limits.aircraft book (call_of entry) (accepted_fits_book log book entry accepted m) (omega (arith, count, few))
 
-pub match_after_offer : (log : Log) (book : BookState) (entry : Entry) → refusal_of log entry ≡ None → length log.entries < most_entries → Matches log.limits.aircraft log.base book log.entries → Matches log.limits.aircraft log.base (offered log.limits.aircraft book (call_of entry)) (log.entries ++ entry ∷ [])
+pub match_after_offer : (log : Log) (book : BookState) (entry : Entry) → refusal_of log entry ≡ None → length log.entries < most_entries → Matches log.limits.aircraft log.base book log.entries → Matches log.limits.aircraft log.base (book_offered log.limits.aircraft book (call_of entry)) (log.entries ++ entry ∷ [])
 match_after_offer log book entry accepted few m = rw (offer_is_taken log book entry accepted few m) (match_after_accepted log book entry accepted m)
 
 -- a book that has applied the entries of a sound list matches it

@@ -1,7 +1,6 @@
 -- A book that matches a past also matches it with one more entry that fits.
-use Rattle.std.proofs.Common.{◌≡◌, ℕ, ◌-◌, ◌<◌, Bool, true, false, if◌then◌else◌, List, [], ◌∷◌, ◌++◌, Option, Some, None, Result, Ok, Err, refl, sym, subst, arith}
+use Rattle.std.proofs.Common.{◌≡◌, ℕ, ◌-◌, ◌<◌, Bool, true, false, if◌then◌else◌, List, [], ◌∷◌, ◌++◌, Option, Some, None, Result, Ok, Err, refl, sym, subst, arith, nat_le, ◌==◌, unwrap_or}
 use mathlib.Core.List.{reverse}
-use Rattle.std.specs.Prelude.{nat_le, ◌==◌, unwrap_or}
 use Rattle.std.proofs.lemmas.Bool.{eqb-true}
 use Rattle.std.proofs.lemmas.Bool.Decides.{nat_tests}
 use Rattle.std.proofs.lemmas.List.{reverse-append}
@@ -16,8 +15,8 @@ use Rattle.station_journal.specs.Past.{clock, speaks_for}
 use Rattle.station_journal.specs.Past.{IsTimed}
 use Rattle.station_book.specs.declared.tracks.Track.{Track}
 use Rattle.station_book.specs.Call.{call_of}
-use Rattle.station_book.specs.Tracks.{blank, updated, find_track, with_claimed}
-use Rattle.station_book.specs.State.{BookState, applied, starting}
+use Rattle.station_book.specs.Tracks.{blank, updated_track, find_track, with_claimed}
+use Rattle.station_book.specs.State.{BookState, applied_book, starting}
 use Rattle.station_book.specs.Matching.{Tracks, TracksAt, MatchesPast, Matches}
 use Rattle.station_journal.specs.Resume.{ClaimFits, Fits}
 use Rattle.station_journal.proofs.RepeatLemmas.{first_heard_next}
@@ -39,7 +38,7 @@ module _ (n base : ℕ) (past : List Entry) where
       by_test true recent = kept_by_tick base a past seat at track timed later recent tracks
       by_test false old = swept_by_tick base a past seat at track timed old tracks
 
-  pub matches_tick : (seat at : ℕ) (book : BookState) → MatchesPast n base book past → clock base past < at → MatchesPast n base (applied book (call_of (Tick seat at))) (Tick seat at ∷ past)
+  pub matches_tick : (seat at : ℕ) (book : BookState) → MatchesPast n base book past → clock base past < at → MatchesPast n base (applied_book book (call_of (Tick seat at))) (Tick seat at ∷ past)
   matches_tick seat at book m later = record {
     sound = (later, m.sound);
     moment = refl;
@@ -56,7 +55,7 @@ module _ (n base : ℕ) (past : List Entry) where
 
   -- the track that a frame of the address leaves
   abbrev pub track_after : Frame → ℕ → List Track → Track
-  track_after frame a tracks = updated (clock base past) (fields_of frame) (unwrap_or (find_track a tracks) (blank a))
+  track_after frame a tracks = updated_track (clock base past) (fields_of frame) (unwrap_or (find_track a tracks) (blank a))
 
   module _ (seat : ℕ) (frame : Frame) (claim : Claim) (tracks : List Track) (is : claim_of frame ≡ Ok claim) (each : (b : ℕ) → TracksAt base past b (find_track b tracks)) where
     own_track : Tracks base (Heard seat frame ∷ past) claim.address (track_after frame claim.address tracks)
@@ -74,7 +73,7 @@ module _ (n base : ℕ) (past : List Entry) where
     pub after_frame : (b : ℕ) → TracksAt base (Heard seat frame ∷ past) b (find_track b (with_claimed (clock base past) frame (Ok claim) tracks))
     after_frame b = rw (find_put_as claim.address b (track_after frame claim.address tracks) tracks (address_of_found claim.address (find_track claim.address tracks) (each claim.address))) (by_test b (claim.address == b) refl)
 
-  pub matches_frame : (seat : ℕ) (frame : Frame) (claim : Result Claim CheckFault) (book : BookState) → claim_of frame ≡ claim → ClaimFits n base past claim → MatchesPast n base book past → MatchesPast n base (applied book (call_of (Heard seat frame))) (Heard seat frame ∷ past)
+  pub matches_frame : (seat : ℕ) (frame : Frame) (claim : Result Claim CheckFault) (book : BookState) → claim_of frame ≡ claim → ClaimFits n base past claim → MatchesPast n base book past → MatchesPast n base (applied_book book (call_of (Heard seat frame))) (Heard seat frame ∷ past)
   matches_frame seat frame (Err fault) book is fit m = elim fit [ ]
   matches_frame seat frame (Ok claim) book is fit m = record {
     sound = (rw is fit, m.sound);
@@ -86,10 +85,10 @@ module _ (n base : ℕ) (past : List Entry) where
   }
 
   -- one more entry that fits
-  pub matches_applied : (entry : Entry) (book : BookState) → Fits n base past entry → MatchesPast n base book past → MatchesPast n base (applied book (call_of entry)) (entry ∷ past)
+  pub matches_applied : (entry : Entry) (book : BookState) → Fits n base past entry → MatchesPast n base book past → MatchesPast n base (applied_book book (call_of entry)) (entry ∷ past)
   matches_applied (Tick seat at) book fit m = matches_tick seat at book m fit
   matches_applied (Heard seat frame) book fit m = matches_frame seat frame (claim_of frame) book refl fit m
 
 -- the same for a list with the oldest entry first
-pub matches_push : (n base : ℕ) (entries : List Entry) (entry : Entry) (book : BookState) → Fits n base (reverse entries) entry → Matches n base book entries → Matches n base (applied book (call_of entry)) (entries ++ entry ∷ [])
+pub matches_push : (n base : ℕ) (entries : List Entry) (entry : Entry) (book : BookState) → Fits n base (reverse entries) entry → Matches n base book entries → Matches n base (applied_book book (call_of entry)) (entries ++ entry ∷ [])
 matches_push n base entries entry book fit m = rw (reverse-append entries (entry ∷ [])) (matches_applied n base (reverse entries) entry book fit m)

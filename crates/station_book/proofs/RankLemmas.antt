@@ -1,7 +1,6 @@
 -- What is at the rank of an address among rising tracks, and what an edit there does.
-use Rattle.std.proofs.Common.{◌≡◌, ℕ, zero, suc, ◌<◌, ◌≤◌, ◌≢◌, List, [], ◌∷◌, length, map, get_or, ltb, true, false, set, drop, None, Some, is_some, Ok, Err, refl, ap, sym, subst, ◌∙◌, arith}
+use Rattle.std.proofs.Common.{◌≡◌, ℕ, zero, suc, ◌<◌, ◌≤◌, ◌≢◌, List, [], ◌∷◌, length, map, get_or, ltb, true, false, set, drop, None, Some, is_some, Ok, Err, refl, ap, sym, subst, ◌∙◌, arith, slice_get, unwrap_or}
 use Rattle.std.specs.List.{insert, refill}
-use Rattle.std.specs.Prelude.{slice_get, unwrap_or}
 use Rattle.std.proofs.lemmas.Option.{slice_get-get_or}
 use Rattle.modes_fields.specs.declared.fields.Fields.{Fields}
 use Rattle.std.specs.List.Sorted.{IsPartitionPoint}
@@ -10,7 +9,7 @@ use Rattle.std.proofs.lemmas.Bool.Decides.{nat_tests}
 use Rattle.std.proofs.lemmas.List.{length-map}
 use Rattle.station_journal.specs.Rising.{AllOver, IsRising}
 use Rattle.station_book.specs.declared.tracks.Track.{Track}
-use Rattle.station_book.specs.Tracks.{blank, updated, find_track, put_track, track_or_blank, address_of, Rising, IsRank, StandsAt, with_track}
+use Rattle.station_book.specs.Tracks.{blank, updated_track, find_track, put_track, track_or_blank, address_of, Rising, IsRank, StandsAt, with_track}
 use Rattle.station_book.proofs.TrackLemmas.{find_below, found_address}
 
 -- a slice that is written back whole
@@ -115,11 +114,11 @@ map_insert t (x ∷ xs) zero = refl
 map_insert t (x ∷ xs) (suc i) = ap (λ rest. x.address ∷ rest) (map_insert t xs i)
 
 -- an update of the track at its place is a put of the updated track
-pub update_there : (a i now : ℕ) (fields : Fields) (xs : List Track) (d : Track) → StandsAt xs a (Ok i) → set xs i (updated now fields (get_or xs i d)) ≡ put_track (updated now fields (track_or_blank a xs)) xs
+pub update_there : (a i now : ℕ) (fields : Fields) (xs : List Track) (d : Track) → StandsAt xs a (Ok i) → set xs i (updated_track now fields (get_or xs i d)) ≡ put_track (updated_track now fields (track_or_blank a xs)) xs
 update_there a i now fields xs d place =
     let stood : get_or xs i d ≡ track_or_blank a xs = ap (λ o. unwrap_or o (blank a)) (sym (slice_get-get_or xs i d place.0) ∙ place.1) in
-    let address : (updated now fields (get_or xs i d)).address ≡ a = ap address_of stood ∙ found_address a xs in
-    place.2 (updated now fields (get_or xs i d)) address ∙ ap (λ t. put_track (updated now fields t) xs) stood
+    let address : (updated_track now fields (get_or xs i d)).address ≡ a = ap address_of stood ∙ found_address a xs in
+    place.2 (updated_track now fields (get_or xs i d)) address ∙ ap (λ t. put_track (updated_track now fields t) xs) stood
 
 -- the track at the place of an address has that address
 pub stands_there : (a i : ℕ) (xs : List Track) (d : Track) → StandsAt xs a (Ok i) → (get_or xs i d).address ≡ a

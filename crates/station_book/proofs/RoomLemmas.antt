@@ -2,7 +2,7 @@
 use Rattle.std.proofs.Common.{ℕ, ◌<◌, ◌^◌, arith}
 use denote.Param.{layout, number, param}
 use prog.Memory.{size}
-use Rattle.station_book.specs.contracts.running.Book as book
+use Rattle.station_book.specs.contracts.book.Book as book
 use Rattle.station_book.specs.contracts.table.Table as table
 
 -- where a book fits, its table does

@@ -1,6 +1,5 @@
 -- The refusals of a matching book are those of the past, and an accepted entry fits.
-use Rattle.std.proofs.Common.{◌≡◌, ℕ, true, false, List, Option, Some, None, Result, Ok, Err, refl, sym, ◌∙◌, arith}
-use Rattle.std.specs.Prelude.{nat_le, nat_lt}
+use Rattle.std.proofs.Common.{◌≡◌, ℕ, true, false, List, Option, Some, None, Result, Ok, Err, refl, sym, ◌∙◌, arith, nat_le, nat_lt}
 use Rattle.std.proofs.lemmas.Bool.Decides.{nat_tests}
 use Rattle.modes_frame.specs.declared.claims.Claim.{Claim}
 use Rattle.modes_frame.specs.declared.claims.CheckFault.{CheckFault}

@@ -10,7 +10,7 @@ use Rattle.station_journal.specs.Verdict.{tick_refusal, refusal}
 use Rattle.station_book.specs.declared.tracks.Track.{Track}
 use Rattle.station_book.specs.Call.{call_of}
 use Rattle.station_book.specs.Tracks.{find_track, Rising}
-use Rattle.station_book.specs.State.{BookState, rows, placed_rows, starting, applied, book_tick_refusal, book_refusal}
+use Rattle.station_book.specs.State.{BookState, rows, placed_rows, starting, applied_book, book_tick_refusal, book_refusal}
 
 -- both values show the same at each time from now on, by this limit of age
 abbrev pub AgreeFrom : {V : Type 0} → ℕ → ℕ → Option (Stamped V) → Option (Stamped V) → Type 0
@@ -60,7 +60,7 @@ pub record Shows (n base : ℕ) (book : BookState) (entries : List Entry) : Type
 -- the book that has applied each entry of the past in turn
 abbrev pub book_of_past : ℕ → List Entry → BookState
 book_of_past base [] = starting base
-book_of_past base (entry ∷ past) = applied (book_of_past base past) (call_of entry)
+book_of_past base (entry ∷ past) = applied_book (book_of_past base past) (call_of entry)
 
 -- the book that has applied the entries, the oldest first
 abbrev pub book_after : ℕ → List Entry → BookState

@@ -15,7 +15,7 @@ use Rattle.station_book.specs.declared.call.Call.TheVariants.{Tick, Heard}
 use Rattle.station_book.specs.declared.tracks.Track.{Track}
 use Rattle.station_book.specs.declared.call.Change.{Change}
 use Rattle.station_book.specs.declared.call.Change.TheVariants as change
-use Rattle.station_book.specs.Tracks.{find_track, swept, with_claimed, has_place, with_track, track_row, track_placed}
+use Rattle.station_book.specs.Tracks.{find_track, tracks_left, with_claimed, has_place, with_track, track_row, track_placed}
 
 -- the clock, the number of entries taken, the track of each live aircraft, and the first frames since the newest tick
 pub record BookState : Type 0 where
@@ -60,9 +60,9 @@ with_frame_of frame (Err fault) frames = frames
 with_frame_of frame (Ok claim) frames = with_heard frame frames
 
 -- the book that took a call
-abbrev pub applied : BookState → Call → BookState
-applied book (Tick at) = record { moment = at; entries = book.entries + 1; tracks = swept at book.tracks; first_frames = [] }
-applied book (Heard frame) = record {
+abbrev pub applied_book : BookState → Call → BookState
+applied_book book (Tick at) = record { moment = at; entries = book.entries + 1; tracks = tracks_left at book.tracks; first_frames = [] }
+applied_book book (Heard frame) = record {
   moment = book.moment;
   entries = book.entries + 1;
   tracks = with_claimed book.moment frame (claim_of frame) book.tracks;
@@ -80,8 +80,8 @@ fits n book (Tick at) = nat_lt book.moment at
 fits n book (Heard frame) = claim_fits n book (claim_of frame)
 
 -- an offered call is applied where it fits and the book counts fewer than the most entries; else nothing changes
-abbrev pub offered : ℕ → BookState → Call → BookState
-offered n book call = if fits n book call && nat_lt book.entries most_entries then applied book call else book
+abbrev pub book_offered : ℕ → BookState → Call → BookState
+book_offered n book call = if fits n book call && nat_lt book.entries most_entries then applied_book book call else book
 
 -- the first frames with the next one of others that are ahead, if they have one
 abbrev pub with_frame_ahead : List Frame → List Frame → List Frame
@@ -91,7 +91,7 @@ with_frame_ahead ahead frames = frames ++ take 1 (drop (length frames) ahead)
 -- change of the tracks and the first frames
 abbrev pub caught_up : ℕ → BookState → Change → BookState → BookState
 caught_up n ahead change.Clock book =
-    record { moment = ahead.moment; entries = ahead.entries; tracks = swept ahead.moment book.tracks; first_frames = [] }
+    record { moment = ahead.moment; entries = ahead.entries; tracks = tracks_left ahead.moment book.tracks; first_frames = [] }
 caught_up n ahead (change.Track a) book = record {
   moment = ahead.moment;
   entries = ahead.entries;

@@ -43,8 +43,8 @@ with_place now place track = record track {
 }
 
 -- the track after a frame with these fields, heard at the time now
-abbrev pub updated : ℕ → Fields → Track → Track
-updated now fields track = record {
+abbrev pub updated_track : ℕ → Fields → Track → Track
+updated_track now fields track = record {
   address = track.address;
   heard = now;
   callsign = or_older (stamp now fields.callsign) track.callsign;
@@ -87,8 +87,8 @@ put_track track (other ∷ rest) =
     else (if track.address == other.address then track ∷ rest else other ∷ put_track track rest)
 
 -- the tracks heard at most 60,000 ms before now
-abbrev pub swept : ℕ → List Track → List Track
-swept now tracks = filter (λ track. nat_le (now - track.heard) life_ms) tracks
+abbrev pub tracks_left : ℕ → List Track → List Track
+tracks_left now tracks = filter (λ track. nat_le (now - track.heard) life_ms) tracks
 
 -- the track of the address, or a blank one
 abbrev pub track_or_blank : ℕ → List Track → Track
@@ -97,7 +97,7 @@ track_or_blank a tracks = unwrap_or (find_track a tracks) (blank a)
 -- the tracks after a frame with this claim, heard at the time now
 abbrev pub with_claimed : ℕ → Frame → Result Claim CheckFault → List Track → List Track
 with_claimed now frame (Err fault) tracks = tracks
-with_claimed now frame (Ok claim) tracks = put_track (updated now (fields_of frame) (track_or_blank claim.address tracks)) tracks
+with_claimed now frame (Ok claim) tracks = put_track (updated_track now (fields_of frame) (track_or_blank claim.address tracks)) tracks
 
 -- the address has a track, or there are fewer than n
 abbrev pub has_place : ℕ → ℕ → List Track → Bool

@@ -7,7 +7,7 @@ ghost use Rattle.station_book.specs.declared.call.Call.{Call};
 ghost use Rattle.station_book.specs.declared.call.Change.{Change};
 ghost use Rattle.station_book.specs.Call.{call_of, change_of};
 ghost use Rattle.station_book.specs.State.{BookState, starting, rows, placed_rows};
-ghost use Rattle.station_book.specs.State.{applied, offered, fits, caught_up, book_refusal};
+ghost use Rattle.station_book.specs.State.{applied_book, book_offered, fits, caught_up, book_refusal};
 ghost use Rattle.station_book.specs.Matching.{Matches, Shows, book_after};
 
 /// A book without entries matches the list without entries, whatever the base of its clock.
@@ -40,7 +40,7 @@ pub fn an_entry_that_is_not_refused_fits()
 pub fn a_match_stays()
     ensures { (log : Log) (book : BookState) (entry : Entry) → refusal_of log entry ≡ None →
         Matches log.limits.aircraft log.base book log.entries →
-        Matches log.limits.aircraft log.base (applied book (call_of entry)) (log.entries ++ entry ∷ []) }
+        Matches log.limits.aircraft log.base (applied_book book (call_of entry)) (log.entries ++ entry ∷ []) }
 {}
 
 /// A matching book that is offered an accepted entry still matches, if it counts fewer than the most entries.
@@ -48,7 +48,7 @@ pub fn an_offer_keeps_a_match()
     ensures { (log : Log) (book : BookState) (entry : Entry) → refusal_of log entry ≡ None →
         length log.entries < most_entries →
         Matches log.limits.aircraft log.base book log.entries →
-        Matches log.limits.aircraft log.base (offered log.limits.aircraft book (call_of entry))
+        Matches log.limits.aircraft log.base (book_offered log.limits.aircraft book (call_of entry))
         (log.entries ++ entry ∷ []) }
 {}
 
@@ -66,5 +66,5 @@ pub fn the_book_equals_the_search()
 pub fn a_change_brings_up()
     ensures { (n : ℕ) (book : BookState) (call : Call) (change : Change) → fits n book call ≡ true →
         change_of call ≡ Some change →
-        caught_up n (applied book call) change book ≡ applied book call }
+        caught_up n (applied_book book call) change book ≡ applied_book book call }
 {}

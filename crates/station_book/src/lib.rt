@@ -2,13 +2,13 @@
 //! what a search of all of them finds.
 #![tactic(auto)]
 
+pub mod book;
 pub mod call;
 mod copying;
 mod first_frames;
 pub mod laws;
-pub mod running;
 mod table;
 mod tracks;
 
+pub use book::Book;
 pub use call::{Call, Change};
-pub use running::Book;

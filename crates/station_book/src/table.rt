@@ -3,7 +3,7 @@
 ghost use Rattle.std.specs.Prelude.{◌≡◌, IsTrue, Ok, ◌<◌, ◌≤◌, ◌==◌, List, [], length, map, slice_get, None, Some};
 ghost use Rattle.station_journal.specs.Rising.{IsRising};
 ghost use Rattle.modes_fields.specs.Carried.{fields_of};
-ghost use Rattle.station_book.specs.Tracks.{updated, find_track, put_track, with_track, swept, track_or_blank};
+ghost use Rattle.station_book.specs.Tracks.{updated_track, find_track, put_track, with_track, tracks_left, track_or_blank};
 ghost use Rattle.station_book.specs.Tracks.{address_of, IsRank, StandsAt, HeardFrom};
 
 use crate::copying::copy_list;
@@ -125,7 +125,7 @@ impl<const N: usize> Table<N> {
     pub fn hear(&mut self, place: Result<usize, usize>, now: u64, address: u32, frame: &Frame)
         requires place { StandsAt self.old address place }
         requires room { find_track address self.old ≡ None → length self.old < N }
-        ensures { self.new ≡ put_track (updated now (fields_of frame.now) (track_or_blank address self.old)) self.old }
+        ensures { self.new ≡ put_track (updated_track now (fields_of frame.now) (track_or_blank address self.old)) self.old }
     {
         self.oldest = self.oldest.min(now);
         match place {
@@ -184,7 +184,7 @@ impl<const N: usize> Table<N> {
 
     /// Drops the tracks heard more than 60,000 ms before `now`.
     pub fn sweep(&mut self, now: u64)
-        ensures { self.new ≡ swept now self.old }
+        ensures { self.new ≡ tracks_left now self.old }
     {
         if now.saturating_sub(self.oldest) > LIFE_MS {
             retain_recent(&mut self.tracks, now);
@@ -204,7 +204,7 @@ fn rank_of(addresses: &[u32], address: u32) -> usize
 
 // Drops the tracks heard more than 60,000 ms before `now`.
 fn retain_recent<const N: usize>(tracks: &mut ArrayVec<Track, N>, now: u64)
-    ensures { tracks.new.items ≡ swept now tracks.old.items }
+    ensures { tracks.new.items ≡ tracks_left now tracks.old.items }
 {
     tracks.retain(|track| now.saturating_sub(track.heard) <= LIFE_MS);
 }

@@ -4,7 +4,7 @@ ghost use Rattle.std.specs.Prelude.{◌≡◌};
 ghost use Rattle.modes_fields.specs.Carried.{fields_of};
 ghost use Rattle.modes_fields.specs.Kinds.{fields_by};
 ghost use Rattle.station_journal.specs.Past.{stamp, or_older};
-ghost use Rattle.station_book.specs.Tracks.{blank, kept_fix, with_place, updated, track_row, track_placed};
+ghost use Rattle.station_book.specs.Tracks.{blank, kept_fix, with_place, updated_track, track_row, track_placed};
 
 use modes_cpr::Position;
 use modes_fields::readers::carried;
@@ -86,7 +86,7 @@ fn keep_place(track: &mut Track, now: u64, place: Place)
 
 /// Updates the track by a frame of the aircraft, heard at the time `now`.
 pub fn update(track: &mut Track, now: u64, frame: &Frame)
-    ensures { track.new ≡ updated now (fields_of frame.now) track.old }
+    ensures { track.new ≡ updated_track now (fields_of frame.now) track.old }
 {
     take(track, now, carried(frame));
 }
@@ -94,7 +94,7 @@ pub fn update(track: &mut Track, now: u64, frame: &Frame)
 // Updates the track by what a frame carries. Only the fields of its kind are written.
 #[inline(always)]
 fn take(track: &mut Track, now: u64, carried: Carried)
-    ensures { track.new ≡ updated now (fields_by carried) track.old }
+    ensures { track.new ≡ updated_track now (fields_by carried) track.old }
 {
     track.heard = now;
     match carried {

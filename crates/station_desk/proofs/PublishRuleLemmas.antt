@@ -1,12 +1,11 @@
 -- Each step keeps the rule over what is published.
-use Rattle.std.proofs.Common.{◌≡◌, ◌≢◌, ℕ, List, set, Option, Some, None, refl, sym, ap, ◌∙◌, subst, ⊎_elim, inr}
-use Rattle.std.specs.Prelude.{IfSome}
+use Rattle.std.proofs.Common.{◌≡◌, ◌≢◌, ℕ, List, set, Option, Some, None, refl, sym, ap, ◌∙◌, subst, ⊎_elim, inr, IfSome}
 use mathlib.Core.List.{IsPrefix}
 use mathlib.Core.Option.{some}
 use lib.ListN.{get_elem?}
 use Rattle.crossbeam_utils.specs.Register.{Admits, TurnsAt, Turns, Forks, Merges}
 use Rattle.atomic_table.proofs.Lists.{at_set, at_snoc, set_again}
-use Rattle.station_desk.specs.Published.{Sheet, IsPublished, IsOfSheet, SawPublished, GoesOn, Follows, marked}
+use Rattle.station_desk.specs.Published.{Sheet, IsPublished, IsOfSheet, SawPublished, GoesOn, Follows, mark_of}
 use Rattle.station_desk.specs.declared.published.Mark.{Mark}
 use Rattle.station_desk.specs.declared.published.Origin.{Origin}
 use Rattle.station_desk.proofs.FrontLemmas.{prefix_refl, prefix_trans}
@@ -18,10 +17,10 @@ none_some : {A : Type 0} (k : A) → None ≡ Some k → ⊥
 none_some k e = cc
 
 -- who has seen what is published knows its station
-seen_is_of : (s : Sheet) (k : Mark) → marked s.front s.origin ≡ Some k → IsOfSheet s k
+seen_is_of : (s : Sheet) (k : Mark) → mark_of s.front s.origin ≡ Some k → IsOfSheet s k
 seen_is_of s k e = by s.origin refl e
   where
-    by : (origin : Option Origin) → s.origin ≡ origin → marked s.front origin ≡ Some k → IsOfSheet s k
+    by : (origin : Option Origin) → s.origin ≡ origin → mark_of s.front origin ≡ Some k → IsOfSheet s k
     by None is e = absurd (none_some k e)
     by (Some origin) is e =
         let mark : record { front = s.front; origin = origin } ≡ k = some_mark _ k e in
@@ -50,13 +49,13 @@ module _ {T : Type 0} (n : ℕ) (sheet : T → Sheet) where
 
   pub turns_at : (seat : ℕ) (v : Option Mark) (x y : T) → Follows n (sheet x) (sheet y) → TurnsAt Holds seat v x y Saw
   turns_at seat v x y next views h at = (
-    marked (sheet y).front (sheet y).origin,
+    mark_of (sheet y).front (sheet y).origin,
     record {
       right = next.right h.right;
       views = λ j k e. ⊎_elim
-          (λ (t : (j ≡ seat) × (marked (sheet y).front (sheet y).origin ≡ Some k)). seen_is_of (sheet y) k t.1)
+          (λ (t : (j ≡ seat) × (mark_of (sheet y).front (sheet y).origin ≡ Some k)). seen_is_of (sheet y) k t.1)
           (λ (t : (j ≢ seat) × (get_elem? views j ≡ some (Some k))). still_of n (sheet x) (sheet y) k next (h.views j k t.1))
-          (at_set views seat j (marked (sheet y).front (sheet y).origin) (Some k) e);
+          (at_set views seat j (mark_of (sheet y).front (sheet y).origin) (Some k) e);
     },
     record { knows = refl; right = next.right h.right; known = known v at },
   )

@@ -3,7 +3,7 @@ use Rattle.std.proofs.Common.{ℕ, ◌<◌, ◌^◌, List, [], arith}
 use mathlib.Core.List.{Mem, not-mem-nil}
 use denote.Param.{layout, number, param}
 use prog.Memory.{size}
-use Rattle.station_book.specs.contracts.running.Book as book
+use Rattle.station_book.specs.contracts.book.Book as book
 use Rattle.station_desk.specs.contracts.published.PublishedTable as published
 
 -- nothing is in an empty list. `search none_within` takes the sizes from what the caller was asked, as they are written

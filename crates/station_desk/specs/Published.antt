@@ -5,7 +5,7 @@ use mathlib.Core.Option.{some}
 use lib.ListN.{get_elem?}
 use Rattle.station_journal.specs.declared.entry.Entry.{Entry}
 use Rattle.station_journal.specs.Log.{IsLegal}
-use Rattle.station_book.specs.State.{BookState, caught_up, offered}
+use Rattle.station_book.specs.State.{BookState, caught_up, book_offered}
 use Rattle.station_book.specs.declared.call.Change.{Change}
 use Rattle.station_book.specs.declared.call.Call.{Call}
 use Rattle.station_book.specs.Matching.{Matches}
@@ -36,7 +36,7 @@ sheet_of copy = sheet copy.book copy.front copy.origin
 
 -- what is published next: the spare copy, brought up to date, with one call more
 abbrev pub next_sheet : {n : ℕ} → PublishedTable n → PublishedTable n → Call → NextCopy → Sheet
-next_sheet {n} shown spare call next = sheet (offered n (brought_up n shown.book next.missing_change spare.book) call) next.front shown.origin
+next_sheet {n} shown spare call next = sheet (book_offered n (brought_up n shown.book next.missing_change spare.book) call) next.front shown.origin
 
 -- the entries are legal for the station, where there is one
 abbrev pub LegalUnder : Name → Option Origin → List Entry → Type 0
@@ -59,12 +59,12 @@ pub record IsPublished (n : ℕ) (s : Sheet) (all : List (Option Mark)) : Type 0
   pub views : (seat : ℕ) (k : Mark) → get_elem? all seat ≡ some (Some k) → IsOfSheet s k
 
 -- what is known once what is published was seen: nothing before there is a station
-abbrev pub marked : Known → Option Origin → Option Mark
-marked front origin = option_map (λ o. record { front = front; origin = o }) origin
+abbrev pub mark_of : Known → Option Origin → Option Mark
+mark_of front origin = option_map (λ o. record { front = front; origin = o }) origin
 
 -- what a step shows of what is published after it
 pub record SawPublished (n : ℕ) (old : Option Mark) (s : Sheet) (new : Option Mark) : Type 0 where
-  pub knows : new ≡ marked s.front s.origin
+  pub knows : new ≡ mark_of s.front s.origin
   pub right : IsRight n s
   pub known : IfSome old (IsOfSheet s)
 

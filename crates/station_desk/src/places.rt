@@ -11,7 +11,7 @@ ghost use Rattle.station_desk.specs.Desk.{most_aircraft};
 
 use crate::history::History;
 use crate::publish_rule::{PublishRule, ReaderPlace};
-use crate::published::{Mark, Origin, PublishedTable, Unlogged};
+use crate::published::{Mark, NoOperation, Origin, PublishedTable};
 use crate::publisher::{Publisher, begin, blank, give_up, new_place};
 use crossbeam_utils::rule::Protocol;
 use left_right::Absorb;
@@ -25,7 +25,7 @@ use std::sync::Wait;
 /// Places can't be dropped: [`Places::ready`] makes those of a station of them, and [`Places::end`] takes them apart.
 pub struct Places<const N: usize>
 where
-    PublishedTable<N>: Absorb<Unlogged, State = ()>,
+    PublishedTable<N>: Absorb<NoOperation, State = ()>,
     PublishRule: Protocol<PublishedTable<N>, Option<Mark>>,
 {
     base: u64,
@@ -41,7 +41,7 @@ where
 /// it apart.
 pub struct Opening<const N: usize>
 where
-    PublishedTable<N>: Absorb<Unlogged, State = ()>,
+    PublishedTable<N>: Absorb<NoOperation, State = ()>,
     PublishRule: Protocol<PublishedTable<N>, Option<Mark>>,
 {
     pub history: History,
@@ -65,7 +65,7 @@ impl<const N: usize> Opening<N> {
 
 impl<const N: usize> Model for Places<N>
 where
-    PublishedTable<N>: Absorb<Unlogged, State = ()>,
+    PublishedTable<N>: Absorb<NoOperation, State = ()>,
     PublishRule: Protocol<PublishedTable<N>, Option<Mark>>,
 {
     ghost use Rattle.std.specs.Prelude.{◌≡◌, [], None, drop, vec_len};

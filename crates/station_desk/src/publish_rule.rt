@@ -17,24 +17,24 @@ impl<const N: usize> Protocol<PublishedTable<N>, Option<Mark>> for PublishRule {
 }
 
 /// A step of entering or publishing shows what is published afterwards.
-pub struct Sees;
+pub struct SeesPublished;
 
-impl<const N: usize> Outcome<PublishedTable<N>, Option<Mark>> for Sees {
+impl<const N: usize> Outcome<PublishedTable<N>, Option<Mark>> for SeesPublished {
     ghost use Rattle.station_desk.specs.Published.{SawPublished, sheet_of};
 
     ghost then = { λ v x y w. SawPublished N v (sheet_of y) w };
 }
 
 /// A note gives a reader the writer's view.
-pub(crate) struct Notes;
+pub(crate) struct PassesView;
 
-impl Split<Option<Mark>> for Notes {
+impl Split<Option<Mark>> for PassesView {
     ghost left = { λ v. v };
 
     ghost right = { λ v. v };
 }
 
-impl Join<Option<Mark>> for Notes {
+impl Join<Option<Mark>> for PassesView {
     ghost use Rattle.std.specs.Prelude.{None};
 
     ghost both = { λ v w. w };

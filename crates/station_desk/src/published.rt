@@ -29,9 +29,9 @@ pub struct Mark {
 
 /// An operation that is never logged, since the desk brings the copies up to date itself.
 #[derive(Drop)]
-pub struct Unlogged;
+pub struct NoOperation;
 
-impl<const N: usize> Absorb<Unlogged> for PublishedTable<N> {
+impl<const N: usize> Absorb<NoOperation> for PublishedTable<N> {
     type State = ();
 
     ghost state = { λ s. tt };
@@ -42,7 +42,7 @@ impl<const N: usize> Absorb<Unlogged> for PublishedTable<N> {
 
     fn absorb_first(
         &mut self,
-        _operation: &Unlogged,
+        _operation: &NoOperation,
         _other: &PublishedTable<N>,
     ) -> Result<(), AllocError> {
         Ok(())

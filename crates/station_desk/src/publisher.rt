@@ -6,11 +6,11 @@ ghost use Rattle.station_book.specs.Matching.{Matches, book_after};
 ghost use Rattle.station_journal.specs.Follow.{IsFirstUnsound};
 ghost use Rattle.station_journal.specs.Log.{most_entries};
 ghost use Rattle.station_desk.specs.History.{base_of};
-ghost use Rattle.station_desk.specs.Published.{Follows, sheet, sheet_of, next_sheet, brought_up, marked, BeginsWith};
+ghost use Rattle.station_desk.specs.Published.{Follows, sheet, sheet_of, next_sheet, brought_up, mark_of, BeginsWith};
 
 use crate::history::{Front, History};
-use crate::publish_rule::{Notes, PublishRule, ReaderPlace, Sees};
-use crate::published::{Mark, Origin, PublishedTable, Unlogged};
+use crate::publish_rule::{PassesView, PublishRule, ReaderPlace, SeesPublished};
+use crate::published::{Mark, NoOperation, Origin, PublishedTable};
 use core::mem::replace_with;
 use left_right::writer::Writer;
 use station_book::{Book, Call, Change};
@@ -19,7 +19,12 @@ use std::alloc::AllocError;
 use std::sync::Wait;
 
 /// The publishing end.
-pub type Publisher<const N: usize> = Writer<PublishedTable<N>, Unlogged, Option<Mark>, PublishRule>;
+pub type Publisher<const N: usize> = Writer<
+    PublishedTable<N>,
+    NoOperation,
+    Option<Mark>,
+    PublishRule,
+>;
 
 /// What makes the next copy, beside a call: the change that the spare copy lacks, and the beginning of the history
 /// that it then shows.
@@ -80,7 +85,7 @@ pub(crate) fn turn_in_place<const N: usize, R: Wait>(
         ≡ next_sheet publisher.old.desk.shown.value publisher.old.desk.spare.value call.now next }
     ensures spare { publisher.new.desk.spare.value ≡ publisher.old.desk.shown.value }
     ensures view { view publisher.new.desk.place
-        ≡ marked next.front publisher.old.desk.shown.value.origin }
+        ≡ mark_of next.front publisher.old.desk.shown.value.origin }
     ensures pending { drop publisher.new.behind publisher.new.log.items ≡ drop publisher.old.behind publisher.old.log.items }
 {
     // Only what shows the copies is moved, and not the log.
@@ -93,11 +98,11 @@ pub(crate) fn turn_in_place<const N: usize, R: Wait>(
             ensures shown { sheet_of result.0.shown.value
                 ≡ next_sheet desk.entry.shown.value desk.entry.spare.value parts.entry.1.now parts.entry.2 }
             ensures spare { result.0.spare.value ≡ desk.entry.shown.value }
-            ensures view { view result.0.place ≡ marked parts.entry.2.front desk.entry.shown.value.origin }
+            ensures view { view result.0.place ≡ mark_of parts.entry.2.front desk.entry.shown.value.origin }
         {
             let (open, mut spare) = desk.open(parts.0);
             renew(&mut spare, open.shown.get(), parts.1, parts.2);
-            (open.show_as::<Sees>(spare), ())
+            (open.show_as::<SeesPublished>(spare), ())
         },
     );
 }
@@ -160,12 +165,12 @@ fn show_spare<const N: usize, R: Wait>(rt: &R, publisher: Publisher<N>) -> Publi
     ensures shown { result.desk.shown.value ≡ publisher.entry.desk.spare.value }
     ensures spare { result.desk.spare.value ≡ publisher.entry.desk.shown.value }
     ensures view { view result.desk.place
-        ≡ marked publisher.entry.desk.spare.value.front publisher.entry.desk.spare.value.origin }
+        ≡ mark_of publisher.entry.desk.spare.value.front publisher.entry.desk.spare.value.origin }
     ensures pending { drop result.behind result.log.items ≡ drop publisher.entry.behind publisher.entry.log.items }
 {
     let mut publisher = publisher;
     let (open, spare) = publisher.desk.open(rt);
-    publisher.desk = open.show_as::<Sees>(spare);
+    publisher.desk = open.show_as::<SeesPublished>(spare);
     publisher
 }
 
@@ -240,7 +245,7 @@ fn tell_place<const N: usize>(publisher: &mut Publisher<N>, place: &mut ReaderPl
     ensures pending { drop publisher.new.behind publisher.new.log.items ≡ drop publisher.old.behind publisher.old.log.items }
     ensures known { view place.new.place ≡ view publisher.old.desk.place }
 {
-    place.learn::<Notes>(publisher.desk.tell::<Notes>());
+    place.learn::<PassesView>(publisher.desk.tell::<PassesView>());
 }
 
 /// One more reader place, which knows what the publishing end knows. Refused when out of memory.

@@ -6,9 +6,9 @@ use Rattle.std.proofs.KnownBytes.{Consumes-nil, Consumes-trans, Consumes-kept, A
 use Rattle.std.proofs.lemmas.List.{map-append, take_all}
 use Rattle.std.proofs.Math.Seq.{take-add}
 use Rattle.modes_frame.specs.declared.cutter.Cut.{Cut}
-use Rattle.modes_frame.specs.Lines.{pieces, cut, cuts, last_line, pending, ended_cuts, told}
+use Rattle.modes_frame.specs.Lines.{pieces, cut_of, cuts, last_line, pending, ended_cuts, cut_ended_by}
 use Rattle.modes_frame.proofs.LineLemmas.{ended-push}
-use Rattle.station_report.specs.Sink.{counted}
+use Rattle.station_report.specs.Sink.{count_after}
 use Rattle.station_lines.specs.Source.{SourceState, one_more, counted_up, longest_read}
 use Rattle.station_lines.specs.Drawing.{Gives, GivesNone, Gathers, FailsOnce, Ending, AtEnd, ReadFailed, TurnsOver, LineStopped, EndsAs, is_read_failed, TakesEach, StopsWithin, TakesBytes, TakesLast, Taken, ending_as, stopped_as, ended_by}
 
@@ -30,12 +30,12 @@ pub ended-more : (a b : List ℕ) → (more : List Cut) × (ended_cuts (a ++ b) 
 ended-more a [] = ([], ap ended_cuts (append-nil a) ∙ sym (append-nil (ended_cuts a)))
 ended-more a (c ∷ cs) =
     let rest = ended-more (a ++ c ∷ []) cs in
-    let line = option_to_list (told (pending a) c) in
+    let line = option_to_list (cut_ended_by (pending a) c) in
     (line ++ rest.0, ap ended_cuts (sym (append_assoc a (c ∷ []) cs)) ∙ rest.1 ∙ ap (λ x. x ++ rest.0) (ended-push a c) ∙ append_assoc (ended_cuts a) line rest.0)
 
 -- all lines begin with those that a line feed ended
-pub cuts-ended : (bytes : List ℕ) → cuts bytes ≡ ended_cuts bytes ++ map cut (last_line (pieces bytes).rest)
-cuts-ended bytes = map-append cut (pieces bytes).ended (last_line (pieces bytes).rest)
+pub cuts-ended : (bytes : List ℕ) → cuts bytes ≡ ended_cuts bytes ++ map cut_of (last_line (pieces bytes).rest)
+cuts-ended bytes = map-append cut_of (pieces bytes).ended (last_line (pieces bytes).rest)
 
 -- further reads
 suc-add : (n m : ℕ) → suc (n + m) ≡ suc n + m
@@ -136,7 +136,7 @@ pub record GivenSoFar {X E : Type 0} (Took : X → List Cut → Result (Unit {0}
   pub bytes : Gives old now given
   pub asked : length given ≤ longest_read * made
   pub reads : now.reads ≡ counted_up made old.reads
-  pub ends : now.ends ≡ counted (not is_over) old.ends
+  pub ends : now.ends ≡ count_after (not is_over) old.ends
   pub over : is_over ≡ true → IsAtEnd now.left
   pub failures : now.failures ≡ old.failures
   pub taken : TakesEach Took [] given held x y (Ok tt)
@@ -159,8 +159,8 @@ module _ {X E : Type 0} (Took : X → List Cut → Result (Unit {0}) E → X →
   taken_so_far : ended_cuts so_far.given ≡ so_far.taken.lines
   taken_so_far = so_far.taken.ended
 
-  all_lines : cuts so_far.given ≡ so_far.taken.lines ++ map cut (last_line (pieces so_far.given).rest)
-  all_lines = cuts-ended so_far.given ∙ ap (λ ls. ls ++ map cut (last_line (pieces so_far.given).rest)) taken_so_far
+  all_lines : cuts so_far.given ≡ so_far.taken.lines ++ map cut_of (last_line (pieces so_far.given).rest)
+  all_lines = cuts-ended so_far.given ∙ ap (λ ls. ls ++ map cut_of (last_line (pieces so_far.given).rest)) taken_so_far
 
   -- no end was found yet: the lines taken of the next piece, and of all
   module _ {new : SourceState} {left n made : ℕ} {piece : List ℕ} {ends_now : Bool} (not_yet : is_over ≡ false) (read : Gathers mid new left piece n ends_now) (all_made : made ≡ before + n) where
@@ -176,7 +176,7 @@ module _ {X E : Type 0} (Took : X → List Cut → Result (Unit {0}) E → X →
       bytes = Gives-trans old mid new so_far.given piece so_far.bytes read.given;
       asked = all_asked;
       reads = all_reads;
-      ends = read.ends ∙ ap (λ i. counted (not ends_now) i) (so_far.ends ∙ ap (λ b. counted (not b) old.ends) not_yet);
+      ends = read.ends ∙ ap (λ i. count_after (not ends_now) i) (so_far.ends ∙ ap (λ b. count_after (not b) old.ends) not_yet);
       over = read.over;
       failures = read.failures ∙ so_far.failures;
       taken = TakesEach-more Took [] joined so_far.taken (Ok tt) more;
@@ -187,7 +187,7 @@ module _ {X E : Type 0} (Took : X → List Cut → Result (Unit {0}) E → X →
     Taken-stop {z} turns stop within more =
         let given : List ℕ = so_far.given ++ piece in
         let all = StopsWithin-more Took [] joined so_far.taken stop more in
-        let others : List Cut = map cut (last_line (pieces given).rest) in
+        let others : List Cut = map cut_of (last_line (pieces given).rest) in
         record {
           lines = all.lines;
           draws = record {
@@ -208,10 +208,10 @@ module _ {X E : Type 0} (Took : X → List Cut → Result (Unit {0}) E → X →
     lines = so_far.taken.lines;
     draws = record {
       given = so_far.given;
-      left_out = map cut (last_line (pieces so_far.given).rest);
+      left_out = map cut_of (last_line (pieces so_far.given).rest);
       bytes = Gives-kept old mid new so_far.given so_far.bytes failed.given;
       front = all_lines;
-      ends = (sym taken_so_far, failed.ends ∙ so_far.ends ∙ ap (λ b. counted (not b) old.ends) not_yet);
+      ends = (sym taken_so_far, failed.ends ∙ so_far.ends ∙ ap (λ b. count_after (not b) old.ends) not_yet);
       failures = failed.failures ∙ ap (λ n. one_more n) so_far.failures;
       reads = (suc before, omega arith, failed.reads ∙ ap (λ n. one_more n) so_far.reads, omega (arith, so_far.asked));
     };
@@ -224,10 +224,10 @@ module _ {X E : Type 0} (Took : X → List Cut → Result (Unit {0}) E → X →
     lines = so_far.taken.lines;
     draws = record {
       given = so_far.given;
-      left_out = map cut (last_line (pieces so_far.given).rest);
+      left_out = map cut_of (last_line (pieces so_far.given).rest);
       bytes = so_far.bytes;
       front = all_lines;
-      ends = (sym taken_so_far, so_far.ends ∙ ap (λ b. counted (not b) old.ends) not_yet, so_far.reads ∙ ap (λ n. counted_up n old.reads) over);
+      ends = (sym taken_so_far, so_far.ends ∙ ap (λ b. count_after (not b) old.ends) not_yet, so_far.reads ∙ ap (λ n. counted_up n old.reads) over);
       failures = so_far.failures;
       reads = (before, omega arith, so_far.reads, so_far.asked);
     };
@@ -252,7 +252,7 @@ module _ {X E : Type 0} (Took : X → List Cut → Result (Unit {0}) E → X →
   }
 
   pub Taken-end : (stopped : Result (Unit {0}) E) (turns : ℕ) (z : X) → is_over ≡ true → before ≤ turns → TakesLast Took so_far.given y z stopped → Taken Took old mid turns (ending_as (ended_by stopped)) x z (stopped_as (ended_by stopped))
-  Taken-end (Ok done) turns z found within last = Taken-over AtEnd (Ok tt) turns z refl within last (refl, so_far.ends ∙ ap (λ b. counted (not b) old.ends) found, so_far.over found)
+  Taken-end (Ok done) turns z found within last = Taken-over AtEnd (Ok tt) turns z refl within last (refl, so_far.ends ∙ ap (λ b. count_after (not b) old.ends) found, so_far.over found)
   Taken-end (Err stop) turns z found within last = Taken-over LineStopped (Err stop) turns z refl within last tt
 
 -- what holds unless a line stopped the call

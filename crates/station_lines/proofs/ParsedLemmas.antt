@@ -4,10 +4,10 @@ use Rattle.std.proofs.lemmas.Bool.Decides.{eqb_tells}
 use Rattle.modes_frame.specs.declared.cutter.Cut.TheVariants.{Whole}
 use Rattle.modes_frame.specs.declared.line.Line.TheVariants.{Frame, ModeAc, Blank}
 use Rattle.modes_frame.specs.declared.line.LineFault.TheVariants.{TooLong}
-use Rattle.modes_frame.specs.Reading.{is_start, line_of, reading_of, trimmed}
-use Rattle.station_lines.specs.Calls.{heard_line, said, frame_in}
+use Rattle.modes_frame.specs.Reading.{is_start, line_reading, reading_of, trimmed_line}
+use Rattle.station_lines.specs.Calls.{heard_line, replay_command, frame_in}
 use Rattle.station_lines.specs.Command.{command_by, command_of, of_line}
-use Rattle.station_lines.specs.Counting.{is_frame, is_mode_ac, is_blank}
+use Rattle.station_lines.specs.Counting.{is_frame, is_mode_ac, is_blank_line}
 use Rattle.station_lines.specs.ParsedLines.{parsed_of, read_as}
 use Rattle.station_lines.specs.declared.command.Command.{Command}
 use Rattle.station_lines.specs.declared.command.Command.TheVariants.{Tick, Show, Line as Received}
@@ -19,7 +19,7 @@ use Rattle.station_lines.specs.declared.parsed_line.ParsedLine.TheVariants as pa
 -- ---- a plain line
 
 -- no line that begins with another byte is read
-other-start : (c d : ℕ) (cs frame : List ℕ) → is_start d ≡ false → line_of (c ∷ cs) ≡ Ok (Frame frame) → nat_eq c d ≡ false
+other-start : (c d : ℕ) (cs frame : List ℕ) → is_start d ≡ false → line_reading (c ∷ cs) ≡ Ok (Frame frame) → nat_eq c d ≡ false
 other-start c d cs frame other h = elim (eqb_tells c d) [
   | inl same ↦
       let start : is_start c ≡ false = ap is_start same.1 ∙ other in
@@ -28,23 +28,23 @@ other-start c d cs frame other h = elim (eqb_tells c d) [
   | inr differs ↦ differs.0
 ]
 
-said-by : (long : Bool) (rest frame : List ℕ) → cond long (Err TooLong) (line_of rest) ≡ Ok (Frame frame)
+replay_command-by : (long : Bool) (rest frame : List ℕ) → cond long (Err TooLong) (line_reading rest) ≡ Ok (Frame frame)
     → cond long (Err (Faulty TooLong)) (command_by rest) ≡ Ok (Received (Frame frame))
-said-by true rest frame h = cc
-said-by false [] frame h = cc
-said-by false (c ∷ cs) frame h =
+replay_command-by true rest frame h = cc
+replay_command-by false [] frame h = cc
+replay_command-by false (c ∷ cs) frame h =
     let no_tick = other-start c 43 cs frame refl h in
     let no_question = other-start c 63 cs frame refl h in
     rw (no_tick, no_question) (ap of_line h)
 
-pub said-plain : (line frame : List ℕ) → reading_of line ≡ Ok (Frame frame) → said (Whole line) ≡ Ok (Received (Frame frame))
+pub replay_command-plain : (line frame : List ℕ) → reading_of line ≡ Ok (Frame frame) → replay_command (Whole line) ≡ Ok (Received (Frame frame))
 unfolding command_of
-said-plain line frame h = said-by (nat_lt 64 (length line)) (trimmed line) frame h
+replay_command-plain line frame h = replay_command-by (nat_lt 64 (length line)) (trimmed_line line) frame h
 
 -- a line that says a frame to a receiver says it in a replay too
 pub parsed-plain : (is_replay : Bool) (line frame : List ℕ) → reading_of line ≡ Ok (Frame frame) → parsed.Frame frame ≡ parsed_of (read_as is_replay (Whole line))
 unfolding heard_line
-parsed-plain true line frame h = ap parsed_of (sym (said-plain line frame h))
+parsed-plain true line frame h = ap parsed_of (sym (replay_command-plain line frame h))
 parsed-plain false line frame h = ap (λ said_so. parsed_of (of_line said_so)) (sym h)
 
 -- ---- what was parsed
@@ -87,7 +87,7 @@ pub record IsQuiet (r : Result Command CommandFault) : Type 0 where
   pub no_frame : frame_in r ≡ []
   pub frames : is_frame r ≡ false
   pub mode_acs : is_mode_ac r ≡ false
-  pub blanks : is_blank r ≡ false
+  pub blanks : is_blank_line r ≡ false
 
 parsed_other : (r : Result Command CommandFault) → is_other (parsed_of r) ≡ true → IsQuiet r
 parsed_other (Ok (Tick at)) e = record { no_frame = refl; frames = refl; mode_acs = refl; blanks = refl }

@@ -1,6 +1,5 @@
 -- The lines of a pump, taken one after another.
-use Rattle.std.proofs.Common.{◌≡◌, ℕ, Bool, true, false, List, [], ◌∷◌, Result, Ok, Err, refl, ◌∙◌, arith, count_by}
-use Rattle.std.specs.Prelude.{alloc_error, if◌then◌else◌}
+use Rattle.std.proofs.Common.{◌≡◌, ℕ, Bool, true, false, List, [], ◌∷◌, Result, Ok, Err, refl, ◌∙◌, arith, count_by, alloc_error, if◌then◌else◌}
 use Rattle.std.specs.declared.alloc.AllocError.{AllocError}
 use Rattle.modes_frame.specs.declared.cutter.Cut.{Cut}
 use Rattle.modes_frame.specs.declared.cutter.Cut.TheVariants.{Whole, TooLong}
@@ -10,18 +9,18 @@ use Rattle.modes_frame.specs.declared.line.LineFault.{LineFault}
 use Rattle.modes_frame.specs.Reading.{reading_of}
 use Rattle.station_journal.specs.declared.refusal.Refusal.{Refusal}
 use Rattle.station_journal.specs.declared.refusal.Refusal.TheVariants.{Unsupported, BadParity, Unassigned, Unknown, JournalFull, BookFull, NoMemory, NotLater, Repeated}
-use Rattle.station_lines.specs.Calls.{heard, heard_line}
+use Rattle.station_lines.specs.Calls.{pump_command, heard_line}
 use Rattle.station_lines.specs.Command.{of_line}
 use Rattle.station_lines.specs.Counting.{Counts, CountsNoCall, is_tick, is_show}
 use Rattle.station_lines.specs.Drawing.{Taken, ending_as, stopped_as}
 use Rattle.station_lines.specs.Feeds.{is_reply}
-use Rattle.station_lines.specs.Pump.{Wants, Pumping, Pumps, PumpsFrame, PumpsAll, answer_of, tally_of_pump, want_of, ending_of}
+use Rattle.station_lines.specs.Pump.{Wants, Pumping, Pumps, PumpsFrame, PumpsAll, pump_answer, tally_of_pump, want_of, pump_ending}
 use Rattle.station_lines.specs.Source.{SourceState}
 use Rattle.station_lines.specs.declared.command.Command.TheVariants.{Line as Received}
 use Rattle.station_lines.specs.declared.pumping.PumpFault.{PumpFault}
 use Rattle.station_lines.specs.declared.pumping.PumpFault.TheVariants as Faults
-use Rattle.station_lines.specs.declared.taking.Ended.{Ended}
-use Rattle.station_lines.specs.declared.taking.Ended.TheVariants as Ends
+use Rattle.station_lines.specs.declared.lines.Ended.{Ended}
+use Rattle.station_lines.specs.declared.lines.Ended.TheVariants as Ends
 use Rattle.station_lines.specs.declared.tally.Tally.{Tally}
 use Rattle.station_lines.proofs.ParsedLemmas.{IsQuiet}
 use Rattle.station_lines.proofs.TallyLemmas.{Counts-from}
@@ -29,7 +28,7 @@ use Rattle.station_lines.proofs.TallyLemmas.{Counts-from}
 -- ---- a line with a frame
 
 module _ {F : Type 0} (gives : F → List ℕ → Result (Unit {0}) Refusal → F → Type 0) where
-  one_want : (line : Cut) (frame : List ℕ) (answer : Result (Unit {0}) Refusal) (test : Bool) → is_reply answer ≡ test → heard line ≡ Ok (Received (Frame frame)) → answer ≡ answer → Wants (line ∷ []) (answer ∷ []) (if test then Ok tt else Err alloc_error)
+  one_want : (line : Cut) (frame : List ℕ) (answer : Result (Unit {0}) Refusal) (test : Bool) → is_reply answer ≡ test → pump_command line ≡ Ok (Received (Frame frame)) → answer ≡ answer → Wants (line ∷ []) (answer ∷ []) (if test then Ok tt else Err alloc_error)
   one_want line frame answer true is asks same = rw is refl
   one_want line frame answer false is asks same = record { front = []; last = line; frame = frame; replies = []; parts = refl; asks = asks; told = want answer is; others = refl }
     where
@@ -45,7 +44,7 @@ module _ {F : Type 0} (gives : F → List ℕ → Result (Unit {0}) Refusal → 
       want (Err (NotLater now)) e = cc
       want (Err Repeated) e = cc
 
-  pub Pumps-frame : (line : Cut) (frame : List ℕ) (before after : F) (s t : Tally) (r : Result (Unit {0}) AllocError) → PumpsFrame gives before after frame s t r → heard line ≡ Ok (Received (Frame frame))
+  pub Pumps-frame : (line : Cut) (frame : List ℕ) (before after : F) (s t : Tally) (r : Result (Unit {0}) AllocError) → PumpsFrame gives before after frame s t r → pump_command line ≡ Ok (Received (Frame frame))
       → Pumps gives (record { feed = before; tally = s }) (line ∷ []) r (record { feed = after; tally = t })
   Pumps-frame line frame before after s t r fed is = record {
     answers = fed.answer ∷ [];
@@ -76,19 +75,19 @@ of_line_show (Ok ModeAc) = refl
 of_line_show (Ok Blank) = refl
 of_line_show (Err fault) = refl
 
-pub no_tick : (line : Cut) → is_tick (heard line) ≡ false
+pub no_tick : (line : Cut) → is_tick (pump_command line) ≡ false
 unfolding heard_line
 no_tick (Whole line) = of_line_tick (reading_of line)
 no_tick TooLong = refl
 
-pub no_show : (line : Cut) → is_show (heard line) ≡ false
+pub no_show : (line : Cut) → is_show (pump_command line) ≡ false
 unfolding heard_line
 no_show (Whole line) = of_line_show (reading_of line)
 no_show TooLong = refl
 
 -- ---- a line that says nothing
 
-pub Pumps-quiet : {F : Type 0} (gives : F → List ℕ → Result (Unit {0}) Refusal → F → Type 0) (x : F) (line : Cut) (s t : Tally) → IsQuiet (heard line) → CountsNoCall s t 0 0 0
+pub Pumps-quiet : {F : Type 0} (gives : F → List ℕ → Result (Unit {0}) Refusal → F → Type 0) (x : F) (line : Cut) (s t : Tally) → IsQuiet (pump_command line) → CountsNoCall s t 0 0 0
     → Pumps gives (record { feed = x; tally = s }) (line ∷ []) (Ok tt) (record { feed = x; tally = t })
 Pumps-quiet gives x line s t quiet counts = record {
   answers = [];
@@ -113,9 +112,9 @@ none_by p none (c ∷ cs) = let here = none c in rw here (none_by p none cs)
 
 module _ {F : Type 0} (gives : F → List ℕ → Result (Unit {0}) Refusal → F → Type 0) {x z : Pumping F} {old new : SourceState} {turns : ℕ} (empty : x.tally.lines ≡ 0) where
   -- what a pump has done once all lines were taken, by its answer
-  PumpsAll-taken : (result : Result Tally PumpFault) → tally_of_pump result ≡ z.tally → Taken (Pumps gives) old new turns (ending_of result) x z (want_of result) → PumpsAll gives x.feed z.feed old new turns result
+  PumpsAll-taken : (result : Result Tally PumpFault) → tally_of_pump result ≡ z.tally → Taken (Pumps gives) old new turns (pump_ending result) x z (want_of result) → PumpsAll gives x.feed z.feed old new turns result
   PumpsAll-taken result told all =
-      let counts : Counts heard (tally_of_pump result) all.lines = rw told (Counts-from heard x.tally z.tally all.lines empty all.took.counts) in
+      let counts : Counts pump_command (tally_of_pump result) all.lines = rw told (Counts-from pump_command x.tally z.tally all.lines empty all.took.counts) in
       record {
         lines = all.lines;
         answers = all.took.answers;
@@ -123,13 +122,13 @@ module _ {F : Type 0} (gives : F → List ℕ → Result (Unit {0}) Refusal → 
         feeds = all.took.feeds;
         wants = all.took.wants;
         counts = counts;
-        no_ticks = counts.ticks_are ∙ none_by (λ l. is_tick (heard l)) no_tick all.lines;
-        no_shows = counts.shows_are ∙ none_by (λ l. is_show (heard l)) no_show all.lines;
+        no_ticks = counts.ticks_are ∙ none_by (λ l. is_tick (pump_command l)) no_tick all.lines;
+        no_shows = counts.shows_are ∙ none_by (λ l. is_show (pump_command l)) no_show all.lines;
         accepted = rw told (omega (arith, all.took.accepted, x.tally.by_kind, x.tally.by_answer));
       }
 
   -- why the lines ended
-  pub PumpsAll-ended : (ended : Ended AllocError) → Taken (Pumps gives) old new turns (ending_as ended) x z (stopped_as ended) → PumpsAll gives x.feed z.feed old new turns (answer_of ended z.tally)
+  pub PumpsAll-ended : (ended : Ended AllocError) → Taken (Pumps gives) old new turns (ending_as ended) x z (stopped_as ended) → PumpsAll gives x.feed z.feed old new turns (pump_answer ended z.tally)
   PumpsAll-ended Ends.AtEnd = PumpsAll-taken (Ok z.tally) refl
   PumpsAll-ended Ends.ReadFailed = PumpsAll-taken (Err (Faults.Read z.tally)) refl
   PumpsAll-ended Ends.TurnsOver = PumpsAll-taken (Err (Faults.TooManyTurns z.tally)) refl

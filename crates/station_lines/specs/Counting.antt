@@ -44,13 +44,13 @@ is_mode_ac (Ok (Received Blank)) = false
 is_mode_ac (Err fault) = false
 
 -- the line is of blanks alone
-abbrev pub is_blank : Result Command CommandFault → Bool
-is_blank (Ok (Tick at)) = false
-is_blank (Ok Show) = false
-is_blank (Ok (Received (Frame frame))) = false
-is_blank (Ok (Received ModeAc)) = false
-is_blank (Ok (Received Blank)) = true
-is_blank (Err fault) = false
+abbrev pub is_blank_line : Result Command CommandFault → Bool
+is_blank_line (Ok (Tick at)) = false
+is_blank_line (Ok Show) = false
+is_blank_line (Ok (Received (Frame frame))) = false
+is_blank_line (Ok (Received ModeAc)) = false
+is_blank_line (Ok (Received Blank)) = true
+is_blank_line (Err fault) = false
 
 -- the lines, read by `read`, are counted by their kinds, on top of the old counts; the others are faults
 pub record CountsLines (read : Cut → Result Command CommandFault) (old new : Tally) (lines : List Cut) : Type 0 where
@@ -59,7 +59,7 @@ pub record CountsLines (read : Cut → Result Command CommandFault) (old new : T
   pub ticks_more : new.ticks ≡ old.ticks + count_by (λ l. is_tick (read l)) lines
   pub shows_more : new.shows ≡ old.shows + count_by (λ l. is_show (read l)) lines
   pub mode_ac_more : new.mode_ac ≡ old.mode_ac + count_by (λ l. is_mode_ac (read l)) lines
-  pub blank_more : new.blank ≡ old.blank + count_by (λ l. is_blank (read l)) lines
+  pub blank_more : new.blank ≡ old.blank + count_by (λ l. is_blank_line (read l)) lines
 
 -- the tally counts these lines, read by `read`, by their kinds; the others are faults
 pub record Counts (read : Cut → Result Command CommandFault) (tally : Tally) (lines : List Cut) : Type 0 where
@@ -68,7 +68,7 @@ pub record Counts (read : Cut → Result Command CommandFault) (tally : Tally) (
   pub ticks_are : tally.ticks ≡ count_by (λ l. is_tick (read l)) lines
   pub shows_are : tally.shows ≡ count_by (λ l. is_show (read l)) lines
   pub mode_ac_are : tally.mode_ac ≡ count_by (λ l. is_mode_ac (read l)) lines
-  pub blank_are : tally.blank ≡ count_by (λ l. is_blank (read l)) lines
+  pub blank_are : tally.blank ≡ count_by (λ l. is_blank_line (read l)) lines
 
 -- one more line, with this many frames and ticks, and the answer to its call
 pub record CountsCall (old new : Tally) (frames ticks : ℕ) (is_accepted : Bool) : Type 0 where

@@ -2,7 +2,7 @@
 use Rattle.std.proofs.Common.{◌≡◌, ◌+◌, Bool, cond, List, [], ◌++◌, Result, length-append, arith, count_by}
 use Rattle.std.proofs.lemmas.List.Sums.{sum_by-append}
 use Rattle.modes_frame.specs.declared.cutter.Cut.{Cut}
-use Rattle.station_lines.specs.Counting.{is_frame, is_tick, is_show, is_mode_ac, is_blank, CountsLines}
+use Rattle.station_lines.specs.Counting.{is_frame, is_tick, is_show, is_mode_ac, is_blank_line, CountsLines}
 use Rattle.station_lines.specs.declared.command.Command.{Command}
 use Rattle.station_lines.specs.declared.command.CommandFault.{CommandFault}
 use Rattle.station_lines.specs.declared.tally.Tally.{Tally}
@@ -17,7 +17,7 @@ CountsLines-then read s t u cs ds p q = record {
   ticks_more = omega (arith, p.ticks_more, q.ticks_more, count_by-append (λ l. is_tick (read l)) cs ds);
   shows_more = omega (arith, p.shows_more, q.shows_more, count_by-append (λ l. is_show (read l)) cs ds);
   mode_ac_more = omega (arith, p.mode_ac_more, q.mode_ac_more, count_by-append (λ l. is_mode_ac (read l)) cs ds);
-  blank_more = omega (arith, p.blank_more, q.blank_more, count_by-append (λ l. is_blank (read l)) cs ds);
+  blank_more = omega (arith, p.blank_more, q.blank_more, count_by-append (λ l. is_blank_line (read l)) cs ds);
 }
 
 pub CountsLines-none : (read : Cut → Result Command CommandFault) (s : Tally) → CountsLines read s s []

@@ -3,10 +3,10 @@ use Rattle.std.specs.Prelude.{◌≡◌, ℕ, ◌*◌, ◌<◌, ◌≤◌, Bool,
 use Rattle.std.specs.Io.KnownBytes.{Appends, Consumes, Keeps, IsAtEnd}
 use Rattle.modes_frame.specs.declared.cutter.Cut.{Cut}
 use Rattle.modes_frame.specs.Lines.{cuts, ended_cuts, pending}
-use Rattle.station_report.specs.Sink.{counted}
+use Rattle.station_report.specs.Sink.{count_after}
 use Rattle.station_lines.specs.Source.{SourceState, one_more, counted_up, longest_read}
-use Rattle.station_lines.specs.declared.taking.Ended.{Ended}
-use Rattle.station_lines.specs.declared.taking.Ended.TheVariants as Ends
+use Rattle.station_lines.specs.declared.lines.Ended.{Ended}
+use Rattle.station_lines.specs.declared.lines.Ended.TheVariants as Ends
 
 -- it gave these bytes
 abbrev pub Gives : SourceState → SourceState → List ℕ → Type 0
@@ -22,7 +22,7 @@ pub record Gathers (old new : SourceState) (turns : ℕ) (bytes : List ℕ) (mad
   pub some : 0 < made
   pub few : made ≤ turns
   pub reads : new.reads ≡ counted_up made old.reads
-  pub ends : new.ends ≡ counted (not is_over) old.ends
+  pub ends : new.ends ≡ count_after (not is_over) old.ends
   pub over : is_over ≡ true → IsAtEnd new.left
   pub failures : new.failures ≡ old.failures
   pub asked : length bytes ≤ longest_read * made
@@ -34,7 +34,7 @@ pub record ReadsMore (old new : SourceState) (before after : List ℕ) (n : ℕ)
   pub many : length bytes ≡ n
   pub given : Gives old new bytes
   pub reads : new.reads ≡ one_more old.reads
-  pub ends : new.ends ≡ counted (nat_lt 0 n) old.ends
+  pub ends : new.ends ≡ count_after (nat_lt 0 n) old.ends
   pub over : n ≡ 0 → IsAtEnd new.left
   pub failures : new.failures ≡ old.failures
   pub asked : n ≤ longest_read
@@ -76,7 +76,7 @@ pub record Draws (old new : SourceState) (turns : ℕ) (ending : Ending) (lines 
   pub front : cuts given ≡ lines ++ left_out
   pub ends : EndsAs given lines left_out turns old new ending
   -- a read failed exactly where that ended the call. At most `turns` reads were made, of at most 512 bytes each
-  pub failures : new.failures ≡ counted (not (is_read_failed ending)) old.failures
+  pub failures : new.failures ≡ count_after (not (is_read_failed ending)) old.failures
   pub reads : (made : ℕ) × (made ≤ turns) × (new.reads ≡ counted_up made old.reads) × (length given ≤ longest_read * made)
 
 -- the lines that end in `bytes`, after the bytes before them, were taken, as Took says

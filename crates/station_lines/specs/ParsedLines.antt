@@ -2,7 +2,7 @@
 use Rattle.std.specs.Prelude.{Bool, true, false, Result, Ok, Err}
 use Rattle.modes_frame.specs.declared.cutter.Cut.{Cut}
 use Rattle.modes_frame.specs.declared.line.Line.TheVariants.{Frame, ModeAc, Blank}
-use Rattle.station_lines.specs.Calls.{said, heard}
+use Rattle.station_lines.specs.Calls.{replay_command, pump_command}
 use Rattle.station_lines.specs.declared.command.Command.{Command}
 use Rattle.station_lines.specs.declared.command.Command.TheVariants.{Tick, Show, Line as Received}
 use Rattle.station_lines.specs.declared.command.CommandFault.{CommandFault}
@@ -11,8 +11,8 @@ use Rattle.station_lines.specs.declared.parsed_line.ParsedLine.TheVariants as pa
 
 -- what a line says in a replay, or else to a pump
 abbrev pub read_as : Bool → Cut → Result Command CommandFault
-read_as true = said
-read_as false = heard
+read_as true = replay_command
+read_as false = pump_command
 
 -- what a line says, once it is parsed; all faults are one
 abbrev pub parsed_of : Result Command CommandFault → ParsedLine

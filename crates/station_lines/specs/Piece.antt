@@ -3,5 +3,5 @@ use Rattle.std.specs.Prelude.{ℕ, List, take}
 use Rattle.station_lines.specs.declared.piece.Piece.{Piece}
 
 -- its bytes
-abbrev pub held : Piece → List ℕ
-held piece = take piece.count piece.bytes
+abbrev pub piece_bytes : Piece → List ℕ
+piece_bytes piece = take piece.count piece.bytes

@@ -6,7 +6,7 @@ use Rattle.std.proofs.lemmas.Bool.{and_from}
 use Rattle.std.proofs.lemmas.List.Folds.{list_all-append}
 use Rattle.modes_frame.specs.declared.cutter.Cut.{Cut}
 use Rattle.station_journal.specs.declared.refusal.Refusal.{Refusal}
-use Rattle.station_lines.specs.Calls.{heard, frame_in, frames_of}
+use Rattle.station_lines.specs.Calls.{pump_command, frame_in, frames_of}
 use Rattle.station_lines.specs.CountingLaws.{count_by-append, CountsLines-then, CountsLines-none}
 use Rattle.station_lines.specs.Feeds.{Feeds, is_reply}
 use Rattle.station_lines.specs.Pump.{Wants, Pumping, Pumps}
@@ -21,7 +21,7 @@ Feeds-then gives x y z (f ∷ fs) gs (u ∷ us) vs p q = (p.0, p.1, Feeds-then g
 
 pub frames_of-append : (cs ds : List Cut) → frames_of (cs ++ ds) ≡ frames_of cs ++ frames_of ds
 frames_of-append [] ds = refl
-frames_of-append (c ∷ cs) ds = ap (λ fs. frame_in (heard c) ++ fs) (frames_of-append cs ds) ∙ sym (append_assoc (frame_in (heard c)) (frames_of cs) (frames_of ds))
+frames_of-append (c ∷ cs) ds = ap (λ fs. frame_in (pump_command c) ++ fs) (frames_of-append cs ds) ∙ sym (append_assoc (frame_in (pump_command c)) (frames_of cs) (frames_of ds))
 
 -- ---- lines taken
 
@@ -44,9 +44,9 @@ module _ {F : Type 0} (gives : F → List ℕ → Result (Unit {0}) Refusal → 
     answers = p.answers ++ q.answers;
     feeds = subst (λ fs. Feeds gives x.feed fs (p.answers ++ q.answers) z.feed) (sym (frames_of-append cs ds)) (Feeds-then gives x.feed y.feed z.feed (frames_of cs) (frames_of ds) p.answers q.answers p.feeds q.feeds);
     wants = Wants-then cs ds p.answers q.answers r p.wants q.wants;
-    counts = CountsLines-then heard x.tally y.tally z.tally cs ds p.counts q.counts;
+    counts = CountsLines-then pump_command x.tally y.tally z.tally cs ds p.counts q.counts;
     accepted = omega (arith, p.accepted, q.accepted, count_by-append is_ok p.answers q.answers);
   }
 
   pub Pumps-none : (x : Pumping F) → Pumps gives x [] (Ok tt) x
-  Pumps-none x = record { answers = []; feeds = refl; wants = refl; counts = CountsLines-none heard x.tally; accepted = omega arith }
+  Pumps-none x = record { answers = []; feeds = refl; wants = refl; counts = CountsLines-none pump_command x.tally; accepted = omega arith }

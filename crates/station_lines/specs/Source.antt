@@ -1,6 +1,6 @@
 -- What a source reports.
 use Rattle.std.specs.Prelude.{ℕ, zero, suc, ◌==◌, ◌&&◌, not, Bool, false, List, Option, Result, Ok, Err}
-use Rattle.station_report.specs.Sink.{counted}
+use Rattle.station_report.specs.Sink.{count_after}
 
 -- what a source has left and has given
 pub record SourceState : Type 0 where
@@ -23,7 +23,7 @@ is_end (Err e) room = false
 
 -- a stored count and one more, up to 2^64 - 1
 abbrev pub one_more : ℕ → ℕ
-one_more n = counted false n
+one_more n = count_after false n
 
 -- a stored count and n more
 abbrev pub counted_up : ℕ → ℕ → ℕ

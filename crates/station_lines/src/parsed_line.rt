@@ -1,6 +1,6 @@
 //! Lines that are parsed before they are taken.
 ghost use Rattle.std.specs.Prelude.{◌≡◌};
-ghost use Rattle.station_lines.specs.Calls.{heard, said};
+ghost use Rattle.station_lines.specs.Calls.{pump_command, replay_command};
 ghost use Rattle.station_lines.specs.ParsedLines.{parsed_of};
 ghost use Rattle.station_lines.specs.declared.command.Command.TheVariants.{Line as Received};
 
@@ -29,7 +29,7 @@ const _: () = prove!(size_of::<ParsedLine>() <= 40);
 
 /// Parses a line of a replay, as it was cut. One of more than 64 bytes is a fault.
 pub fn parse_said(cut: &Cut) -> ParsedLine
-    ensures { result ≡ parsed_of (said cut.now) }
+    ensures { result ≡ parsed_of (replay_command cut.now) }
 {
     match cut {
         Cut::Whole(line) => match read_command_short(line.bytes()) {
@@ -46,7 +46,7 @@ pub fn parse_said(cut: &Cut) -> ParsedLine
 /// `?`.
 #[tactic(auto, unfolding(crate::specs::Calls::heard_line))]
 pub fn parse_heard(cut: &Cut) -> ParsedLine
-    ensures { result ≡ parsed_of (heard cut.now) }
+    ensures { result ≡ parsed_of (pump_command cut.now) }
 {
     match cut {
         Cut::Whole(line) => match read_cut(line) {

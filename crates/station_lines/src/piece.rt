@@ -30,7 +30,7 @@ pub(crate) struct Gathered {
 }
 
 impl Piece {
-    ghost use Rattle.station_lines.specs.Piece.{held};
+    ghost use Rattle.station_lines.specs.Piece.{piece_bytes};
 
     /// A piece of no bytes.
     pub(crate) fn new() -> Self {
@@ -42,7 +42,7 @@ impl Piece {
 
     /// Its bytes.
     pub(crate) fn as_slice(&self) -> &[u8]
-        ensures value { result.now ≡ held self.now }
+        ensures value { result.now ≡ piece_bytes self.now }
         ensures few { length result.now ≤ longest_piece }
     {
         &self.bytes[..self.count]
@@ -58,7 +58,7 @@ impl Piece {
     // Reads once, behind the bytes that it has. Answers how many bytes came.
     fn read_more<S: Source>(&mut self, from: &mut S) -> Result<usize, Failed>
         requires room { self.old.count + 512 ≤ longest_piece }
-        ensures ok { IfOk result (λ n. ReadsMore (S.state from.old) (S.state from.new) (held self.old) (held self.new) n) }
+        ensures ok { IfOk result (λ n. ReadsMore (S.state from.old) (S.state from.new) (piece_bytes self.old) (piece_bytes self.new) n) }
         ensures err { OnErr result (FailsOnce (S.state from.old) (S.state from.new)) }
         ensures at_hand { (S.state from.old).at_hand ≡ true → is_ok result ≡ true }
     {
@@ -73,7 +73,7 @@ impl Piece {
     pub(crate) fn gather<S: Source>(&mut self, from: &mut S, turns: u32) -> Result<Gathered, Failed>
         requires { 0 < turns }
         ensures ok { IfOk result (λ g.
-            Gathers (S.state from.old) (S.state from.new) turns (held self.new) g.reads g.is_over) }
+            Gathers (S.state from.old) (S.state from.new) turns (piece_bytes self.new) g.reads g.is_over) }
         ensures err { OnErr result (FailsOnce (S.state from.old) (S.state from.new)) }
     {
         self.count = 0;

@@ -1,7 +1,7 @@
 //! Sources of bytes.
 ghost use Rattle.std.specs.Prelude.{◌≡◌, ◌≤◌, true, IfOk, is_ok, not, length};
 ghost use Rattle.std.specs.Io.KnownBytes.{ReadConsumes, WriteAppends};
-ghost use Rattle.station_report.specs.Sink.{counted};
+ghost use Rattle.station_report.specs.Sink.{count_after};
 ghost use Rattle.station_lines.specs.Source.{SourceState, is_end, one_more};
 
 use station_report::Failed;
@@ -26,7 +26,7 @@ pub trait Source {
         ensures given { WriteAppends (state self.old).given (state self.new).given result buffer.new }
         ensures reads { (state self.new).reads ≡ one_more (state self.old).reads }
         ensures ends { (state self.new).ends
-            ≡ counted (not (is_end result (length buffer.new))) (state self.old).ends }
-        ensures failures { (state self.new).failures ≡ counted (is_ok result) (state self.old).failures }
+            ≡ count_after (not (is_end result (length buffer.new))) (state self.old).ends }
+        ensures failures { (state self.new).failures ≡ count_after (is_ok result) (state self.old).failures }
         ensures at_hand { (state self.old).at_hand ≡ true → is_ok result ≡ true };
 }

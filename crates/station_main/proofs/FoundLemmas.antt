@@ -1,6 +1,5 @@
 -- What an option has, and which element of a list a search finds.
-use Rattle.std.proofs.Common.{rules, ◌≡◌, ◌⊎◌, inl, inr, Bool, true, false, List, [], ◌∷◌, Option, Some, None, ap}
-use Rattle.std.specs.Prelude.{find, is_some, cond}
+use Rattle.std.proofs.Common.{rules, ◌≡◌, ◌⊎◌, inl, inr, Bool, true, false, List, [], ◌∷◌, Option, Some, None, ap, find, is_some, cond}
 use Rattle.std.specs.Option.{option_map_or}
 
 pub some_same : {X : Type 0} (x y : X) → Some x ≡ Some y → x ≡ y

@@ -1,6 +1,5 @@
 -- Lists whose items are passed one by one from a list.
-use Rattle.std.proofs.Common.{◌≡◌, ◌∙◌, ◌∷◌, ◌++◌, List, [], Option, Some, Result, append_assoc, append-nil, arith, ap, get_or, is_some, length, map, refl, suc, true, subst, sym}
-use Rattle.std.specs.Prelude.{All}
+use Rattle.std.proofs.Common.{◌≡◌, ◌∙◌, ◌∷◌, ◌++◌, List, [], Option, Some, Result, append_assoc, append-nil, arith, ap, get_or, is_some, length, map, refl, suc, true, subst, sym, All}
 use Rattle.station_lines.specs.declared.pumping.PumpFault.{PumpFault}
 use Rattle.station_lines.specs.declared.tally.Tally.{Tally}
 use Rattle.std.proofs.lemmas.List.{map_push}

@@ -1,6 +1,5 @@
 -- The receivers of a round: their answers, the numbers of their seats, and what a closed station has served.
-use Rattle.std.proofs.Common.{zero, suc, ◌≡◌, ◌∙◌, ℕ, ◌+◌, ◌<◌, Bool, true, false, not, nat_lt, List, [], ◌∷◌, ◌++◌, Option, Some, None, Result, is_some, length, map, get_or, refl, sym, ap, subst, arith, rules}
-use Rattle.std.specs.Prelude.{All}
+use Rattle.std.proofs.Common.{zero, suc, ◌≡◌, ◌∙◌, ℕ, ◌+◌, ◌<◌, Bool, true, false, not, nat_lt, List, [], ◌∷◌, ◌++◌, Option, Some, None, Result, is_some, length, map, get_or, refl, sym, ap, subst, arith, rules, All}
 use Rattle.std.proofs.lemmas.Bool.Decides.{nat_tests}
 use lib.ListN.{get_or-append}
 use Rattle.std.proofs.lemmas.List.{get_or_at, get_or-map, length-map}

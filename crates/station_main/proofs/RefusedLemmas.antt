@@ -4,7 +4,7 @@ use Rattle.clap.specs.Words.{App, IsAmong, HasKind, Text, fault_of, kind_of, tak
 use Rattle.clap.specs.declared.error.Error.{Error}
 use Rattle.clap.specs.declared.error.kind.ErrorKind.TheVariants as kind
 use Rattle.station_main.specs.Command.{IsOwnFault, IsWordsFault, reopens_rounds}
-use Rattle.station_main.specs.Jobs.{HasNoMemory, IsObeyed, RefusesBoth, Says, is_shown}
+use Rattle.station_main.specs.Jobs.{HasNoMemory, IsObeyed, RefusesBoth, WritesText, is_shown}
 use Rattle.station_main.specs.Telling.{Told, reopens_rounds_text}
 use Rattle.station_main.specs.declared.words.WordsFault.{WordsFault}
 use Rattle.station_main.specs.declared.words.WordsFault.TheVariants as words_fault
@@ -25,7 +25,7 @@ words_fault_of made app words error fault same (inr other) passes (inr among) =
 -- what a command line leaves whose answer of `clap` is written, or for whose text there was no memory
 pub refused_obeyed : (app : App) (words : List Text) (origin : ℕ) (input before : Option (List ℕ)) (after : Option (Option (List ℕ))) (alarm : Option (List ℕ)) (err_old err_new : Told) (status : ℕ) (fault : WordsFault) (error : Error)
     → fault ≡ words_fault.Clap error → IsWordsFault app words fault
-    → HasNoMemory after err_old err_new status ⊎ ((text : List ℕ) × Says (is_shown (kind_of error)) text before after err_old err_new status)
+    → HasNoMemory after err_old err_new status ⊎ ((text : List ℕ) × WritesText (is_shown (kind_of error)) text before after err_old err_new status)
     → IsObeyed app words origin input before after alarm err_old err_new status
 refused_obeyed app words origin input before after alarm err_old err_new status fault error same said (inl none) = inl (inr (inl none))
 refused_obeyed app words origin input before after alarm err_old err_new status fault error same said (inr written) =
@@ -34,7 +34,7 @@ refused_obeyed app words origin input before after alarm err_old err_new status 
 
 -- what a command line leaves that is refused as both `--reopen` and `--rounds` are given
 pub refused_both : (app : App) (words : List Text) (before : Option (List ℕ)) (after : Option (Option (List ℕ))) (err_old err_new : Told) (status : ℕ) (fault : WordsFault)
-    → fault ≡ words_fault.ReopensRounds → IsWordsFault app words fault → Says false reopens_rounds_text before after err_old err_new status
+    → fault ≡ words_fault.ReopensRounds → IsWordsFault app words fault → WritesText false reopens_rounds_text before after err_old err_new status
     → RefusesBoth app words before after err_old err_new status
 refused_both app words before after err_old err_new status fault same said says =
     let given : (fault_of app words ≡ []) × (reopens_rounds app words ≡ true) = subst (λ (f : WordsFault). IsWordsFault app words f) same said in

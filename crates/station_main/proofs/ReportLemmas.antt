@@ -1,11 +1,10 @@
 -- Showings of the reporter, one more at the end.
-use Rattle.std.proofs.Common.{rules, ◌≡◌, ◌∙◌, ◌⊎◌, inl, inr, ℕ, ◌+◌, ◌≤◌, ◌<◌, Bool, true, false, List, [], ◌∷◌, ◌++◌, Option, Some, None, Result, Ok, Err, IfSome, refl, sym, ap, subst, append_assoc, append-nil, map}
-use Rattle.std.specs.Prelude.{is_err, IfOk, IfErr}
+use Rattle.std.proofs.Common.{rules, ◌≡◌, ◌∙◌, ◌⊎◌, inl, inr, ℕ, ◌+◌, ◌≤◌, ◌<◌, Bool, true, false, List, [], ◌∷◌, ◌++◌, Option, Some, None, Result, Ok, Err, IfSome, refl, sym, ap, subst, append_assoc, append-nil, map, is_err, IfOk, IfErr}
 use Rattle.std.specs.Io.KnownBytes.{Appends}
 use Rattle.std.proofs.KnownBytes.{Appends-nil, Appends-trans}
 use Rattle.station_journal.specs.declared.entry.Entry.TheVariants.{Tick}
 use Rattle.station_journal.specs.declared.refusal.Refusal.{Refusal}
-use Rattle.station_report.specs.Sink.{SinkState, counted}
+use Rattle.station_report.specs.Sink.{SinkState, count_after}
 use Rattle.station_report.specs.declared.formats.Format.{Format}
 use Rattle.station_report.specs.declared.sinks.WriteFault.{WriteFault}
 use Rattle.station_desk.specs.Start.{Start}
@@ -13,12 +12,12 @@ use Rattle.station_shared.specs.Seats.{Seated, Accepted, Refused, Looks}
 use Rattle.station_desk.specs.History.{Known}
 use Rattle.station_main.specs.Reporter.{Acting, DoesAct, IsActAt, IsShowing, IsLater, Reports, Showing, Showings, Ticks, after_table, after_tick, due_moments, has_come, looks_of, seat_after}
 use Rattle.station_main.specs.Recorded.{IfRecording, PrintsAndRecords, Recording, Records, seen_by}
-use Rattle.station_main.specs.declared.reporter.Reported.{Reported}
+use Rattle.station_main.specs.declared.reporter.ReporterResult.{ReporterResult}
 use Rattle.station_main.specs.declared.schedule.Act.{Act}
 use Rattle.station_main.specs.declared.schedule.Act.TheVariants as act
 use Rattle.station_main.specs.declared.schedule.Due.{Due}
 use Rattle.station_main.specs.declared.schedule.Tables.{Tables}
-use Rattle.station_main.specs.Tables.{Prints, PassesOver, TakesTexts, shown, texts, failures_after}
+use Rattle.station_main.specs.Tables.{Prints, PassesOver, TakesTexts, look_text, texts, failures_after}
 use Rattle.station_main.proofs.RecordedLemmas.{no-more-records, no-records, one-more-look}
 use Rattle.station_main.proofs.LookLemmas.{begins-trans}
 use Rattle.station_main.proofs.ReportTimeLemmas.{acts-then, due-then, nothing-due, table-due, tick-due}
@@ -38,9 +37,9 @@ looks_snoc : (showings : List Showing) (showing : Showing) → looks_of (showing
 looks_snoc [] showing = refl
 looks_snoc (r ∷ rs) showing = ap (λ (ls : List (Option Seated)). r.look ∷ ls) (looks_snoc rs showing)
 
-texts_snoc : (format : Format) (station : Start) (looks : List (Option Seated)) (look : Option Seated) → texts format station (looks ++ look ∷ []) ≡ texts format station looks ++ shown format station look
-texts_snoc format station [] look = append-nil (shown format station look)
-texts_snoc format station (l ∷ ls) look = ap (λ t. shown format station l ++ t) (texts_snoc format station ls look) ∙ sym (append_assoc (shown format station l) (texts format station ls) (shown format station look))
+texts_snoc : (format : Format) (station : Start) (looks : List (Option Seated)) (look : Option Seated) → texts format station (looks ++ look ∷ []) ≡ texts format station looks ++ look_text format station look
+texts_snoc format station [] look = append-nil (look_text format station look)
+texts_snoc format station (l ∷ ls) look = ap (λ t. look_text format station l ++ t) (texts_snoc format station ls look) ∙ sym (append_assoc (look_text format station l) (texts format station ls) (look_text format station look))
 
 -- one more table, by what its printing ensures
 pub record PrintsOne (format : Format) (station : Start) (looks : List (Option Seated)) (old new : Seated) (before after : SinkState) (failed_before : ℕ) (was is : Option Recording) (result : Result (Unit {0}) WriteFault) : Type 0 where
@@ -72,7 +71,7 @@ printed format station looks old new start before after was is (Err fault) so_fa
     cut = prints.takes.bytes.parts;
     grown = Appends-trans start.taken before.taken after.taken _ _ so_far prints.takes.bytes.grown;
   };
-  failures = prints.takes.failures ∙ ap (λ n. counted false n) same;
+  failures = prints.takes.failures ∙ ap (λ n. count_after false n) same;
   records = records;
 }
 
@@ -246,7 +245,7 @@ one_more_look station tables first due given given_now old mid new before after 
 }
 
 -- whatever is due is done
-pub one_more_act : {O K : Type 0} (state : O → SinkState) (record_of : K → Option Recording) (station : Start) (tables : Tables) (first : Due) (now : ℕ) (given given_before given_now : Option (List ℕ)) (old : Seated) (start : SinkState) (from : Option Recording) (done : Act) (was is : Reported Seated O K)
+pub one_more_act : {O K : Type 0} (state : O → SinkState) (record_of : K → Option Recording) (station : Start) (tables : Tables) (first : Due) (now : ℕ) (given given_before given_now : Option (List ℕ)) (old : Seated) (start : SinkState) (from : Option Recording) (done : Act) (was is : ReporterResult Seated O K)
     → ReportsTo station tables first was.due given given_before old was.seat start (state was.out) from (record_of was.beside) was.has_failed → was.has_failed ≡ false → Appends given_before given_now (now ∷ []) → IsActAt tables.pace was.due now done
     → DoesAct state record_of tables.format station done was is → ReportsTo station tables first is.due given given_now old is.seat start (state is.out) from (record_of is.beside) is.has_failed
 one_more_act state record_of station tables first now given given_before given_now old start from (act.Sleep pause) was is so_far well gives due does =
@@ -259,7 +258,7 @@ one_more_act state record_of station tables first now given given_before given_n
     rw (does.4, does.5, due.2) (one_more_showing station tables first was.due now given given_before given_now old was.seat does.0 is.seat start (state was.out) (state is.out) from (record_of was.beside) (record_of is.beside) does.1 (rw well at so_far) gives due.0 ticks does.3)
 
 -- nothing that it does asks for a hand-over
-pub never_asks : {O K : Type 0} (state : O → SinkState) (record_of : K → Option Recording) (format : Format) (station : Start) (done : Act) (was is : Reported Seated O K) → DoesAct state record_of format station done was is → is.asked_at ≡ was.asked_at
-never_asks {O} {K} state record_of format station (act.Sleep pause) was is does = ap (λ (r : Reported Seated O K). r.asked_at) does
+pub never_asks : {O K : Type 0} (state : O → SinkState) (record_of : K → Option Recording) (format : Format) (station : Start) (done : Act) (was is : ReporterResult Seated O K) → DoesAct state record_of format station done was is → is.asked_at ≡ was.asked_at
+never_asks {O} {K} state record_of format station (act.Sleep pause) was is does = ap (λ (r : ReporterResult Seated O K). r.asked_at) does
 never_asks state record_of format station (act.Tick at next) was is does = does.5
 never_asks state record_of format station (act.Print at next) was is does = does.6

@@ -1,7 +1,6 @@
 -- What a reporter does at the times that its clock gives, one more at the end.
-use Rattle.std.proofs.Common.{rules, ◌≡◌, ◌∙◌, ℕ, ◌≤◌, ◌<◌, Bool, true, false, List, [], ◌∷◌, ◌++◌, refl, sym, ap, cond}
+use Rattle.std.proofs.Common.{rules, ◌≡◌, ◌∙◌, ℕ, ◌≤◌, ◌<◌, Bool, true, false, List, [], ◌∷◌, ◌++◌, refl, sym, ap, cond, nat_le}
 use Rattle.std.proofs.lemmas.Bool.{lt-leb, le-leb}
-use Rattle.std.specs.Prelude.{nat_le}
 use Rattle.station_main.specs.Reporter.{Acting, after_table, after_tick, due_after, due_moments, has_come}
 use Rattle.station_main.specs.declared.schedule.Due.{Due}
 use Rattle.station_main.specs.declared.schedule.Pace.{Pace}

@@ -19,7 +19,7 @@ use Rattle.station_lines.specs.declared.tally.Tally.{Tally}
 use Rattle.station_desk.proofs.StartLemmas.{sound_at, sound_front}
 use Rattle.station_main.specs.Limits.{program_limits}
 use Rattle.station_main.specs.Recorded.{Recording}
-use Rattle.station_main.specs.Rounds.{Asked, Begun, Given, HandsOn, IsCutShort, IsHandOver, IsOver, KeepsRecent, Runs, Stations}
+use Rattle.station_main.specs.Rounds.{RunPlan, Begun, RoundStart, HandsOn, IsCutShort, IsHandOver, IsOver, KeepsRecent, RunsRounds, Stations}
 use Rattle.station_main.specs.Run.{Closing, EndsEarly}
 use Rattle.station_main.specs.Sums.{AddsEach}
 use Rattle.station_main.specs.Telling.{Told}
@@ -35,7 +35,7 @@ wants_memory limits base entries (Unsound k) sound refuses other =
 wants_memory limits base entries NoMemory sound refuses other = other refl
 
 -- what is kept of a station under the limits of the program may be resumed from under them
-pub kept_sound : (start : Start) (journal : List Entry) (kept : Given) (was recorded : Option Recording) → start.limits ≡ program_limits → IsLegal (log_of start journal) → KeepsRecent start journal kept was recorded
+pub kept_sound : (start : Start) (journal : List Entry) (kept : RoundStart) (was recorded : Option Recording) → start.limits ≡ program_limits → IsLegal (log_of start journal) → KeepsRecent start journal kept was recorded
     → IsSound program_limits kept.base (reverse kept.entries)
 kept_sound start journal kept was recorded limits legal is =
     let base = base_of start.history in
@@ -59,7 +59,7 @@ pub hand_over_answers : (begun next : Begun) (before after : SinkState) (was is 
 hand_over_answers begun next before after was is hands = adds_length begun.answers hands.serves.counted next.answers hands.serves.sums
 
 -- and of the last station of a round
-pub round_sound : (more : ℕ) (begun : Begun) (start : Start) (closing : Closing) (before : SinkState) (after : Option (List ℕ)) (was shown recorded : Option Recording) (err_old err_new : Told) (status : ℕ) (kept : Given)
+pub round_sound : (more : ℕ) (begun : Begun) (start : Start) (closing : Closing) (before : SinkState) (after : Option (List ℕ)) (was shown recorded : Option Recording) (err_old err_new : Told) (status : ℕ) (kept : RoundStart)
     → Stations more begun start closing before after was shown err_old err_new status → KeepsRecent start closing.journal kept shown recorded → IsSound program_limits kept.base (reverse kept.entries)
 round_sound zero begun start closing before after was shown recorded err_old err_new status kept last is = kept_sound start closing.journal kept shown recorded last.serves.goes_on.limits last.serves.closed.closes.legal is
 round_sound (suc more) begun start closing before after was shown recorded err_old err_new status kept (next, mid, mid_recorded, hands, rest) is =
@@ -98,27 +98,27 @@ receiver_seats entries count inputs seats others last split made many =
 
 -- ---- rounds
 
-cut_short : (asked : Asked) (more : ℕ) (given : Given) (before : Option (List ℕ)) (after : Option (Option (List ℕ))) (was is : Option Recording) (err_old err_new : Told) (status : ℕ) → 0 < more
-    → IsCutShort asked given before after was is err_old err_new status → Runs asked more given before after was is err_old err_new status
+cut_short : (asked : RunPlan) (more : ℕ) (given : RoundStart) (before : Option (List ℕ)) (after : Option (Option (List ℕ))) (was is : Option Recording) (err_old err_new : Told) (status : ℕ) → 0 < more
+    → IsCutShort asked given before after was is err_old err_new status → RunsRounds asked more given before after was is err_old err_new status
 cut_short asked zero given before after was is err_old err_new status some cut = absurd (omega (arith, some))
 cut_short asked (suc more) given before after was is err_old err_new status some cut = inr cut
 
 -- a round that ends the run is the last where none is to come, and else cuts it short
-pub over_runs : (is_last : Bool) (asked : Asked) (more : ℕ) (given : Given) (before : Option (List ℕ)) (after : Option (Option (List ℕ))) (was is : Option Recording) (err_old err_new : Told) (status : ℕ) → (is_last ≡ true → more ≡ 0) → (is_last ≡ false → 0 < more)
-    → IsOver is_last asked given before after was is err_old err_new status → Runs asked more given before after was is err_old err_new status
+pub over_runs : (is_last : Bool) (asked : RunPlan) (more : ℕ) (given : RoundStart) (before : Option (List ℕ)) (after : Option (Option (List ℕ))) (was is : Option Recording) (err_old err_new : Told) (status : ℕ) → (is_last ≡ true → more ≡ 0) → (is_last ≡ false → 0 < more)
+    → IsOver is_last asked given before after was is err_old err_new status → RunsRounds asked more given before after was is err_old err_new status
 over_runs true asked more given before after was is err_old err_new status none some over =
-    subst (λ (n : ℕ). Runs asked n given before after was is err_old err_new status) (sym (none refl)) over
+    subst (λ (n : ℕ). RunsRounds asked n given before after was is err_old err_new status) (sym (none refl)) over
 over_runs false asked more given before after was is err_old err_new status none some over = cut_short asked more given before after was is err_old err_new status (some refl) over
 
-pub one_more_round : (asked : Asked) (more left : ℕ) (given kept : Given) (before mid : Option (List ℕ)) (after : Option (Option (List ℕ))) (was recorded is : Option Recording) (err_old err_mid err_new : Told) (status : ℕ)
-    → more ≡ left + 1 → HandsOn asked given before mid was recorded err_old err_mid kept → Runs asked left kept mid after recorded is err_mid err_new status → Runs asked more given before after was is err_old err_new status
+pub one_more_round : (asked : RunPlan) (more left : ℕ) (given kept : RoundStart) (before mid : Option (List ℕ)) (after : Option (Option (List ℕ))) (was recorded is : Option Recording) (err_old err_mid err_new : Told) (status : ℕ)
+    → more ≡ left + 1 → HandsOn asked given before mid was recorded err_old err_mid kept → RunsRounds asked left kept mid after recorded is err_mid err_new status → RunsRounds asked more given before after was is err_old err_new status
 one_more_round asked zero left given kept before mid after was recorded is err_old err_mid err_new status one hands runs = absurd (omega (arith, one))
 one_more_round asked (suc more) left given kept before mid after was recorded is err_old err_mid err_new status one hands runs =
     let same : left ≡ more = omega (arith, one) in
-    inl (mid, recorded, err_mid, kept, hands, subst (λ k. Runs asked k kept mid after recorded is err_mid err_new status) same runs)
+    inl (mid, recorded, err_mid, kept, hands, subst (λ k. RunsRounds asked k kept mid after recorded is err_mid err_new status) same runs)
 
 -- a round that ends before its first station, or for want of memory between two
-pub over_early : (is_last : Bool) (asked : Asked) (given : Given) (before : Option (List ℕ)) (after : Option (Option (List ℕ))) (was is : Option Recording) (err_old err_new : Told) (status : ℕ) → after ≡ None
+pub over_early : (is_last : Bool) (asked : RunPlan) (given : RoundStart) (before : Option (List ℕ)) (after : Option (Option (List ℕ))) (was is : Option Recording) (err_old err_new : Told) (status : ℕ) → after ≡ None
     → EndsEarly asked.paths err_old err_new status → (status ≤ 1) × IsOver is_last asked given before after was is err_old err_new status
 over_early true asked given before None was is err_old err_new status gone early = (omega (arith, early.status_is), early)
 over_early false asked given before None was is err_old err_new status gone early = (omega (arith, early.status_is), early)

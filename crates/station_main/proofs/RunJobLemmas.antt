@@ -1,6 +1,5 @@
 -- What the job `run` leaves.
-use Rattle.std.proofs.Common.{rules, ◌≡◌, ◌∙◌, ◌⊎◌, inl, inr, ℕ, Bool, true, false, List, [], ◌∷◌, ◌++◌, Option, Some, None, Result, Ok, Err, zero, suc, length-append, refl, sym, ap, subst, append-nil, take, drop, length, arith}
-use Rattle.std.specs.Prelude.{is_err, nat_lt, not}
+use Rattle.std.proofs.Common.{rules, ◌≡◌, ◌∙◌, ◌⊎◌, inl, inr, ℕ, Bool, true, false, List, [], ◌∷◌, ◌++◌, Option, Some, None, Result, Ok, Err, zero, suc, length-append, refl, sym, ap, subst, append-nil, take, drop, length, arith, is_err, nat_lt, not}
 use Rattle.std.specs.Io.KnownBytes.{append_known}
 use Rattle.std.proofs.Math.Seq.{take-append_seam}
 use Rattle.station_report.specs.Sink.{SinkState}
@@ -10,7 +9,7 @@ use Rattle.station_desk.specs.Start.{Start}
 use Rattle.station_shared.specs.Seats.{Seated, Looks, new_seat, new_seats}
 use Rattle.station_main.specs.Recorded.{IfRecording, Recording, Records, seen_by}
 use Rattle.station_main.specs.Reporter.{MayHandOver, ReportsByAClock, looks_of}
-use Rattle.station_main.specs.Run.{LastLook, Leaves, PrintsLast}
+use Rattle.station_main.specs.Run.{LastLook, ReporterLeaves, PrintsLast}
 use Rattle.station_main.specs.Tables.{TakesTexts}
 use Rattle.station_main.specs.declared.duties.Duties.{Duties}
 use Rattle.station_main.specs.declared.schedule.Due.{Due}
@@ -31,7 +30,7 @@ one_look station mid new (Some l) (inr p) = let same : new ≡ l = cc in (Some l
 
 pub leaves : (station : Start) (duties : Duties) (next : Due) (asked_at : Option ℕ) (first mid closing : Seated) (start before : SinkState) (after : Option (List ℕ)) (was shown is : Option Recording) (failed_before has_failed : Bool)
     → ReportsByAClock station duties next asked_at first mid start before was shown failed_before → PrintsLast duties.tables.format station mid closing before failed_before after shown is has_failed
-    → Leaves station duties first closing start.taken after was is has_failed
+    → ReporterLeaves station duties first closing start.taken after was is has_failed
 leaves station duties next asked_at first mid closing start before after was shown is true has_failed by_clock prints =
     let reports = by_clock.reports in
     let looks = looks_of reports.showings in

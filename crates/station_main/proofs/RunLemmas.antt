@@ -1,6 +1,5 @@
 -- What an accepted command line gives `run`.
-use Rattle.std.proofs.Common.{rules, ◌≡◌, ◌∙◌, ◌≤◌, inl, inr, ℕ, Bool, true, false, zero, suc, List, [], ◌∷◌, Option, Some, None, refl, sym, ap, ap₂, subst, ◌==◌, length, codes, drop, pos}
-use Rattle.std.specs.Prelude.{int_le, unwrap_or, slice_get, option_and_then, neg_ℤ, find, ◌&&◌, ◌||◌, cond, option_map, if◌then◌else◌, IfSome}
+use Rattle.std.proofs.Common.{rules, ◌≡◌, ◌∙◌, ◌≤◌, inl, inr, ℕ, Bool, true, false, zero, suc, List, [], ◌∷◌, Option, Some, None, refl, sym, ap, ap₂, subst, ◌==◌, length, codes, drop, pos, int_le, unwrap_or, slice_get, option_and_then, neg_ℤ, find, ◌&&◌, ◌||◌, cond, option_map, if◌then◌else◌, IfSome}
 use Rattle.std.specs.Str.{bytes_eq}
 use Rattle.clap.specs.Faults.{fault_of}
 use Rattle.std.proofs.lemmas.Bool.{leb-true}
@@ -14,7 +13,7 @@ use Rattle.clap.specs.Walk.{one_of, row_text, Row, Text, has_row}
 use Rattle.clap.specs.Words.{subcommand_of}
 use Rattle.clap.specs.declared.builder.value_parser.Reading.TheVariants.{AsWritten}
 use Rattle.clap.specs.declared.builder.value_parser.ValueParser.TheVariants.{Signed}
-use Rattle.station_main.specs.Command.{FormatNames, IsFlagText, IsGiven, IsNumberUpTo, number, station}
+use Rattle.station_main.specs.Command.{FormatNames, IsFlagText, IsGiven, IsNumberUpTo, number_in, station}
 use Rattle.station_main.proofs.RunRowLemmas.{Fine, Good, IsFlag, IsNumber, fine_found}
 use Rattle.station_main.proofs.RunLineLemmas.{HasAll, has_all, there}
 
@@ -26,11 +25,11 @@ signed_facts : (b : Bool) (most : ℕ) (v : Text)
     → (let ds = cond b (drop 1 v) (without_leading_plus v) in
     let z = cond b (neg_ℤ (pos (digits_value 10 ds))) (pos (digits_value 10 ds)) in
     is_numeral ds && (fits_i64 z && (int_le (pos 1) z && int_le z (pos most)))) ≡ true
-    → (b ≡ false) × (1 ≤ number v) × (number v ≤ most)
+    → (b ≡ false) × (1 ≤ number_in v) × (number_in v ≤ most)
 signed_facts true most v e = absurd (not_below (digits_value 10 (drop 1 v)) (both _ _ (both _ _ (both _ _ e).1).1).0)
 signed_facts false most v e =
     let bounds = both _ _ (both _ _ (both _ _ e).1).1 in
-    (refl, leb-true 1 (number v) bounds.0, leb-true (number v) most bounds.1)
+    (refl, leb-true 1 (number_in v) bounds.0, leb-true (number_in v) most bounds.1)
 
 kept : (b : Bool) (x : ℕ) (xs : Text) → b ≡ false → unwrap_or (if b then Some xs else None) (x ∷ xs) ≡ x ∷ xs
 kept true x xs e = absurd (search rules)

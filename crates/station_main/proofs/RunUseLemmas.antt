@@ -1,6 +1,5 @@
 -- The accepted uses of the options of `run`.
-use Rattle.std.proofs.Common.{◌≡◌, ◌≤◌, inl, inr, ℕ, Bool, true, false, List, [], ◌∷◌, refl, sym, subst, ◌==◌, length, codes, arith, pos}
-use Rattle.std.specs.Prelude.{nat_lt, ◌&&◌, if◌then◌else◌}
+use Rattle.std.proofs.Common.{◌≡◌, ◌≤◌, inl, inr, ℕ, Bool, true, false, List, [], ◌∷◌, refl, sym, subst, ◌==◌, length, codes, arith, pos, nat_lt, ◌&&◌, if◌then◌else◌}
 use Rattle.clap.specs.Faults.{use_fault, set_fault, repeat_fault, values_fault}
 use Rattle.clap.specs.declared.error.kind.ErrorKind.{ErrorKind}
 use Rattle.clap.specs.declared.error.kind.ErrorKind.TheVariants as kind

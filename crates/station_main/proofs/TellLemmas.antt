@@ -1,6 +1,5 @@
 -- What is printed, one line after another.
-use Rattle.std.proofs.Common.{◌≡◌, ◌∙◌, ◌⊎◌, inl, inr, Bor, ℕ, ◌+◌, ◌<◌, List, [], ◌++◌, Result, length, take, get_or, sym, ap, subst}
-use Rattle.std.specs.Prelude.{fold, max}
+use Rattle.std.proofs.Common.{◌≡◌, ◌∙◌, ◌⊎◌, inl, inr, Bor, ℕ, ◌+◌, ◌<◌, List, [], ◌++◌, Result, length, take, get_or, sym, ap, subst, fold, max}
 use Rattle.std.specs.List.{flat_map}
 use Rattle.std.proofs.KnownBytes.{Appends-trans}
 use Rattle.std.proofs.lemmas.List.{flat_map_more, take_more}
@@ -8,7 +7,7 @@ use Rattle.std.proofs.lemmas.List.Sums.{fold_more}
 use Rattle.station_lines.specs.declared.pumping.PumpFault.{PumpFault}
 use Rattle.station_lines.specs.declared.tally.Tally.{Tally}
 use Rattle.station_main.specs.Status.{status_of}
-use Rattle.station_main.specs.Telling.{Tells, Told, cannot_record, fault_line, line_of, pump_lines}
+use Rattle.station_main.specs.Telling.{Tells, Told, cannot_record, fault_line, telling_line, pump_lines}
 use Rattle.station_main.specs.declared.faults.Fault.{Fault}
 use Rattle.station_main.specs.declared.faults.Fault.TheVariants as fault
 
@@ -41,6 +40,6 @@ one_more_status answers i x status one new inside at so_far one_is new_is =
 
 -- no memory for a record, or a file that takes none
 pub record_fault_told : (a b : Told) (f : Fault) (path : Bor (List ℕ)) (file : List ℕ) → (f ≡ fault.NoMemory) ⊎ (f ≡ fault.CannotRecord path) → path.now ≡ file → Tells a b (fault_line f)
-    → Tells a b (fault_line fault.NoMemory) ⊎ Tells a b (line_of (cannot_record file))
+    → Tells a b (fault_line fault.NoMemory) ⊎ Tells a b (telling_line (cannot_record file))
 record_fault_told a b f path file (inl memory) is told = inl (subst (λ g. Tells a b (fault_line g)) memory told)
-record_fault_told a b f path file (inr refused) is told = inr (subst (λ p. Tells a b (line_of (cannot_record p))) is (subst (λ g. Tells a b (fault_line g)) refused told))
+record_fault_told a b f path file (inr refused) is told = inr (subst (λ p. Tells a b (telling_line (cannot_record p))) is (subst (λ g. Tells a b (fault_line g)) refused told))

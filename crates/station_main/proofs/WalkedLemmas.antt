@@ -1,6 +1,5 @@
 -- What a walk over a command line keeps of the rows, if no use of an argument fails.
-use Rattle.std.proofs.Common.{◌≡◌, ℕ, Bool, true, false, zero, suc, List, [], ◌∷◌, Option, Some, None, refl, ap, length, drop, arith}
-use Rattle.std.specs.Prelude.{find, slice_get, encode_utf8, is_some, ◌&&◌, if◌then◌else◌, fold}
+use Rattle.std.proofs.Common.{◌≡◌, ℕ, Bool, true, false, zero, suc, List, [], ◌∷◌, Option, Some, None, refl, ap, length, drop, arith, find, slice_get, encode_utf8, is_some, ◌&&◌, if◌then◌else◌, fold}
 use Rattle.std.specs.Option.{option_map_or}
 use Rattle.std.specs.Str.{bytes_eq, chars}
 use Rattle.clap.specs.Lexer.{long_of, short_of}

@@ -1,6 +1,5 @@
 -- From what `clap` ensures of its getters to the job.
-use Rattle.std.proofs.Common.{inl, inr, ◌≡◌, ◌∙◌, ℕ, ◌≤◌, ◌<◌, ◌^◌, List, Option, Some, None, IfSome, Result, Ok, Err, Bool, true, false, arith, map, option_map, refl, sym, ap, ap₂, length, codes}
-use Rattle.std.specs.Prelude.{is_some, unwrap_or}
+use Rattle.std.proofs.Common.{inl, inr, ◌≡◌, ◌∙◌, ℕ, ◌≤◌, ◌<◌, ◌^◌, List, Option, Some, None, IfSome, Result, Ok, Err, Bool, true, false, arith, map, option_map, refl, sym, ap, ap₂, length, codes, is_some, unwrap_or}
 use Rattle.std.specs.Box.{box_value}
 use Rattle.clap.specs.declared.parser.matches.ArgMatches.{ArgMatches}
 use Rattle.clap.specs.declared.parser.matches.ArgMatches.TheViews.{out-ArgMatches, out-SubCommand}
@@ -11,7 +10,7 @@ use Rattle.clap.specs.Words.{ReadsOne, Row, Text, found_of, is_simple, rows_of, 
 use Rattle.clap.specs.Faults.{is_simple_and_free}
 use Rattle.station_main.proofs.JobLemmas.{NamesJobOf}
 use Rattle.clap.proofs.OnLiterals.{clap_on_literals}
-use Rattle.station_main.specs.Command.{FormatNames, IsFlagText, IsNumberUpTo, is_set, number, number_if_given, station}
+use Rattle.station_main.specs.Command.{FormatNames, IsFlagText, IsNumberUpTo, is_set, number_in, number_if_given, station}
 
 pub is_simple-station : (names : FormatNames) → is_simple (station names) ≡ true
 unfolding clap_on_literals
@@ -26,7 +25,7 @@ pub reads_number : {E : Type 0} (k : ℕ) (G : List ℕ → Result ℕ E → Typ
     → ((t : List ℕ) (r : Result ℕ E) → G t r → ParsesUnsigned k 10 t r)
     → (one ≡ None → Some every ≡ None)
     → ((t : List ℕ) → one ≡ Some t → ReadsOne G t (Some every))
-    → (text : List ℕ) × (one ≡ Some text) × (every ≡ number text)
+    → (text : List ℕ) × (one ≡ Some text) × (every ≡ number_in text)
 reads_number k G None every parses none value = absurd (none-some every (sym (none refl)))
 reads_number k G (Some t) every parses none value = (t, refl, (parses t (Ok every) (value t refl)).1)
 

@@ -15,7 +15,7 @@ use Rattle.station_report.specs.declared.formats.Format.{Format}
 use Rattle.station_report.specs.declared.formats.Format.TheVariants as Formats
 use Rattle.station_main.specs.declared.words.Job.{Job}
 use Rattle.station_main.specs.declared.words.Job.TheVariants.{Replay, Run}
-use Rattle.station_main.specs.declared.words.RunOptions.{RunOptions}
+use Rattle.station_main.specs.declared.words.RunArguments.{RunArguments}
 use Rattle.station_main.specs.declared.words.WordsFault.{WordsFault}
 use Rattle.station_main.specs.declared.words.WordsFault.TheVariants as words_fault
 use Rattle.station_main.specs.declared.schedule.Pace.{Pace}
@@ -129,8 +129,8 @@ abbrev pub IsMade : App → Command → Type 0
 IsMade app c = (app_of c ≡ app) × ((out-Command c).has_globals ≡ false)
 
 -- the number of a text of decimal digits, or of a `+` and decimal digits
-abbrev pub number : Text → ℕ
-number text = digits_value 10 (without_leading_plus text)
+abbrev pub number_in : Text → ℕ
+number_in text = digits_value 10 (without_leading_plus text)
 
 -- the format that a text names, and columns where there is none
 abbrev pub format_named : Option Text → TableFormat
@@ -144,7 +144,7 @@ format_since form.Json origin = Formats.Json origin
 
 -- the number of each text of an option that may be missing
 abbrev pub number_if_given : Option Text → Option ℕ
-number_if_given given = option_map number given
+number_if_given given = option_map number_in given
 
 -- whether a flag is given, by its text
 abbrev pub is_set : Option Text → Bool
@@ -169,24 +169,24 @@ reopens_rounds app words = run_gives_both (subcommand_of app words)
 
 -- the values of the options and of PATH in a command line of `run`: the paths in their order, a tick and a file only if they
 -- are given, one round if no rounds are given, and never both `--reopen` and `--rounds`
-pub record GivesRun (rows : List Row) (options : RunOptions) : Type 0 where
+pub record GivesRun (rows : List Row) (arguments : RunArguments) : Type 0 where
   pub text : Text
   pub every : one_of (codes "every") rows ≡ Some text
-  pub every_is : options.pace.every ≡ number text
-  pub tick_is : options.pace.tick ≡ number_if_given (one_of (codes "tick") rows)
-  pub rounds_are : options.rounds ≡ unwrap_or (number_if_given (one_of (codes "rounds") rows)) 1
-  pub reopens_is : options.reopens ≡ is_set (one_of (codes "reopen") rows)
+  pub every_is : arguments.pace.every ≡ number_in text
+  pub tick_is : arguments.pace.tick ≡ number_if_given (one_of (codes "tick") rows)
+  pub rounds_are : arguments.rounds ≡ unwrap_or (number_if_given (one_of (codes "rounds") rows)) 1
+  pub reopens_is : arguments.reopens ≡ is_set (one_of (codes "reopen") rows)
   pub not_both : gives_both rows ≡ false
-  pub paths_are : all_of (codes "path") rows ≡ Some (map string_bytes options.paths.items)
-  pub file_is : option_map string_bytes options.record ≡ first_of (codes "record") rows
-  pub folder_is : option_map string_bytes options.displays ≡ first_of (codes "json") rows
-  pub format_is : options.format ≡ format_named (first_of (codes "format") rows)
+  pub paths_are : all_of (codes "path") rows ≡ Some (map string_bytes arguments.paths.items)
+  pub file_is : option_map string_bytes arguments.record ≡ first_of (codes "record") rows
+  pub folder_is : option_map string_bytes arguments.displays ≡ first_of (codes "json") rows
+  pub format_is : arguments.format ≡ format_named (first_of (codes "format") rows)
 
 -- a decimal number from 1 up to a limit
 pub record IsNumberUpTo (limit : ℕ) (text : Text) : Type 0 where
   pub numeral : IsNumeral 10 (without_leading_plus text)
-  pub least : 1 ≤ number text
-  pub most : number text ≤ limit
+  pub least : 1 ≤ number_in text
+  pub most : number_in text ≤ limit
 
 -- what a command line of `run` gives if nothing in it is refused
 pub record IsGiven (rows : List Row) : Type 0 where
@@ -205,8 +205,8 @@ pub record IsGiven (rows : List Row) : Type 0 where
 abbrev pub NamesJob : App → List Text → Job → Type 0
 NamesJob app words (Replay tables) =
     (rows : List Row) × (subcommand_of app words ≡ Some (codes "replay", rows)) × (tables ≡ format_named (first_of (codes "format") rows))
-NamesJob app words (Run options) =
-    (rows : List Row) × (subcommand_of app words ≡ Some (codes "run", rows)) × GivesRun rows options
+NamesJob app words (Run arguments) =
+    (rows : List Row) × (subcommand_of app words ≡ Some (codes "run", rows)) × GivesRun rows arguments
 
 -- why there is no job: out of memory, or `clap` finds a fault of this kind in the command line, or help or the version is asked
 -- for, or `clap` finds no fault and both `--reopen` and `--rounds` are given
@@ -228,10 +228,10 @@ pub record IsPace (pace : Pace) : Type 0 where
   pub tick_fits : IfSome pace.tick (λ tick. (1 ≤ tick) × (tick ≤ 60000))
 
 -- such a pace, 1 to 1,000 rounds, and 1 to 8 paths
-abbrev pub AreInRange : RunOptions → Type 0
-AreInRange options = IsPace options.pace × (1 ≤ options.rounds) × (options.rounds ≤ 1000)
-    × (1 ≤ length options.paths.items) × (length options.paths.items ≤ 8)
+abbrev pub AreInRange : RunArguments → Type 0
+AreInRange arguments = IsPace arguments.pace × (1 ≤ arguments.rounds) × (arguments.rounds ≤ 1000)
+    × (1 ≤ length arguments.paths.items) × (length arguments.paths.items ≤ 8)
 
 abbrev pub IsInRange : Job → Type 0
 IsInRange (Replay tables) = ⊤
-IsInRange (Run options) = AreInRange options
+IsInRange (Run arguments) = AreInRange arguments

@@ -18,13 +18,13 @@ use Rattle.station_main.specs.declared.words.Job.TheVariants.{Replay, Run}
 abbrev pub IsDone : Job → (origin : ℕ) → Option (List ℕ) → Option (List ℕ) → Option (Option (List ℕ)) → Option (List ℕ) → Told → Told → ℕ → Type 0
 IsDone (Replay form) origin input before None alarm err_old err_new status = OutOfMemory err_old err_new status
 IsDone (Replay form) origin input before (Some after) alarm err_old err_new status = EndsReplay (format_since form 0) program_limits input before after err_old err_new status
-IsDone (Run options) origin input before after alarm err_old err_new status =
-    RunsForDisplays (is_some options.displays)
-    (RunsAsked (option_map string_bytes options.record) (record {
-      tables = record { pace = options.pace; format = format_since options.format origin };
-      paths = map string_bytes options.paths.items;
+IsDone (Run arguments) origin input before after alarm err_old err_new status =
+    RunsForDisplays (is_some arguments.displays)
+    (RunsAsked (option_map string_bytes arguments.record) (record {
+      tables = record { pace = arguments.pace; format = format_since arguments.format origin };
+      paths = map string_bytes arguments.paths.items;
       hand_over_at = forget_at;
-    }) (options.rounds - 1) before after alarm err_old err_new)
+    }) (arguments.rounds - 1) before after alarm err_old err_new)
     after err_old err_new status
 
 -- `clap` accepts the command line, and the job that it names is done
@@ -47,10 +47,10 @@ is_shown _ = false
 
 -- a text is all that is written: help or the version to the output, with status 0; why the words are refused to standard
 -- error, with status 2. A write of the output that fails ends it.
-abbrev pub Says : Bool → List ℕ → Option (List ℕ) → Option (Option (List ℕ)) → Told → Told → ℕ → Type 0
-Says true text before after err_old err_new status =
+abbrev pub WritesText : Bool → List ℕ → Option (List ℕ) → Option (Option (List ℕ)) → Told → Told → ℕ → Type 0
+WritesText true text before after err_old err_new status =
     (status ≡ 0) × (err_new ≡ err_old) × ((left : Option (List ℕ)) × (after ≡ Some left) × AppendsFront before left text)
-Says false text before after err_old err_new status =
+WritesText false text before after err_old err_new status =
     (status ≡ 2) × (after ≡ Some before) × Tells err_old err_new text
 
 -- what a command line leaves that asks for help or the version, or that `clap` refuses; the kinds are those that it may give
@@ -58,13 +58,13 @@ pub record IsRefused (app : App) (words : List Text) (before : Option (List ℕ)
   pub kind : ErrorKind
   pub given : IsAmong kind (fault_of app words)
   pub text : List ℕ
-  pub says : Says (is_shown kind) text before after err_old err_new status
+  pub says : WritesText (is_shown kind) text before after err_old err_new status
 
 -- `clap` accepts a command line with both `--reopen` and `--rounds`, which is refused in the form of `clap`
 pub record RefusesBoth (app : App) (words : List Text) (before : Option (List ℕ)) (after : Option (Option (List ℕ))) (err_old err_new : Told) (status : ℕ) : Type 0 where
   pub accepted : fault_of app words ≡ []
   pub both : reopens_rounds app words ≡ true
-  pub says : Says false reopens_rounds_text before after err_old err_new status
+  pub says : WritesText false reopens_rounds_text before after err_old err_new status
 
 -- what a command line leaves that `clap` accepts
 abbrev pub IsAnswered : App → List Text → (origin : ℕ) → Option (List ℕ) → Option (List ℕ) → Option (Option (List ℕ)) → Option (List ℕ) → Told → Told → ℕ → Type 0

@@ -1,9 +1,8 @@
 -- What an output has taken, in its buffer and out of it.
-use Rattle.std.specs.Prelude.{◌≡◌, ℕ, Bool, false, List, [], Option}
 use Rattle.std.specs.Io.KnownBytes.{Keeps, append_known}
 use Rattle.std.specs.Io.Buffered.{writer_contents}
 use Rattle.std.specs.declared.io.buffered.BufWriter.{BufWriter}
-use Rattle.std.proofs.Common.{Global}
+use Rattle.std.proofs.Common.{Global, ◌≡◌, ℕ, Bool, false, List, [], Option}
 use Rattle.station_report.specs.Sink.{SinkState}
 use Rattle.station_report.specs.ToWrite.{failure_count, writer_of}
 use Rattle.station_report.specs.declared.to_write.ToWrite.{ToWrite}

@@ -16,7 +16,7 @@ use Rattle.station_main.specs.declared.schedule.Act.{Act}
 use Rattle.station_main.specs.declared.schedule.Act.TheVariants as act
 use Rattle.station_main.specs.declared.schedule.Due.{Due}
 use Rattle.station_main.specs.declared.duties.Duties.{Duties}
-use Rattle.station_main.specs.declared.reporter.Reported.{Reported}
+use Rattle.station_main.specs.declared.reporter.ReporterResult.{ReporterResult}
 use Rattle.station_main.specs.declared.reporter.Reporter.{Reporter}
 use Rattle.station_main.specs.declared.schedule.Pace.{Pace}
 use Rattle.station_main.specs.declared.schedule.Tables.{Tables}
@@ -46,13 +46,13 @@ has_come None now = false
 has_come (Some moment) now = nat_le moment now
 
 -- the time of what is due first
-abbrev pub first_of : Due → ℕ
-first_of due = option_map_or (λ tick. min due.table tick) due.tick due.table
+abbrev pub first_due : Due → ℕ
+first_due due = option_map_or (λ tick. min due.table tick) due.tick due.table
 
 -- before anything is due it sleeps up to what is due first, for at most 50 ms; where a table is due it ticks and prints the
 -- table; else, where a tick is due, it ticks alone
 abbrev pub IsActAt : Pace → (due : Due) → (now : ℕ) → Act → Type 0
-IsActAt pace due now (act.Sleep pause) = (now < due.table) × (has_come due.tick now ≡ false) × (as_nanos pause ≡ min (first_of due - now) 50 * 1000000)
+IsActAt pace due now (act.Sleep pause) = (now < due.table) × (has_come due.tick now ≡ false) × (as_nanos pause ≡ min (first_due due - now) 50 * 1000000)
 IsActAt pace due now (act.Tick at next) = (now < due.table) × (has_come due.tick now ≡ true) × (at ≡ now) × (next ≡ after_tick pace due now)
 IsActAt pace due now (act.Print at next) = (due.table ≤ now) × (at ≡ now) × (next ≡ after_table pace now)
 
@@ -96,7 +96,7 @@ Ticks start old at new =
     ((receipt : Known) × Accepted start old new (Tick old.number at) receipt) ⊎ ((refusal : Refusal) × Refused start old new (Tick old.number at) refusal)
 
 -- what a reporter does: it sleeps; or it ticks alone; or it ticks, and the table is printed and recorded
-abbrev pub DoesAct : {O K : Type 0} → (O → SinkState) → (K → Option Recording) → Format → Start → Act → Reported Seated O K → Reported Seated O K → Type 0
+abbrev pub DoesAct : {O K : Type 0} → (O → SinkState) → (K → Option Recording) → Format → Start → Act → ReporterResult Seated O K → ReporterResult Seated O K → Type 0
 DoesAct state record_of format start (act.Sleep pause) old new = new ≡ old
 DoesAct state record_of format start (act.Tick at next) old new =
     Ticks start old.seat at new.seat × (new.out ≡ old.out) × (new.beside ≡ old.beside) × (new.due ≡ next) × (new.has_failed ≡ old.has_failed) × (new.asked_at ≡ old.asked_at)
@@ -139,8 +139,8 @@ pub record Reports (start : Start) (tables : Tables) (due next : Due) (moments :
 
 -- a reporter that finds this many entries asks for a hand-over: they are enough, it isn't too early, and no table is due within a
 -- second, or within the interval between tables if that is shorter
-abbrev pub asks : Duties → (entries now : ℕ) → Due → Bool
-asks duties entries now due = nat_le duties.hand_over_at entries && nat_le duties.not_before now && nat_le (min duties.tables.pace.every 1000) (due.table - now)
+abbrev pub asks_hand_over : Duties → (entries now : ℕ) → Due → Bool
+asks_hand_over duties entries now due = nat_le duties.hand_over_at entries && nat_le duties.not_before now && nat_le (min duties.tables.pace.every 1000) (due.table - now)
 
 -- the time before which none is asked for after one that left this many entries: where they are more than half of those that ask
 -- for one, ten seconds after the last tick, at most 2^64 - 1
@@ -169,6 +169,6 @@ pub record ReportsByAClock (start : Start) (duties : Duties) (next : Due) (asked
   pub hands_over : MayHandOver start duties asked_at due next mid new has_failed
 
 -- such a reporter by what it starts with and what it leaves
-abbrev pub HasReported : {O K : Type 0} → (O → SinkState) → (K → Option Recording) → Start → Reporter Seated O K → Reported Seated O K → Type 0
+abbrev pub HasReported : {O K : Type 0} → (O → SinkState) → (K → Option Recording) → Start → Reporter Seated O K → ReporterResult Seated O K → Type 0
 HasReported state record_of start reporter reported =
     ReportsByAClock start reporter.duties reported.due reported.asked_at reporter.seat reported.seat (state reporter.out) (state reported.out) (record_of reporter.beside) (record_of reported.beside) reported.has_failed

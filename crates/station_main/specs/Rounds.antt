@@ -15,13 +15,13 @@ use Rattle.station_lines.specs.declared.tally.Tally.{Tally}
 use Rattle.station_shared.specs.Seats.{Seated, newcomer}
 use Rattle.station_main.specs.Inputs.{AreFed}
 use Rattle.station_main.specs.Limits.{program_limits}
-use Rattle.station_main.specs.Recorded.{IfRecording, IsBlank, Recording, RecordsRest}
+use Rattle.station_main.specs.Recorded.{IfRecording, IsNewRecord, Recording, RecordsRest}
 use Rattle.station_main.specs.Status.{fault_status, record_status}
 use Rattle.station_main.specs.Output.{buffered_of}
 use Rattle.station_main.specs.Reporter.{ReportsByAClock, after_table, not_before}
-use Rattle.station_main.specs.Run.{Closing, Ends, EndsEarly, HavePumped, IsClosed, Leaves}
+use Rattle.station_main.specs.Run.{Closing, Ends, EndsEarly, HavePumped, IsClosed, ReporterLeaves}
 use Rattle.station_main.specs.Sums.{AddsEach}
-use Rattle.station_main.specs.Telling.{OutOfMemory, Tells, Told, cannot_record, fault_line, line_of}
+use Rattle.station_main.specs.Telling.{OutOfMemory, Tells, Told, cannot_record, fault_line, telling_line}
 use Rattle.station_main.specs.declared.faults.Fault.TheVariants as fault
 use Rattle.station_main.specs.declared.kept.Kept.{Kept}
 use Rattle.station_main.specs.declared.duties.Duties.{Duties}
@@ -34,23 +34,23 @@ use Rattle.station_main.specs.declared.shift.Finished.{Finished}
 use Rattle.station_main.specs.declared.shift.Shift.{Shift}
 
 -- what a round goes on from: entries with the base of their clock, and the time of the last tick before it
-pub record Given : Type 0 where
+pub record RoundStart : Type 0 where
   pub base : ℕ
   pub entries : List Entry
   pub last_tick : ℕ
 
 -- the first round begins with nothing
-abbrev pub nothing : Given
-nothing = record { base = 0; entries = []; last_tick = 0 }
+abbrev pub no_start : RoundStart
+no_start = record { base = 0; entries = []; last_tick = 0 }
 
 -- a station under the limits of the program that goes on from there
-pub record GoesOnFrom (given : Given) (start : Start) : Type 0 where
+pub record GoesOnFrom (given : RoundStart) (start : Start) : Type 0 where
   pub limits : start.limits ≡ program_limits
   pub base : base_of start.history ≡ given.base
   pub resumed : start.resumed ≡ length given.entries
 
 -- a station with n receivers may be begun
-pub record MayBegin (start : Start) (parts seats : ℕ) (places : Prepared) (given : Given) (n : ℕ) : Type 0 where
+pub record MayBegin (start : Start) (parts seats : ℕ) (places : Prepared) (given : RoundStart) (n : ℕ) : Type 0 where
   -- there are at most eight
   pub few : n ≤ 8
   -- each receiver and the reporter have a part of the ledger and a seat, and the reporter alone has a place
@@ -63,7 +63,7 @@ pub record MayBegin (start : Start) (parts seats : ℕ) (places : Prepared) (giv
   pub sound : IsSound program_limits given.base (reverse given.entries)
 
 -- what was asked of a run, and how many entries of its journal make a station hand over
-pub record Asked : Type 0 where
+pub record RunPlan : Type 0 where
   pub tables : Tables
   pub paths : List Text
   pub hand_over_at : ℕ
@@ -73,7 +73,7 @@ pub record Asked : Type 0 where
 -- what a station is begun with: what it goes on from, what its reporter does, its sources, and what was counted of each of them
 -- by the stations before it
 pub record Begun : Type 0 where
-  pub given : Given
+  pub given : RoundStart
   pub duties : Duties
   pub sources : List SourceState
   pub answers : List (Result Tally PumpFault)
@@ -84,7 +84,7 @@ HasNoLines answer = (tally : Tally) × (answer ≡ Ok tally) × (tally.lines ≡
 
 -- the first station of a round: its sources are what threads send of the paths, of which no byte was given, and its table is due
 -- one interval after the last tick
-pub record IsFirst (asked : Asked) (given : Given) (begun : Begun) : Type 0 where
+pub record IsFirst (asked : RunPlan) (given : RoundStart) (begun : Begun) : Type 0 where
   pub given_is : begun.given ≡ given
   pub tables : begun.duties.tables ≡ asked.tables
   pub due : begun.duties.due ≡ after_table asked.tables.pace given.last_tick
@@ -111,7 +111,7 @@ pub record IsServedBy (begun : Begun) (start : Start) (seats : List Seated) (sou
   pub pumped : HavePumped start begun.given.entries begun.sources sources seats counted
 
 -- what is kept of a closed station's journal: its recent entries; the record goes on with what it hasn't of the journal
-pub record KeepsRecent (start : Start) (journal : List Entry) (kept : Given) (was is : Option Recording) : Type 0 where
+pub record KeepsRecent (start : Start) (journal : List Entry) (kept : RoundStart) (was is : Option Recording) : Type 0 where
   pub base : kept.base ≡ recent_base (base_of start.history) (reverse journal)
   pub entries : reverse kept.entries ≡ recent_of (base_of start.history) (reverse journal)
   pub last_tick : kept.last_tick ≡ clock_of (log_of start journal)
@@ -146,7 +146,7 @@ Stations (suc more) begun start closing before after was is err_old err_new stat
     × IsHandOver begun next before mid was recorded × Stations more next start closing mid after recorded is err_old err_new status
 
 -- a round, whose last station is this one
-pub record IsRound (asked : Asked) (given : Given) (start : Start) (closing : Closing) (before after : Option (List ℕ)) (was is : Option Recording) (err_old err_new : Told) (status : ℕ) : Type 0 where
+pub record IsRound (asked : RunPlan) (given : RoundStart) (start : Start) (closing : Closing) (before after : Option (List ℕ)) (was is : Option Recording) (err_old err_new : Told) (status : ℕ) : Type 0 where
   pub begun : Begun
   pub first : IsFirst asked given begun
   pub hand_overs : ℕ
@@ -155,7 +155,7 @@ pub record IsRound (asked : Asked) (given : Given) (start : Start) (closing : Cl
 -- ---- rounds
 
 -- a round without a fault, and what the next goes on from
-pub record HandsOn (asked : Asked) (given : Given) (before after : Option (List ℕ)) (was is : Option Recording) (err_old err_new : Told) (kept : Given) : Type 0 where
+pub record HandsOn (asked : RunPlan) (given : RoundStart) (before after : Option (List ℕ)) (was is : Option Recording) (err_old err_new : Told) (kept : RoundStart) : Type 0 where
   pub start : Start
   pub closing : Closing
   pub shown : Option Recording
@@ -163,7 +163,7 @@ pub record HandsOn (asked : Asked) (given : Given) (before after : Option (List 
   pub is_kept : KeepsRecent start closing.journal kept shown is
 
 -- a round without a fault, after which there was no memory to keep anything
-pub record KeepsNothing (asked : Asked) (given : Given) (before after : Option (List ℕ)) (was is : Option Recording) (err_old err_new : Told) (status : ℕ) : Type 0 where
+pub record KeepsNothing (asked : RunPlan) (given : RoundStart) (before after : Option (List ℕ)) (was is : Option Recording) (err_old err_new : Told) (status : ℕ) : Type 0 where
   pub start : Start
   pub closing : Closing
   pub err_mid : Told
@@ -172,13 +172,13 @@ pub record KeepsNothing (asked : Asked) (given : Given) (before after : Option (
   pub status_is : status ≡ 1
 
 -- the last round; without an output nothing was read in it, or there was no memory for its next station
-abbrev pub IsLast : Asked → Given → Option (List ℕ) → Option (Option (List ℕ)) → Option Recording → Option Recording → Told → Told → ℕ → Type 0
+abbrev pub IsLast : RunPlan → RoundStart → Option (List ℕ) → Option (Option (List ℕ)) → Option Recording → Option Recording → Told → Told → ℕ → Type 0
 IsLast asked given before None was is err_old err_new status = EndsEarly asked.paths err_old err_new status
 IsLast asked given before (Some after) was is err_old err_new status =
     (start : Start) × (closing : Closing) × IsRound asked given start closing before after was is err_old err_new status
 
 -- a round with a fault, which ends the run before its last round
-abbrev pub IsCutShort : Asked → Given → Option (List ℕ) → Option (Option (List ℕ)) → Option Recording → Option Recording → Told → Told → ℕ → Type 0
+abbrev pub IsCutShort : RunPlan → RoundStart → Option (List ℕ) → Option (Option (List ℕ)) → Option Recording → Option Recording → Told → Told → ℕ → Type 0
 IsCutShort asked given before None was is err_old err_new status = EndsEarly asked.paths err_old err_new status
 IsCutShort asked given before (Some after) was is err_old err_new status =
     ((start : Start) × (closing : Closing) × (status ≡ 1) × IsRound asked given start closing before after was is err_old err_new status)
@@ -186,21 +186,21 @@ IsCutShort asked given before (Some after) was is err_old err_new status =
 
 -- rounds up to the last, each from what the one before kept, or up to the first with a fault; the number is that of the
 -- rounds before the last
-abbrev pub Runs : Asked → ℕ → Given → Option (List ℕ) → Option (Option (List ℕ)) → Option Recording → Option Recording → Told → Told → ℕ → Type 0
-Runs asked zero given before after was is err_old err_new status = IsLast asked given before after was is err_old err_new status
-Runs asked (suc more) given before after was is err_old err_new status =
-    ((mid : Option (List ℕ)) × (recorded : Option Recording) × (err_mid : Told) × (kept : Given)
-    × HandsOn asked given before mid was recorded err_old err_mid kept × Runs asked more kept mid after recorded is err_mid err_new status)
+abbrev pub RunsRounds : RunPlan → ℕ → RoundStart → Option (List ℕ) → Option (Option (List ℕ)) → Option Recording → Option Recording → Told → Told → ℕ → Type 0
+RunsRounds asked zero given before after was is err_old err_new status = IsLast asked given before after was is err_old err_new status
+RunsRounds asked (suc more) given before after was is err_old err_new status =
+    ((mid : Option (List ℕ)) × (recorded : Option Recording) × (err_mid : Told) × (kept : RoundStart)
+    × HandsOn asked given before mid was recorded err_old err_mid kept × RunsRounds asked more kept mid after recorded is err_mid err_new status)
     ⊎ IsCutShort asked given before after was is err_old err_new status
 
 -- what a round hands on to the next
-abbrev pub given_of : Kept → Given
-given_of kept = record { base = kept.recent.base; entries = kept.recent.entries.items; last_tick = kept.last_tick }
+abbrev pub start_of : Kept → RoundStart
+start_of kept = record { base = kept.recent.base; entries = kept.recent.entries.items; last_tick = kept.last_tick }
 
 -- what a station is begun with, and what its output has taken
 abbrev pub begun_of : {R O : Type 0} → Shift R O → Begun
 begun_of shift = record {
-  given = given_of shift.kept;
+  given = start_of shift.kept;
   duties = shift.duties;
   sources = map state_of shift.inputs.items;
   answers = shift.answers.items;
@@ -211,7 +211,7 @@ pub record IsServed {R O : Type 0} (contents : O → Option (List ℕ)) (begun :
   pub journal : closing.journal ≡ finished.journal.log.entries
   pub log : finished.journal.log ≡ log_of start finished.journal.log.entries
   pub serves : Serves begun start closing (map state_of finished.inputs.items) finished.answers.items
-  pub leaves : Leaves start begun.duties (newcomer begun.given.entries (length begun.sources)) closing.reporter before (contents finished.written.out) was is finished.written.has_failed
+  pub leaves : ReporterLeaves start begun.duties (newcomer begun.given.entries (length begun.sources)) closing.reporter before (contents finished.written.out) was is finished.written.has_failed
 
 -- a station by its answer: it hands over, or its round is over
 abbrev pub EndsStation : {R O : Type 0} → (O → Option (List ℕ)) → Begun → SinkState → Option Recording → Option Recording → Ended R O → Type 0
@@ -220,37 +220,37 @@ EndsStation contents begun before was is (Finishes finished) =
     (start : Start) × (closing : Closing) × IsServed contents begun start closing before.taken was is finished
 
 -- a round by its answer: the last one is over
-abbrev pub IsOver : Bool → Asked → Given → Option (List ℕ) → Option (Option (List ℕ)) → Option Recording → Option Recording → Told → Told → ℕ → Type 0
+abbrev pub IsOver : Bool → RunPlan → RoundStart → Option (List ℕ) → Option (Option (List ℕ)) → Option Recording → Option Recording → Told → Told → ℕ → Type 0
 IsOver true asked given before after was is err_old err_new status = IsLast asked given before after was is err_old err_new status
 IsOver false asked given before after was is err_old err_new status = IsCutShort asked given before after was is err_old err_new status
 
-abbrev pub EndsRound : {O : Type 0} → (O → Option (List ℕ)) → Asked → Bool → Given → Option (List ℕ) → Option Recording → Option Recording → Told → Told → Round O → Type 0
+abbrev pub EndsRound : {O : Type 0} → (O → Option (List ℕ)) → RunPlan → Bool → RoundStart → Option (List ℕ) → Option Recording → Option Recording → Told → Told → Round O → Type 0
 EndsRound contents asked is_last given before was is err_old err_new (Over ran) =
     (ran.status ≤ 1) × IsOver is_last asked given before (option_map contents ran.out) was is err_old err_new ran.status
 EndsRound contents asked is_last given before was is err_old err_new (GoesOn out kept) =
-    (is_last ≡ false) × HandsOn asked given before (contents out) was is err_old err_new (given_of kept)
+    (is_last ≡ false) × HandsOn asked given before (contents out) was is err_old err_new (start_of kept)
 
 -- ---- a run with or without a record
 
 -- the record could not be begun in this file, or there was no memory for it, and nothing is read
 pub record CannotRecord (file : Text) (after : Option (Option (List ℕ))) (err_old err_new : Told) (status : ℕ) : Type 0 where
   pub out : after ≡ None
-  pub told : Tells err_old err_new (fault_line fault.NoMemory) ⊎ Tells err_old err_new (line_of (cannot_record file))
+  pub told : Tells err_old err_new (fault_line fault.NoMemory) ⊎ Tells err_old err_new (telling_line (cannot_record file))
   pub status_is : status ≡ 1
 
 -- a run with a record, which begins blank; the status is the worse of the rounds' and the record's
-pub record RunsRecorded (asked : Asked) (more : ℕ) (before : Option (List ℕ)) (after : Option (Option (List ℕ))) (alarm : Option (List ℕ)) (err_old err_new : Told) (status : ℕ) : Type 0 where
+pub record RunsRecorded (asked : RunPlan) (more : ℕ) (before : Option (List ℕ)) (after : Option (Option (List ℕ))) (alarm : Option (List ℕ)) (err_old err_new : Told) (status : ℕ) : Type 0 where
   pub blank : Recording
-  pub is_blank : IsBlank alarm blank
+  pub is_blank : IsNewRecord alarm blank
   pub left : Option Recording
   pub of_rounds : ℕ
-  pub runs : Runs asked more nothing before after (Some blank) left err_old err_new of_rounds
+  pub runs : RunsRounds asked more no_start before after (Some blank) left err_old err_new of_rounds
   pub status_is : status ≡ max of_rounds (record_status left)
 
 -- what was asked is done: without a file for a record the rounds alone
-abbrev pub RunsAsked : Option Text → Asked → ℕ → Option (List ℕ) → Option (Option (List ℕ)) → Option (List ℕ) → Told → Told → ℕ → Type 0
+abbrev pub RunsAsked : Option Text → RunPlan → ℕ → Option (List ℕ) → Option (Option (List ℕ)) → Option (List ℕ) → Told → Told → ℕ → Type 0
 RunsAsked None asked more before after alarm err_old err_new status =
-    (left : Option Recording) × Runs asked more nothing before after None left err_old err_new status
+    (left : Option Recording) × RunsRounds asked more no_start before after None left err_old err_new status
 RunsAsked (Some file) asked more before after alarm err_old err_new status =
     CannotRecord file after err_old err_new status ⊎ RunsRecorded asked more before after alarm err_old err_new status
 

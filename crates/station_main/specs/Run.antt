@@ -97,7 +97,7 @@ LastLook start old new true looks = (looks ≡ []) × (new ≡ old)
 -- what the last station of a round leaves of its output, whose reporter's seat goes from `first` to `closing`: the texts of its
 -- looks and of one look after them, and nothing else, or a front of that if a write failed; the record goes on with what these
 -- looks have seen
-pub record Leaves (start : Start) (duties : Duties) (first closing : Seated) (before after : Option (List ℕ)) (was is : Option Recording) (has_failed : Bool) : Type 0 where
+pub record ReporterLeaves (start : Start) (duties : Duties) (first closing : Seated) (before after : Option (List ℕ)) (was is : Option Recording) (has_failed : Bool) : Type 0 where
   pub mid : Seated
   pub moments : List ℕ
   pub showings : List Showing
@@ -122,7 +122,7 @@ pub record Leaves (start : Start) (duties : Duties) (first closing : Seated) (be
 -- it prints what was counted of each path, and at last a failed write; the status is the worst of these
 pub record Ends (start : Start) (duties : Duties) (answers : List (Result Tally PumpFault)) (first closing : Seated) (before after : Option (List ℕ)) (was is : Option Recording) (err_old err_new : Told) (status : ℕ) : Type 0 where
   pub has_failed : Bool
-  pub output : Leaves start duties first closing before after was is has_failed
+  pub output : ReporterLeaves start duties first closing before after was is has_failed
   pub told : Tells err_old err_new (flat_map pump_lines answers ++ output_lines has_failed)
   pub status_is : status ≡ max (fold (λ worst answer. max worst (status_of answer)) 0 answers) (fault_status has_failed)
 

@@ -18,8 +18,8 @@ pub record AreSums (before since sum : Tally) : Type 0 where
   pub refused : sum.refused ≡ before.refused + since.refused
 
 -- the sums, unless there would be 2^64 lines or more
-abbrev pub Adds : Tally → Tally → Tally → Type 0
-Adds before since sum = AreSums before since sum ⊎ ((2 ^ 64 ≤ before.lines + since.lines) × (sum ≡ before))
+abbrev pub AddsTally : Tally → Tally → Tally → Type 0
+AddsTally before since sum = AreSums before since sum ⊎ ((2 ^ 64 ≤ before.lines + since.lines) × (sum ≡ before))
 
 -- two answers with the same fault, or both without one
 abbrev pub HasSameFault : Result Tally PumpFault → Result Tally PumpFault → Type 0
@@ -31,7 +31,7 @@ HasSameFault a b = ⊥
 
 -- an answer for what was counted before and since, with the fault since
 pub record AddsAnswer (before since sum : Result Tally PumpFault) : Type 0 where
-  pub adds : Adds (tally_of_pump before) (tally_of_pump since) (tally_of_pump sum)
+  pub adds : AddsTally (tally_of_pump before) (tally_of_pump since) (tally_of_pump sum)
   pub fault : HasSameFault since sum
 
 -- each answer is one for what was counted of a path before and since

@@ -2,7 +2,7 @@
 use Rattle.std.specs.Prelude.{◌≡◌, ℕ, Bool, true, false, List, [], ◌∷◌, ◌++◌, Option, Some, None, Result, Ok}
 use Rattle.std.specs.Io.KnownBytes.{Appends}
 use Rattle.station_journal.specs.declared.entry.Entry.{Entry}
-use Rattle.station_report.specs.Sink.{SinkState, TakesAll, counted}
+use Rattle.station_report.specs.Sink.{SinkState, TakesAll, count_after}
 use Rattle.station_report.specs.declared.formats.Format.{Format}
 use Rattle.station_report.specs.declared.sinks.WriteFault.{WriteFault}
 use Rattle.station_desk.specs.Replay.{table_in}
@@ -29,14 +29,14 @@ pub record PassesOver (old new : Seated) (before after : SinkState) (result : Re
 -- ---- many tables
 
 -- the text of a look; a refused one has none
-abbrev pub shown : Format → Start → Option Seated → List ℕ
-shown format start None = []
-shown format start (Some look) = text_of format start look.seen
+abbrev pub look_text : Format → Start → Option Seated → List ℕ
+look_text format start None = []
+look_text format start (Some look) = text_of format start look.seen
 
 -- the texts of looks, one after another
 abbrev pub texts : Format → Start → List (Option Seated) → List ℕ
 texts format start [] = []
-texts format start (look ∷ looks) = shown format start look ++ texts format start looks
+texts format start (look ∷ looks) = look_text format start look ++ texts format start looks
 
 -- the sink took the texts before the last look's, and failed within that one
 pub record FailsAtLast (format : Format) (start : Start) (looks : List (Option Seated)) (old new : Option (List ℕ)) : Type 0 where
@@ -56,4 +56,4 @@ TakesTexts format start looks old new true = FailsAtLast format start looks old 
 -- the count of failures rises by one if the sink failed
 abbrev pub failures_after : Bool → ℕ → ℕ
 failures_after false n = n
-failures_after true n = counted false n
+failures_after true n = count_after false n

@@ -47,11 +47,11 @@ fault_words fault.JournalFull = codes "journal full"
 fault_words fault.TableFull = codes "table full"
 
 -- a line of these words
-abbrev pub line_of : List ℕ → List ℕ
-line_of words = codes "groundstation: " ++ words ++ 10 ∷ []
+abbrev pub telling_line : List ℕ → List ℕ
+telling_line words = codes "groundstation: " ++ words ++ 10 ∷ []
 
 abbrev pub fault_line : Fault → List ℕ
-fault_line fault = line_of (fault_words fault)
+fault_line fault = telling_line (fault_words fault)
 
 -- why `--reopen` with `--rounds` is refused, in the form of `clap`
 abbrev pub reopens_rounds_text : List ℕ

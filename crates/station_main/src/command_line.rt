@@ -1,17 +1,17 @@
 //! The whole program, over any streams.
 ghost use Rattle.clap.specs.Words.{App, kind_of, takes};
 ghost use Rattle.station_main.specs.Command.{IsInRange, IsStation, reopens_rounds};
-ghost use Rattle.station_main.specs.Jobs.{GivesStatus, HasNoMemory, IsAnswered, IsDone, IsObeyed, Says, is_shown};
+ghost use Rattle.station_main.specs.Jobs.{GivesStatus, HasNoMemory, IsAnswered, IsDone, IsObeyed, WritesText, is_shown};
 ghost use Rattle.station_main.specs.Telling.{Tells, reopens_rounds_text, told_of};
 ghost use Rattle.std.specs.Prelude.{◌≡◌, ◌≤◌, ◌⊎◌, ℕ, List, Some, false, map, option_map, true};
 
 use crate::alarms::Alarms;
 use crate::display_job::run_for_displays;
 use crate::faults::Fault;
-use crate::output::{Ran, without_output};
+use crate::output::{JobResult, without_output};
 use crate::path_host::PathHost;
 use crate::replay_job::replay_input;
-use crate::run_job::Asked;
+use crate::run_job::RunOptions;
 use crate::schedule::milliseconds_since_1970;
 use crate::standard_error::StandardError;
 use crate::words::{Job, WordsFault, read_words};
@@ -85,7 +85,7 @@ pub fn obey<
     out: O,
     alarms: Alarms<A>,
     err: &mut StandardError<E>,
-) -> Ran<O>
+) -> JobResult<O>
     ensures status { result.status ≤ 2 }
     ensures obeyed { (app : App) × IsStation app × (takes app (map (λ w. w.now) words.now) ≡ true
         → (reopens_rounds app (map (λ w. w.now) words.now) ≡ false → result.status ≤ 1)
@@ -122,7 +122,7 @@ fn do_job<
     out: O,
     alarms: Alarms<A>,
     err: &mut StandardError<E>,
-) -> Ran<O>
+) -> JobResult<O>
     requires { IsInRange job }
     ensures most { result.status ≤ 1 }
     ensures done { IsDone job origin (I.remaining input) (O.Write.contents out)
@@ -133,21 +133,21 @@ fn do_job<
         Job::Replay { format } => {
             replay_input(rt, alloc, format.since(0), input, out, alarms.limits, err)
         },
-        Job::Run(options) => {
-            let asked = Asked::new(&options, origin);
-            run_for_displays(rt, own, alloc, asked, out, alarms, err)
+        Job::Run(arguments) => {
+            let options = RunOptions::new(&arguments, origin);
+            run_for_displays(rt, own, alloc, options, out, alarms, err)
         }
     }
 }
 
 // Refuses `--reopen` with `--rounds`, with status 2.
-fn refuse_both<O, E: Write>(out: O, err: &mut StandardError<E>) -> Ran<O>
+fn refuse_both<O, E: Write>(out: O, err: &mut StandardError<E>) -> JobResult<O>
     ensures status { result.status ≡ 2 }
     ensures out { result.out ≡ Some out }
     ensures told { Tells (told_of E.contents err.old) (told_of E.contents err.new) reopens_rounds_text }
 {
     err.text(REOPENS_ROUNDS);
-    Ran {
+    JobResult {
         status: 2,
         out: Some(out),
     }
@@ -160,11 +160,11 @@ fn write_answer<O: Write + Drop, E: Write>(
     error: &clap::Error,
     out: O,
     err: &mut StandardError<E>,
-) -> Ran<O>
+) -> JobResult<O>
     ensures most { result.status ≤ 2 }
     ensures says { HasNoMemory (option_map (λ left. O.contents left) result.out)
         (told_of E.contents err.old) (told_of E.contents err.new) result.status
-        ⊎ ((text : List ℕ) × Says (is_shown (kind_of error.now)) text (O.contents out)
+        ⊎ ((text : List ℕ) × WritesText (is_shown (kind_of error.now)) text (O.contents out)
         (option_map (λ left. O.contents left) result.out)
         (told_of E.contents err.old) (told_of E.contents err.new) result.status) }
 {
@@ -173,14 +173,14 @@ fn write_answer<O: Write + Drop, E: Write>(
     };
     if error.use_stderr() {
         err.text(text);
-        return Ran {
+        return JobResult {
             status: 2,
             out: Some(out),
         };
     }
     let mut sink = ToWrite::new(out);
     let _ = write_all(&mut sink, text.as_bytes());
-    Ran {
+    JobResult {
         status: 0,
         out: Some(sink.into_inner()),
     }

@@ -9,9 +9,9 @@ use crate::beside::Beside;
 use crate::displays::{Displays, status_of};
 use crate::faults::Fault;
 use crate::limit_alarm::LimitAlarm;
-use crate::output::{Ran, without_output};
+use crate::output::{JobResult, without_output};
 use crate::path_host::PathHost;
-use crate::run_job::{Asked, run_paths};
+use crate::run_job::{RunOptions, run_paths};
 use crate::standard_error::StandardError;
 use station_report::Sink;
 use std::alloc::{AllocError, Global};
@@ -34,11 +34,11 @@ pub fn run_for_displays<
     rt: &R,
     own: W,
     alloc: Global,
-    asked: Asked<'_>,
+    asked: RunOptions<'_>,
     out: O,
     alarms: Alarms<A>,
     err: &mut StandardError<E>,
-) -> Ran<O>
+) -> JobResult<O>
     requires rounds { 1 ≤ asked.rounds }
     requires paths { length asked.paths.now.items ≤ 8 }
     ensures most { result.status ≤ 1 }
@@ -55,7 +55,7 @@ pub fn run_for_displays<
     if asked.displays.is_none() {
         return ran;
     }
-    Ran {
+    JobResult {
         status: ran.status.max(status_of(&beside.displays)),
         out: ran.out,
     }
@@ -65,7 +65,7 @@ pub fn run_for_displays<
 fn begin_beside<R: Files<File = File>, T: Sink + Drop, A: Write + Drop>(
     rt: &R,
     alloc: Global,
-    asked: &Asked<'_>,
+    asked: &RunOptions<'_>,
     displays: A,
     limits: A,
 ) -> Result<Beside<T, A>, AllocError>

@@ -1,6 +1,6 @@
 //! What the reporter of a station does.
 ghost use Rattle.std.specs.Prelude.{◌≡◌, ◌≤◌, length, true};
-ghost use Rattle.station_main.specs.Reporter.{after_table, asks, not_before};
+ghost use Rattle.station_main.specs.Reporter.{after_table, asks_hand_over, not_before};
 
 use crate::kept::Kept;
 use crate::schedule::{Due, Tables};
@@ -69,7 +69,7 @@ impl Duties {
     /// Whether the reporter asks for a hand-over: with this many entries in the journal, at `now` in milliseconds, and with
     /// this due next.
     pub fn asks(self, entries: u64, now: u64, due: Due) -> bool
-        ensures value { result ≡ asks self entries now due }
+        ensures value { result ≡ asks_hand_over self entries now due }
         ensures full { result ≡ true → self.hand_over_at ≤ entries }
     {
         let quiet = u64::from(self.tables.pace.every.min(QUIET));

@@ -10,7 +10,7 @@ use std::io::{BufWriter, Write};
 
 /// What a job leaves.
 #[derive(Drop)]
-pub struct Ran<O> {
+pub struct JobResult<O> {
     /// The exit status, 0 to 2.
     pub status: u8,
     /// The output. It is gone if nothing was read.
@@ -19,45 +19,45 @@ pub struct Ran<O> {
 
 /// An output after its last write.
 #[derive(Drop)]
-pub struct Written<O> {
+pub struct ClosedOutput<O> {
     pub out: O,
     /// Whether a write failed.
     pub has_failed: bool,
 }
 
 /// Prints a fault that came before anything was read.
-pub fn without_output<O, E: Write>(err: &mut StandardError<E>, fault: Fault<'_>) -> Ran<O>
+pub fn without_output<O, E: Write>(err: &mut StandardError<E>, fault: Fault<'_>) -> JobResult<O>
     ensures status { result.status ≡ 1 }
     ensures out { result.out ≡ None }
     ensures told { Tells (told_of E.contents err.old) (told_of E.contents err.new) (fault_line fault.entry) }
 {
-    Ran {
+    JobResult {
         status: tell(err, fault),
         out: None,
     }
 }
 
 /// Writes what is left in the buffer, and takes the output out of it.
-pub fn unbuffered<O: Write + Drop>(out: BufWriter<O>) -> Written<O>
+pub fn unbuffered<O: Write + Drop>(out: BufWriter<O>) -> ClosedOutput<O>
     ensures { GivesBack (writer_contents O.contents out) (O.contents result.out) result.has_failed }
 {
     match out.into_inner() {
-        Ok(out) => Written {
+        Ok(out) => ClosedOutput {
             out,
             has_failed: false,
         },
-        Err(error) => give_up(error.into_inner()),
+        Err(error) => drop_unwritten(error.into_inner()),
     }
 }
 
 /// Takes the output out of its buffer after a failed write, and drops what is left there. A buffer that is dropped
 /// whole would write that after the fault was printed.
-pub fn give_up<O: Write + Drop>(out: BufWriter<O>) -> Written<O>
+pub fn drop_unwritten<O: Write + Drop>(out: BufWriter<O>) -> ClosedOutput<O>
     ensures bytes { GivesBack (writer_contents O.contents out) (O.contents result.out) result.has_failed }
     ensures failed { result.has_failed ≡ true }
 {
     let (out, _unwritten) = out.into_parts();
-    Written {
+    ClosedOutput {
         out,
         has_failed: true,
     }

@@ -10,7 +10,7 @@ ghost use Rattle.station_main.specs.Telling.{OutOfMemory, Tells, replay_lines, t
 use crate::faults::{Fault, tell_after, write_tally};
 use crate::limit_alarm::LimitAlarm;
 use crate::limits::{AIRCRAFT, FORGET_AT, LIMITS, TURNS};
-use crate::output::{Ran, Written, give_up, unbuffered, without_output};
+use crate::output::{ClosedOutput, JobResult, drop_unwritten, unbuffered, without_output};
 use crate::standard_error::StandardError;
 use station_desk::replay_forgetting;
 use station_report::{Format, ToWrite};
@@ -30,7 +30,7 @@ pub fn replay_input<R: Wait, I: Read + Drop, O: Write + Drop, A: Write + Drop, E
     out: O,
     alarm: A,
     err: &mut StandardError<E>,
-) -> Ran<O>
+) -> JobResult<O>
     ensures most { result.status ≤ 1 }
     ensures gone { result.out ≡ None →
         OutOfMemory (told_of E.contents err.old) (told_of E.contents err.new) result.status }
@@ -56,26 +56,29 @@ pub fn replay_input<R: Wait, I: Read + Drop, O: Write + Drop, A: Write + Drop, E
         &mut LimitAlarm::new(alarm),
     );
     desk.end(rt);
-    let Written { out, has_failed } = take_out(to.into_inner(), &answer);
-    Ran {
-        status: tell_end(err, &answer, has_failed),
+    let ClosedOutput { out, has_failed } = take_out(to.into_inner(), &answer);
+    JobResult {
+        status: tell_replay_end(err, &answer, has_failed),
         out: Some(out),
     }
 }
 
 // Takes the output out of its buffer, and drops what is left there after a failed write.
-fn take_out<O: Write + Drop>(out: BufWriter<O>, answer: &Result<Tally, ReplayFault>) -> Written<O>
+fn take_out<O: Write + Drop>(
+    out: BufWriter<O>,
+    answer: &Result<Tally, ReplayFault>,
+) -> ClosedOutput<O>
     ensures { GivesBack (writer_contents O.contents out) (O.contents result.out) result.has_failed }
 {
     match answer {
-        Err(ReplayFault::Write(_)) => give_up(out),
+        Err(ReplayFault::Write(_)) => drop_unwritten(out),
         _ => unbuffered(out),
     }
 }
 
 // Prints what was counted, and a fault if there is one: that of the answer, or else that of the output. Answers the
 // status.
-fn tell_end<E: Write>(
+fn tell_replay_end<E: Write>(
     err: &mut StandardError<E>,
     answer: &Result<Tally, ReplayFault>,
     has_failed: bool,

@@ -11,7 +11,7 @@ use crate::beside::Beside;
 use crate::displays::{put_table, table_for};
 use crate::duties::Duties;
 use crate::recorder::record_look;
-use crate::schedule::{Act, Due, Moments, Since, act_at};
+use crate::schedule::{Act, Due, ElapsedClock, Moments, act_at};
 use station_portions::HandOver;
 use station_report::{Format, Sink, WriteFault, flush_after, table_as};
 use station_shared::{Look, Seat, Station, StationName};
@@ -26,7 +26,7 @@ use std::time::{Clock, Instant};
 
 /// What a reporter leaves.
 #[derive(Drop)]
-pub struct Reported<S, O, K> {
+pub struct ReporterResult<S, O, K> {
     pub seat: S,
     pub out: O,
     pub beside: K,
@@ -49,11 +49,11 @@ pub struct Reporter<S, O, K> {
 
 /// The promise of a reporter that starts with this: that it reports from there.
 #[derive(Drop)]
-pub struct Given<S, O, K>(pub Snapshot<Reporter<S, O, K>>);
+pub struct ReportsFrom<S, O, K>(pub Snapshot<Reporter<S, O, K>>);
 
 impl<const N: usize, L: StationName, S: Sink, T: Sink, A: Write> Promise<
-    Reported<Seat<N, L>, S, Beside<T, A>>,
-> for Given<Seat<N, L>, S, Beside<T, A>> {
+    ReporterResult<Seat<N, L>, S, Beside<T, A>>,
+> for ReportsFrom<Seat<N, L>, S, Beside<T, A>> {
     ghost use Rattle.station_main.specs.Reporter.{HasReported};
 
     ghost kept_by = { λ given reported. HasReported S.state (λ b. b.record) L.start given.0.value reported };
@@ -78,12 +78,12 @@ pub fn report<
     hand_overs: &Vec<Arc<HandOver, Global>>,
     start: Option<Instant>,
     reporter: Reporter<Seat<N, L>, S, Beside<T, A>>,
-) -> Reported<Seat<N, L>, S, Beside<T, A>>
+) -> ReporterResult<Seat<N, L>, S, Beside<T, A>>
     ensures { ReportsByAClock L.start reporter.duties result.due result.asked_at reporter.seat result.seat
         (S.state reporter.out) (S.state result.out) reporter.beside.record result.beside.record result.has_failed }
 {
     let duties = reporter.duties;
-    let mut moments = Since { rt, start };
+    let mut moments = ElapsedClock { rt, start };
     let (mut reported, is_full) = report_at(rt, station, ended, reporter, &mut moments);
     if !is_full {
         request_if(hand_overs, duties.ends_with_output && reported.has_failed);
@@ -127,7 +127,7 @@ fn report_at<
     ended: &Bell,
     reporter: Reporter<Seat<N, L>, S, Beside<T, A>>,
     moments: &mut M,
-) -> (Reported<Seat<N, L>, S, Beside<T, A>>, bool)
+) -> (ReporterResult<Seat<N, L>, S, Beside<T, A>>, bool)
     ensures reports { (given : List ℕ) × Appends (M.given moments.old) (M.given moments.new) given
         × Reports L.start reporter.duties.tables reporter.duties.due result.0.due given reporter.seat result.0.seat
         (S.state reporter.out) (S.state result.0.out) reporter.beside.record result.0.beside.record result.0.has_failed }
@@ -155,7 +155,7 @@ fn report_at<
 }
 
 // What a reporter has done that has only started.
-fn begin<S, O, K>(reporter: Reporter<S, O, K>) -> Reported<S, O, K>
+fn begin<S, O, K>(reporter: Reporter<S, O, K>) -> ReporterResult<S, O, K>
     ensures seat { result.seat ≡ reporter.seat }
     ensures out { result.out ≡ reporter.out }
     ensures beside { result.beside ≡ reporter.beside }
@@ -163,7 +163,7 @@ fn begin<S, O, K>(reporter: Reporter<S, O, K>) -> Reported<S, O, K>
     ensures due { result.due ≡ reporter.duties.due }
     ensures asked { result.asked_at ≡ None }
 {
-    Reported {
+    ReporterResult {
         seat: reporter.seat,
         out: reporter.out,
         beside: reporter.beside,
@@ -187,8 +187,8 @@ fn do_act<
     ended: &Bell,
     format: Format,
     act: Act,
-    mut reported: Reported<Seat<N, L>, S, Beside<T, A>>,
-) -> Reported<Seat<N, L>, S, Beside<T, A>>
+    mut reported: ReporterResult<Seat<N, L>, S, Beside<T, A>>,
+) -> ReporterResult<Seat<N, L>, S, Beside<T, A>>
     ensures { DoesAct S.state (λ b. b.record) format L.start act reported result }
 {
     match act {

@@ -5,14 +5,14 @@ ghost use Rattle.station_main.specs.Limits.{program_limits};
 ghost use Rattle.station_main.specs.Output.{buffered_of};
 ghost use Rattle.station_desk.specs.Start.{Start};
 ghost use Rattle.station_main.specs.Recorded.{Recording};
-ghost use Rattle.station_main.specs.Rounds.{Asked, Begun, EndsRound, EndsStation, Given, IsFirst, IsLastStation, IsRound, IsServed, begun_of};
+ghost use Rattle.station_main.specs.Rounds.{RunPlan, Begun, EndsRound, EndsStation, RoundStart, IsFirst, IsLastStation, IsRound, IsServed, begun_of};
 ghost use Rattle.station_main.specs.Run.{Closing, IsUnstarted};
 ghost use Rattle.station_main.specs.Telling.{Told, told_of};
 
 use crate::beside::Beside;
 use crate::faults::{Fault, tell};
 use crate::kept::{Kept, keep};
-use crate::output::{Ran, Written, without_output};
+use crate::output::{ClosedOutput, JobResult, without_output};
 use crate::paths::{Paths, join_ended};
 use crate::shift::{Ended, Finished, Shift, run_shift};
 use crate::standard_error::StandardError;
@@ -34,7 +34,7 @@ use std::time::{Clock, Instant};
 #[derive(Drop)]
 pub enum Round<O> {
     /// A fault was printed, or it was the last round.
-    Over(Ran<O>),
+    Over(JobResult<O>),
     /// Another round follows.
     GoesOn { out: O, kept: Kept },
 }
@@ -59,7 +59,7 @@ pub fn run_round<
     requires few { length shift.inputs.items ≤ 8 }
     requires many { length shift.answers.items ≡ length shift.inputs.items }
     requires sound { IsSound program_limits shift.kept.recent.base (reverse shift.kept.recent.entries.items) }
-    ensures { (asked : Asked) (given : Given) (before : Option (List ℕ)) →
+    ensures { (asked : RunPlan) (given : RoundStart) (before : Option (List ℕ)) →
         IsFirst asked given (begun_of shift.entry) →
         buffered_of O.contents shift.entry.out ≡ record { taken = before; failures = 0 } →
         EndsRound O.contents asked is_last given before beside.old.record beside.new.record
@@ -126,7 +126,7 @@ fn end_round<R: Threads + Wait, O: Write + Drop, T: Sink, A: Write, E: Write>(
     beside: &mut Beside<T, A>,
     err: &mut StandardError<E>,
 ) -> Round<O>
-    ensures { (asked : Asked) (given : Given) (begun : Begun) (start : Start) (closing : Closing)
+    ensures { (asked : RunPlan) (given : RoundStart) (begun : Begun) (start : Start) (closing : Closing)
         (mid before : Option (List ℕ)) (shown was : Option Recording) →
         IsServed O.contents begun start closing mid shown beside.old.record finished.entry →
         ((after : Option (List ℕ)) (err_new : Told) (status : ℕ) →
@@ -141,7 +141,7 @@ fn end_round<R: Threads + Wait, O: Write + Drop, T: Sink, A: Write, E: Write>(
         journal,
         inputs,
         answers,
-        written: Written { out, has_failed },
+        written: ClosedOutput { out, has_failed },
     } = finished;
     join_ended(rt, &inputs, paths.threads);
     let status = tell_end(err, &answers, has_failed);
@@ -158,11 +158,11 @@ fn end_round<R: Threads + Wait, O: Write + Drop, T: Sink, A: Write, E: Write>(
 }
 
 // What a run leaves that has read its paths.
-fn ended<O>(status: u8, out: O) -> Ran<O>
+fn ended<O>(status: u8, out: O) -> JobResult<O>
     ensures status { result.status ≡ status }
     ensures out { result.out ≡ Some out }
 {
-    Ran {
+    JobResult {
         status,
         out: Some(out),
     }

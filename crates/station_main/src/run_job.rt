@@ -5,7 +5,7 @@ ghost use Rattle.station_journal.specs.Resume.{IsSound};
 ghost use Rattle.station_main.specs.Command.{format_since};
 ghost use Rattle.station_main.specs.Limits.{forget_at, program_limits};
 ghost use Rattle.station_main.specs.Output.{buffered_of};
-ghost use Rattle.station_main.specs.Rounds.{EndsRound, IsFirst, Runs, RunsAsked, begun_of, given_of, nothing};
+ghost use Rattle.station_main.specs.Rounds.{EndsRound, IsFirst, RunsRounds, RunsAsked, begun_of, start_of, no_start};
 ghost use Rattle.station_main.specs.Run.{IsEarly};
 ghost use Rattle.station_main.specs.Telling.{told_of};
 
@@ -14,7 +14,7 @@ use crate::duties::Duties;
 use crate::faults::Fault;
 use crate::kept::Kept;
 use crate::limits::{FORGET_AT, TABLE_ROOM};
-use crate::output::{Ran, without_output};
+use crate::output::{JobResult, without_output};
 use crate::path_host::PathHost;
 use crate::paths::{Paths, open_all, start_all};
 use crate::record_file::record_to;
@@ -24,7 +24,7 @@ use crate::schedule::Tables;
 use crate::shift::Shift;
 use crate::standard_error::StandardError;
 use crate::threads::Output;
-use crate::words::RunOptions;
+use crate::words::RunArguments;
 use station_report::{Sink, ToWrite};
 use std::alloc::Global;
 use std::fs::File;
@@ -36,7 +36,7 @@ use std::time::{Clock, Instant};
 
 /// The options of a run.
 #[derive(Clone, Copy)]
-pub struct Asked<'a> {
+pub struct RunOptions<'a> {
     /// When tables are due, and how they are written.
     pub tables: Tables,
     /// 1 to 1,000.
@@ -55,30 +55,30 @@ pub struct Asked<'a> {
     pub hand_over_at: u64,
 }
 
-impl<'a> Asked<'a> {
-    /// What the options ask for. The clock of JSON tables begins at `origin`, in milliseconds since 1970.
-    pub fn new(options: &'a RunOptions, origin: u64) -> Self
+impl<'a> RunOptions<'a> {
+    /// What the arguments ask for. The clock of JSON tables begins at `origin`, in milliseconds since 1970.
+    pub fn new(arguments: &'a RunArguments, origin: u64) -> Self
         ensures tables { result.tables ≡ record {
-          pace = options.entry.now.pace;
-          format = format_since options.entry.now.format origin;
+          pace = arguments.entry.now.pace;
+          format = format_since arguments.entry.now.format origin;
         } }
-        ensures rounds { result.rounds ≡ options.entry.now.rounds }
-        ensures record { result.record.now ≡ options.entry.now.record }
-        ensures displays { result.displays.now ≡ options.entry.now.displays }
-        ensures paths { result.paths.now ≡ options.entry.now.paths }
+        ensures rounds { result.rounds ≡ arguments.entry.now.rounds }
+        ensures file { result.record.now ≡ arguments.entry.now.record }
+        ensures displays { result.displays.now ≡ arguments.entry.now.displays }
+        ensures paths { result.paths.now ≡ arguments.entry.now.paths }
         ensures hand_over_at { result.hand_over_at ≡ forget_at }
     {
-        Asked {
+        RunOptions {
             tables: Tables {
-                pace: options.pace,
-                format: options.format.since(origin),
+                pace: arguments.pace,
+                format: arguments.format.since(origin),
             },
-            rounds: options.rounds,
-            reopens: options.reopens,
+            rounds: arguments.rounds,
+            reopens: arguments.reopens,
             origin,
-            record: &options.record,
-            displays: &options.displays,
-            paths: &options.paths,
+            record: &arguments.record,
+            displays: &arguments.displays,
+            paths: &arguments.paths,
             hand_over_at: FORGET_AT,
         }
     }
@@ -103,12 +103,12 @@ pub fn run_paths<
     rt: &R,
     own: W,
     alloc: Global,
-    asked: Asked<'_>,
+    asked: RunOptions<'_>,
     out: O,
     alarm: A,
     beside: &mut Beside<Output<File>, A>,
     err: &mut StandardError<E>,
-) -> Ran<O>
+) -> JobResult<O>
     requires rounds { 1 ≤ asked.rounds }
     requires paths { length asked.paths.now.items ≤ 8 }
     requires unrecorded { beside.old.record ≡ None }
@@ -125,8 +125,8 @@ pub fn run_paths<
         Ok(recorder) => beside.record = Some(recorder),
         Err(fault) => return without_output(err, fault),
     }
-    let Ran { status, out } = run_rounds(rt, own, alloc, asked, out, beside, err);
-    Ran {
+    let JobResult { status, out } = run_rounds(rt, own, alloc, asked, out, beside, err);
+    JobResult {
         status: status.max(status_of(&beside.record)),
         out,
     }
@@ -141,16 +141,16 @@ fn run_rounds<
     rt: &R,
     own: impl Wait + Clock + PathHost + Copy + Send + 'static,
     alloc: Global,
-    asked: Asked<'_>,
+    asked: RunOptions<'_>,
     out: O,
     beside: &mut Beside<impl Sink + Send + Drop, impl Write + Send + Drop>,
     err: &mut StandardError<E>,
-) -> Ran<O>
+) -> JobResult<O>
     requires rounds { 1 ≤ asked.rounds }
     requires paths { length asked.paths.now.items ≤ 8 }
     ensures most { result.status ≤ 1 }
-    ensures runs { Runs (record { tables = asked.entry.tables; paths = map string_bytes asked.entry.paths.now.items; hand_over_at = asked.entry.hand_over_at })
-        (asked.entry.rounds - 1) nothing (O.contents out) (option_map (λ left. O.contents left) result.out)
+    ensures runs { RunsRounds (record { tables = asked.entry.tables; paths = map string_bytes asked.entry.paths.now.items; hand_over_at = asked.entry.hand_over_at })
+        (asked.entry.rounds - 1) no_start (O.contents out) (option_map (λ left. O.contents left) result.out)
         beside.old.record beside.new.record
         (told_of E.contents err.old) (told_of E.contents err.new) result.status }
 {
@@ -183,7 +183,7 @@ fn one_round<
     rt: &R,
     own: W,
     alloc: Global,
-    asked: Asked<'_>,
+    asked: RunOptions<'_>,
     start: Option<Instant>,
     kept: Kept,
     out: O,
@@ -194,7 +194,7 @@ fn one_round<
     requires few { length asked.paths.now.items ≤ 8 }
     requires sound { IsSound program_limits kept.recent.base (reverse kept.recent.entries.items) }
     ensures { EndsRound O.contents (record { tables = asked.entry.tables; paths = map string_bytes asked.entry.paths.now.items; hand_over_at = asked.entry.hand_over_at })
-        is_last (given_of kept) (O.contents out)
+        is_last (start_of kept) (O.contents out)
         beside.old.record beside.new.record
         (told_of E.contents err.old) (told_of E.contents err.new) result }
 {
@@ -209,7 +209,7 @@ fn prepare<'a, 'p, R: Threads + Wait + Files<File = File>, O: Write + Drop>(
     rt: &'a R,
     own: impl Wait + Clock + PathHost + Copy + Send + 'static,
     alloc: Global,
-    asked: Asked<'p>,
+    asked: RunOptions<'p>,
     kept: Kept,
     out: O,
 ) -> Result<(Paths, Shift<'a, R, O>), Fault<'p>>
@@ -219,7 +219,7 @@ fn prepare<'a, 'p, R: Threads + Wait + Files<File = File>, O: Write + Drop>(
     ensures inputs { IfOk result (λ made. length made.1.inputs.items ≡ length asked.entry.paths.now.items) }
     ensures answers { IfOk result (λ made. length made.1.answers.items ≡ length asked.entry.paths.now.items) }
     ensures first { IfOk result (λ made. IsFirst (record { tables = asked.entry.tables; paths = map string_bytes asked.entry.paths.now.items; hand_over_at = asked.entry.hand_over_at })
-        (given_of kept) (begun_of made.1)) }
+        (start_of kept) (begun_of made.1)) }
     ensures out { IfOk result (λ made. buffered_of O.contents made.1.out
         ≡ record { taken = O.contents out; failures = 0 }) }
 {

@@ -2,7 +2,7 @@
 ghost use Rattle.std.specs.Prelude.{◌≡◌, ◌-◌, ◌^◌, ◌/◌, ℕ, List, [], ◌∷◌, Option, None, min};
 ghost use Rattle.std.specs.Duration.{as_nanos};
 ghost use Rattle.std.specs.Io.KnownBytes.{Appends};
-ghost use Rattle.station_main.specs.Reporter.{IsActAt, after_table, after_tick, first_of, has_come, next_moment, next_tick};
+ghost use Rattle.station_main.specs.Reporter.{IsActAt, after_table, after_tick, first_due, has_come, next_moment, next_tick};
 
 use station_report::Format;
 use std::time::{Clock, Duration, Instant};
@@ -79,7 +79,7 @@ impl Due {
 
     // The time of what is due first.
     fn first(self) -> u64
-        ensures { result ≡ first_of self }
+        ensures { result ≡ first_due self }
     {
         match self.tick {
             Some(tick) => self.table.min(tick),
@@ -150,12 +150,12 @@ pub trait Moments {
 
 /// The time since a start. It stays 0 if the clock couldn't be read at the start.
 #[derive(Drop)]
-pub struct Since<'a, R> {
+pub struct ElapsedClock<'a, R> {
     pub rt: &'a R,
     pub start: Option<Instant>,
 }
 
-impl<R: Clock> Moments for Since<'_, R> {
+impl<R: Clock> Moments for ElapsedClock<'_, R> {
     ghost given = { λ _. None };
 
     // A clock that can't be read counts as one that still shows the start.

@@ -1,7 +1,7 @@
 //! One station of a round of the job `run`.
 ghost use Rattle.std.specs.Prelude.{◌≡◌, IfErr, IfOk, IfSome, Some, length};
 ghost use Rattle.station_main.specs.Output.{buffered_of};
-ghost use Rattle.station_main.specs.Rounds.{EndsStation, MayBegin, begun_of, given_of};
+ghost use Rattle.station_main.specs.Rounds.{EndsStation, MayBegin, begun_of, start_of};
 ghost use Rattle.station_main.specs.Run.{IsUnstarted};
 
 mod ending;
@@ -12,7 +12,7 @@ use crate::duties::Duties;
 use crate::faults::Fault;
 use crate::kept::Kept;
 use crate::limits::AIRCRAFT;
-use crate::output::Written;
+use crate::output::ClosedOutput;
 use crate::reporter::Reporter;
 use crate::shift::ending::{finish, hand_over};
 use crate::shift::opening::begin;
@@ -64,7 +64,7 @@ pub struct Finished<'a, R, O> {
     pub inputs: Vec<Input<'a, R>>,
     /// What all stations of the round counted, by input.
     pub answers: Vec<Answer>,
-    pub written: Written<O>,
+    pub written: ClosedOutput<O>,
 }
 
 /// Starts a station and runs its threads to their ends. If it hands over, the next one goes on from what is recent in its
@@ -86,7 +86,7 @@ pub fn run_shift<
 ) -> Result<Ended<'a, R, O>, Fault<'static>>
     requires many { length shift.answers.items ≡ length shift.inputs.items }
     requires ledger { (blank.name ≡ L.name) × (blank.parts ≡ L.parts) }
-    requires may { MayBegin L.start L.parts L.seats places (given_of shift.kept) (length shift.inputs.items) }
+    requires may { MayBegin L.start L.parts L.seats places (start_of shift.kept) (length shift.inputs.items) }
     ensures unstarted { IfErr result IsUnstarted }
     ensures ended { IfOk result (EndsStation O.contents (begun_of shift.entry) (buffered_of O.contents shift.entry.out)
         beside.old.record beside.new.record) }

@@ -3,7 +3,7 @@ ghost use Rattle.std.specs.Prelude.{◌≡◌, ◌≤◌, ◌++◌, fold, max};
 ghost use Rattle.std.specs.List.{flat_map};
 ghost use Rattle.station_main.specs.Status.{fault_status, status_of};
 ghost use Rattle.station_lines.specs.Pump.{tally_of_pump};
-ghost use Rattle.station_main.specs.Sums.{AddsAnswer, Adds};
+ghost use Rattle.station_main.specs.Sums.{AddsAnswer, AddsTally};
 ghost use Rattle.station_main.specs.Telling.{Tells, output_lines, pump_lines, told_of};
 
 use crate::faults::{Fault, tell, tell_after, write_tally};
@@ -85,7 +85,7 @@ fn counted(answer: &Answer) -> Tally
 
 // The sum of each number, or what was counted before if that would pass 2^64 - 1 lines.
 fn sum(before: Tally, since: Tally) -> Tally
-    ensures { Adds before since result }
+    ensures { AddsTally before since result }
 {
     if since.lines > u64::MAX - before.lines {
         return before;

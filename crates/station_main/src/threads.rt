@@ -7,8 +7,8 @@ ghost use Rattle.station_main.specs.Run.{HaveWorked, PrintsLast};
 use crate::bell::Bell;
 use crate::beside::Beside;
 use crate::limits::{AIRCRAFT, TURNS};
-use crate::output::{Written, give_up, unbuffered};
-use crate::reporter::{Given, Reported, Reporter, print_and_record, report};
+use crate::output::{ClosedOutput, drop_unwritten, unbuffered};
+use crate::reporter::{Reporter, ReporterResult, ReportsFrom, print_and_record, report};
 use station_portions::{HandOver, Portions};
 use station_report::{Format, Sink, ToWrite};
 use station_shared::{Seat, Station, StationName, Worker, run_receivers};
@@ -41,7 +41,10 @@ pub struct Outcome<W, P> {
 }
 
 /// The same, by what is written and where.
-pub type Left<'a, L, R, S, K> = Outcome<Receiver<'a, R, L>, Reported<Seat<AIRCRAFT, L>, S, K>>;
+pub type Left<'a, L, R, S, K> = Outcome<
+    Receiver<'a, R, L>,
+    ReporterResult<Seat<AIRCRAFT, L>, S, K>,
+>;
 
 /// Runs the receivers and the reporter to their ends, each in a thread of its own. Answers `None` if the reporter's
 /// thread can't be started, and then nothing is read.
@@ -73,7 +76,7 @@ pub fn run_threads<
                 receivers.entry.items left.receivers.items) }
             ensures reporter { IfSome result (λ left. HasReported S.state (λ b. b.record) L.start reporter left.report) }
         {
-            let given = Given(Snapshot::of(&reporter));
+            let given = ReportsFrom(Snapshot::of(&reporter));
             let job = move || report(rt, station, ended, hand_overs, start, reporter);
             let Ok(reporting) = scope.spawn_with(given, job) else {
                 return None;
@@ -112,14 +115,14 @@ pub fn print_last<
     rt: &R,
     station: &Station<AIRCRAFT, L>,
     format: Format,
-    reported: Reported<Seat<AIRCRAFT, L>, Output<O>, Beside<T, A>>,
+    reported: ReporterResult<Seat<AIRCRAFT, L>, Output<O>, Beside<T, A>>,
     beside: &mut Beside<T, A>,
-) -> (Seat<AIRCRAFT, L>, Written<O>)
+) -> (Seat<AIRCRAFT, L>, ClosedOutput<O>)
     ensures { PrintsLast format L.start reported.seat result.0 (buffered_of O.contents reported.out) reported.has_failed
         (O.contents result.1.out) reported.beside.record
         beside.new.record result.1.has_failed }
 {
-    let Reported {
+    let ReporterResult {
         seat,
         mut out,
         beside: left,
@@ -129,11 +132,11 @@ pub fn print_last<
     } = reported;
     *beside = left;
     if has_failed {
-        return (seat, give_up(out.into_inner()));
+        return (seat, drop_unwritten(out.into_inner()));
     }
     let (seat, written) = print_and_record(rt, station, seat, format, &mut out, beside);
     match written {
         Ok(()) => (seat, unbuffered(out.into_inner())),
-        Err(_) => (seat, give_up(out.into_inner())),
+        Err(_) => (seat, drop_unwritten(out.into_inner())),
     }
 }

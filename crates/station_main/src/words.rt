@@ -17,12 +17,12 @@ pub enum Job {
     /// Read standard input, and write the tables that its lines ask for.
     Replay { format: TableFormat },
     /// Read the paths, each by a receiver of its own, and write a table at an interval.
-    Run(RunOptions),
+    Run(RunArguments),
 }
 
 /// What the arguments of `run` ask for.
 #[derive(Debug, Drop)]
-pub struct RunOptions {
+pub struct RunArguments {
     /// A table every 1 to 3,600,000 ms, and where it is asked a tick every 1 to 60,000 ms between two tables.
     pub pace: Pace,
     /// How often the paths are read, 1 to 1,000.
@@ -138,7 +138,7 @@ fn has_both(given: &ArgMatches<'_>) -> bool
     reopen && rounds.is_some()
 }
 
-fn read_run(alloc: Global, given: &ArgMatches<'_>) -> Result<RunOptions, AllocError>
+fn read_run(alloc: Global, given: &ArgMatches<'_>) -> Result<RunArguments, AllocError>
     requires given { IsGiven (rows_of (found_of given.now)) }
     requires not_both { gives_both (rows_of (found_of given.now)) ≡ false }
     ensures options { IfOk result (GivesRun (rows_of (found_of given.now))) }
@@ -157,7 +157,7 @@ fn read_run(alloc: Global, given: &ArgMatches<'_>) -> Result<RunOptions, AllocEr
     let format = TableFormat::named(given.get_str("format"));
     let record = owned_if_given(alloc, given.get_str("record"))?;
     let displays = owned_if_given(alloc, given.get_str("json"))?;
-    Ok(RunOptions {
+    Ok(RunArguments {
         pace: Pace { every, tick },
         rounds: rounds.unwrap_or(1),
         reopens,

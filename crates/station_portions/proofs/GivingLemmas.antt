@@ -3,7 +3,7 @@ use Rattle.std.proofs.Common.{◌≡◌, ℕ, ◌+◌, ◌-◌, ◌≤◌, inl, 
 use Rattle.std.proofs.lemmas.List.{take_at, drop-drop, drop-take, take-take, append-nil, nil_from_length, take_more}
 use Rattle.std.proofs.lemmas.Bool.Decides.{nat_tests}
 use Rattle.station_portions.specs.Batches.{IsBorder}
-use Rattle.station_portions.specs.Messages.{bytes_in, bytes_of, given_of}
+use Rattle.station_portions.specs.Messages.{bytes_of_messages, bytes_of_batch, bytes_before}
 use Rattle.station_portions.specs.declared.message.Batch.{Batch}
 use Rattle.station_portions.specs.declared.message.Message.{Message}
 use Rattle.station_portions.specs.declared.message.PathEnd.{PathEnd}
@@ -28,40 +28,40 @@ before_rest all held before is =
     ap (λ l. take (length l - length held) l) (sym is) ∙ ap (λ k. take k (before ++ held)) many ∙ take_at before held (length before) refl
 
 -- one more message
-pub bytes_in-more : (all : List Message) (x : Message) → bytes_in (all ++ x ∷ []) ≡ bytes_in all ++ bytes_in (x ∷ [])
-bytes_in-more [] x = refl
-bytes_in-more (Lines batch ∷ all) x =
-    ap (λ l. bytes_of batch ++ l) (bytes_in-more all x) ∙ sym (append_assoc (bytes_of batch) (bytes_in all) (bytes_in (x ∷ [])))
-bytes_in-more (Over end ∷ all) x = bytes_in-more all x
+pub bytes_of_messages-more : (all : List Message) (x : Message) → bytes_of_messages (all ++ x ∷ []) ≡ bytes_of_messages all ++ bytes_of_messages (x ∷ [])
+bytes_of_messages-more [] x = refl
+bytes_of_messages-more (Lines batch ∷ all) x =
+    ap (λ l. bytes_of_batch batch ++ l) (bytes_of_messages-more all x) ∙ sym (append_assoc (bytes_of_batch batch) (bytes_of_messages all) (bytes_of_messages (x ∷ [])))
+bytes_of_messages-more (Over end ∷ all) x = bytes_of_messages-more all x
 
 -- no bytes are left, so all were given
-pub given_all : (all : List Message) → given_of all [] ≡ bytes_in all
-given_all all = before_rest (bytes_in all) [] (bytes_in all) (append-nil (bytes_in all))
+pub given_all : (all : List Message) → bytes_before all [] ≡ bytes_of_messages all
+given_all all = before_rest (bytes_of_messages all) [] (bytes_of_messages all) (append-nil (bytes_of_messages all))
 
 -- a batch that was received
-pub refilled : (all : List Message) (batch : Batch) → given_of (all ++ Lines batch ∷ []) (bytes_of batch) ≡ bytes_in all
+pub refilled : (all : List Message) (batch : Batch) → bytes_before (all ++ Lines batch ∷ []) (bytes_of_batch batch) ≡ bytes_of_messages all
 refilled all batch =
-    before_rest (bytes_in (all ++ Lines batch ∷ [])) (bytes_of batch) (bytes_in all)
-    (ap (λ l. bytes_in all ++ l) (sym (append-nil (bytes_of batch))) ∙ sym (bytes_in-more all (Lines batch)))
+    before_rest (bytes_of_messages (all ++ Lines batch ∷ [])) (bytes_of_batch batch) (bytes_of_messages all)
+    (ap (λ l. bytes_of_messages all ++ l) (sym (append-nil (bytes_of_batch batch))) ∙ sym (bytes_of_messages-more all (Lines batch)))
 
 -- some of the bytes left are given
-pub given_more : (all : List Message) (held part rest : List ℕ) → given_of all held ++ held ≡ bytes_in all → held ≡ part ++ rest
-    → given_of all rest ≡ given_of all held ++ part
+pub given_more : (all : List Message) (held part rest : List ℕ) → bytes_before all held ++ held ≡ bytes_of_messages all → held ≡ part ++ rest
+    → bytes_before all rest ≡ bytes_before all held ++ part
 given_more all held part rest kept is =
-    before_rest (bytes_in all) rest (given_of all held ++ part)
-    (append_assoc (given_of all held) part rest ∙ ap (λ l. given_of all held ++ l) (sym is) ∙ kept)
+    before_rest (bytes_of_messages all) rest (bytes_before all held ++ part)
+    (append_assoc (bytes_before all held) part rest ∙ ap (λ l. bytes_before all held ++ l) (sym is) ∙ kept)
 
 -- the bytes given and the bytes left are all bytes, also after some were given
-pub kept_more : (all : List Message) (held part rest : List ℕ) → given_of all held ++ held ≡ bytes_in all → held ≡ part ++ rest
-    → given_of all rest ++ rest ≡ bytes_in all
+pub kept_more : (all : List Message) (held part rest : List ℕ) → bytes_before all held ++ held ≡ bytes_of_messages all → held ≡ part ++ rest
+    → bytes_before all rest ++ rest ≡ bytes_of_messages all
 kept_more all held part rest kept is =
     ap (λ l. l ++ rest) (given_more all held part rest kept is)
-    ∙ append_assoc (given_of all held) part rest
-    ∙ ap (λ l. given_of all held ++ l) (sym is)
+    ∙ append_assoc (bytes_before all held) part rest
+    ∙ ap (λ l. bytes_before all held ++ l) (sym is)
     ∙ kept
 
 -- the bytes of a batch end a line
-pub load_ends : (batch : Batch) → (front : List ℕ) × (bytes_of batch ≡ front ++ 10 ∷ [])
+pub load_ends : (batch : Batch) → (front : List ℕ) × (bytes_of_batch batch ≡ front ++ 10 ∷ [])
 load_ends batch =
     let last = batch.count - 1 in
     let same : batch.count ≡ last + 1 = omega (arith, batch.whole) in
@@ -70,43 +70,43 @@ load_ends batch =
       ap (λ k. take k batch.buffer.bytes.items) same ∙ more ∙ ap (λ b. take last batch.buffer.bytes.items ++ b ∷ []) batch.whole.1,
     )
 
-after_load : (batch : Batch) (rest : List ℕ) → IsBorder rest → IsBorder (bytes_of batch ++ rest)
+after_load : (batch : Batch) (rest : List ℕ) → IsBorder rest → IsBorder (bytes_of_batch batch ++ rest)
 after_load batch rest (inl none) =
-    inr ((load_ends batch).0, ap (λ l. bytes_of batch ++ l) none ∙ append-nil (bytes_of batch) ∙ (load_ends batch).1)
+    inr ((load_ends batch).0, ap (λ l. bytes_of_batch batch ++ l) none ∙ append-nil (bytes_of_batch batch) ∙ (load_ends batch).1)
 after_load batch rest (inr (front, is)) =
-    inr (bytes_of batch ++ front, ap (λ l. bytes_of batch ++ l) is ∙ sym (append_assoc (bytes_of batch) front (10 ∷ [])))
+    inr (bytes_of_batch batch ++ front, ap (λ l. bytes_of_batch batch ++ l) is ∙ sym (append_assoc (bytes_of_batch batch) front (10 ∷ [])))
 
 -- and so do those of all batches
-pub ends_border : (all : List Message) → IsBorder (bytes_in all)
+pub ends_border : (all : List Message) → IsBorder (bytes_of_messages all)
 ends_border [] = inl refl
-ends_border (Lines batch ∷ all) = after_load batch (bytes_in all) (ends_border all)
+ends_border (Lines batch ∷ all) = after_load batch (bytes_of_messages all) (ends_border all)
 ends_border (Over end ∷ all) = ends_border all
 
 -- the same for a batch that was received after others
-pub kept_refilled : (old new : List Message) (batch : Batch) → new ≡ old ++ Lines batch ∷ [] → given_of new (bytes_of batch) ++ bytes_of batch ≡ bytes_in new
+pub kept_refilled : (old new : List Message) (batch : Batch) → new ≡ old ++ Lines batch ∷ [] → bytes_before new (bytes_of_batch batch) ++ bytes_of_batch batch ≡ bytes_of_messages new
 kept_refilled old new batch is =
     rw is
-    (ap (λ l. l ++ bytes_of batch) (refilled old batch)
-    ∙ ap (λ l. bytes_in old ++ l) (sym (append-nil (bytes_of batch)))
-    ∙ sym (bytes_in-more old (Lines batch)))
+    (ap (λ l. l ++ bytes_of_batch batch) (refilled old batch)
+    ∙ ap (λ l. bytes_of_messages old ++ l) (sym (append-nil (bytes_of_batch batch)))
+    ∙ sym (bytes_of_messages-more old (Lines batch)))
 
 pub given_refilled : (old new : List Message) (held : List ℕ) (batch : Batch) → held ≡ [] → new ≡ old ++ Lines batch ∷ []
-    → given_of new (bytes_of batch) ≡ given_of old held
+    → bytes_before new (bytes_of_batch batch) ≡ bytes_before old held
 given_refilled old new held batch none is = rw (is, none) (refilled old batch ∙ sym (given_all old))
 
 -- and of the end that was received
 pub given_over : (old new : List Message) (held now : List ℕ) (end : PathEnd) → held ≡ [] → now ≡ [] → new ≡ old ++ Over end ∷ []
-    → given_of new now ≡ given_of old held
+    → bytes_before new now ≡ bytes_before old held
 given_over old new held now end none still is =
     rw (is, none, still)
-    (given_all (old ++ Over end ∷ []) ∙ bytes_in-more old (Over end) ∙ append-nil (bytes_in old) ∙ sym (given_all old))
+    (given_all (old ++ Over end ∷ []) ∙ bytes_of_messages-more old (Over end) ∙ append-nil (bytes_of_messages old) ∙ sym (given_all old))
 
 -- no bytes were given of none, so none are left
 pub nothing_left : (held buffer now : List ℕ) (n : ℕ) → n ≡ 0 → held ≡ [] → held ≡ take n buffer ++ now → now ≡ []
 nothing_left held buffer now n zero none is =
     let e : held ≡ take 0 buffer ++ now = subst (λ k. held ≡ take k buffer ++ now) zero is in sym e ∙ none
 
-pub border_given : (all : List Message) (now : List ℕ) → now ≡ [] → IsBorder (given_of all now)
+pub border_given : (all : List Message) (now : List ℕ) → now ≡ [] → IsBorder (bytes_before all now)
 border_given all now none = rw none (subst IsBorder (sym (given_all all)) (ends_border all))
 
 pub nothing_held : (held : List ℕ) → not (nat_lt 0 (length held)) ≡ true → held ≡ []

@@ -1,18 +1,17 @@
 -- The lines of the bytes read and of the bytes sent.
-use Rattle.std.proofs.Common.{◌≡◌, ℕ, ◌<◌, ◌≤◌, nat_le, false, cond, List, [], ◌∷◌, ◌++◌, length, map, take, drop, inl, inr, refl, sym, ap, ◌∙◌, subst, append_assoc, take-append-drop, length-take-le, arith}
+use Rattle.std.proofs.Common.{◌≡◌, ℕ, ◌<◌, ◌≤◌, nat_le, false, cond, List, [], ◌∷◌, ◌++◌, length, map, take, drop, inl, inr, refl, sym, ap, ◌∙◌, subst, append_assoc, take-append-drop, length-take-le, arith, Option}
 use Rattle.std.proofs.lemmas.List.{append-nil, take_all}
 use Rattle.std.proofs.lemmas.Bool.{cases_Bool}
 use Rattle.std.proofs.lemmas.Bool.Decides.{nat_tests}
 use Rattle.std.specs.Option.{option_to_list}
 use Rattle.modes_frame.specs.declared.cutter.Cut.{Cut}
 use Rattle.modes_frame.specs.declared.cutter.Cut.TheVariants.{Whole, TooLong}
-use Rattle.modes_frame.specs.Lines.{pieces, cut, cuts, ended_cuts, last_line, pending, after, told}
-use Rattle.modes_frame.proofs.LineLemmas.{none-before, pieces-line_feed, pending-push, ended-push, pending-lengthened, ended-lengthened}
+use Rattle.modes_frame.specs.Lines.{pieces, cut_of, cuts, ended_cuts, last_line, pending, cut_after, cut_ended_by}
+use Rattle.modes_frame.proofs.LineLemmas.{none-before, pieces-line_feed, pending-push, ended-push, pending-lengthened_cut, ended-lengthened_cut}
 use Rattle.station_lines.proofs.DrawingLemmas.{cuts-ended}
 use Rattle.station_portions.specs.Batches.{HasNoLineFeed, IsBorder, longest_kept}
-use Rattle.std.specs.Prelude.{Option}
 use Rattle.std.proofs.KnownBytes.{Consumes-nil, Consumes-trans}
-use Rattle.station_portions.specs.Messages.{bytes_in, bytes_of}
+use Rattle.station_portions.specs.Messages.{bytes_of_messages, bytes_of_batch}
 use Rattle.station_portions.specs.Backlog.{ReadsOn, ended_line}
 use Rattle.station_portions.specs.Sending.{KeepsLines, SendsOn, SendsPath, SentSoFar}
 use Rattle.station_portions.specs.declared.message.Batch.{Batch}
@@ -36,22 +35,22 @@ same_walk r h [] p = record {
   begun = ap pending (append-nil h) ∙ p ∙ sym (ap pending (append-nil r));
 }
 same_walk r h (c ∷ cs) p =
-    let q : pending (h ++ c ∷ []) ≡ pending (r ++ c ∷ []) = sym (pending-push h c) ∙ ap (λ k. after k c) p ∙ pending-push r c in
+    let q : pending (h ++ c ∷ []) ≡ pending (r ++ c ∷ []) = sym (pending-push h c) ∙ ap (λ k. cut_after k c) p ∙ pending-push r c in
     let w = same_walk (r ++ c ∷ []) (h ++ c ∷ []) cs q in
     record {
-      more = option_to_list (told (pending r) c) ++ w.more;
+      more = option_to_list (cut_ended_by (pending r) c) ++ w.more;
       first = ap ended_cuts (sym (append_assoc r (c ∷ []) cs)) ∙ w.first ∙ ap (λ l. l ++ w.more) (ended-push r c)
-          ∙ append_assoc (ended_cuts r) (option_to_list (told (pending r) c)) w.more;
+          ∙ append_assoc (ended_cuts r) (option_to_list (cut_ended_by (pending r) c)) w.more;
       second = ap ended_cuts (sym (append_assoc h (c ∷ []) cs)) ∙ w.second ∙ ap (λ l. l ++ w.more) (ended-push h c)
-          ∙ append_assoc (ended_cuts h) (option_to_list (told (pending h) c)) w.more
-          ∙ ap (λ k. ended_cuts h ++ (option_to_list (told k c) ++ w.more)) p;
+          ∙ append_assoc (ended_cuts h) (option_to_list (cut_ended_by (pending h) c)) w.more
+          ∙ ap (λ k. ended_cuts h ++ (option_to_list (cut_ended_by k c) ++ w.more)) p;
       begun = ap pending (sym (append_assoc h (c ∷ []) cs)) ∙ w.begun ∙ ap pending (append_assoc r (c ∷ []) cs);
     }
 
 -- at a border no line is begun
 pub border_pending : (xs : List ℕ) → IsBorder xs → pending [] ≡ pending xs
 border_pending xs (inl none) = ap pending (sym none)
-border_pending xs (inr (front, is)) = sym (ap pending is ∙ ap (λ p. cut p.rest) (pieces-line_feed front))
+border_pending xs (inr (front, is)) = sym (ap pending is ∙ ap (λ p. cut_of p.rest) (pieces-line_feed front))
 
 pub ended_border : (xs ys : List ℕ) → IsBorder xs → ended_cuts (xs ++ ys) ≡ ended_cuts xs ++ ended_cuts ys
 ended_border xs ys border =
@@ -84,12 +83,12 @@ keeps_front read sent held front rest border line is f = record {
 
 -- a line that is begun, without a line feed
 pub none_ended : (held : List ℕ) → HasNoLineFeed held → ended_cuts held ≡ []
-none_ended held none = ended-lengthened [] held none
+none_ended held none = ended-lengthened_cut [] held none
 
-pub none_pending : (held : List ℕ) → HasNoLineFeed held → pending held ≡ cut held
-none_pending held none = sym (pending-lengthened [] held none)
+pub none_pending : (held : List ℕ) → HasNoLineFeed held → pending held ≡ cut_of held
+none_pending held none = sym (pending-lengthened_cut [] held none)
 
-too_long : (xs : List ℕ) → 64 < length xs → cut xs ≡ TooLong
+too_long : (xs : List ℕ) → 64 < length xs → cut_of xs ≡ TooLong
 too_long xs long = let h : nat_le (length xs) 64 ≡ false = grind (arith, nat_tests) in ap (λ b. cond b (Whole xs) TooLong) h
 
 none_taken : (held : List ℕ) (n : ℕ) → n ≤ length held → HasNoLineFeed held → HasNoLineFeed (take n held)
@@ -116,20 +115,20 @@ cuts_border : (xs : List ℕ) → IsBorder xs → cuts xs ≡ ended_cuts xs
 cuts_border xs (inl none) = rw none refl
 cuts_border xs (inr (front, is)) =
     let e : (pieces xs).rest ≡ [] = ap (λ l. (pieces l).rest) is ∙ ap (λ p. p.rest) (pieces-line_feed front) in
-    ap (λ l. map cut ((pieces xs).ended ++ last_line l)) e ∙ ap (map cut) (append-nil (pieces xs).ended)
+    ap (λ l. map cut_of ((pieces xs).ended ++ last_line l)) e ∙ ap (map cut_of) (append-nil (pieces xs).ended)
 
 -- a line with a byte is not the empty one
-some_cut : (c : ℕ) (cs : List ℕ) → cut [] ≡ cut (c ∷ cs) → ⊥
+some_cut : (c : ℕ) (cs : List ℕ) → cut_of [] ≡ cut_of (c ∷ cs) → ⊥
 some_cut c cs is = elim (cases_Bool (nat_le (length (c ∷ cs)) 64)) [
   | inl fits ↦ let e : Whole [] ≡ Whole (c ∷ cs) = is ∙ ap (λ b. cond b (Whole (c ∷ cs)) TooLong) fits in cc
   | inr long ↦ let e : Whole [] ≡ TooLong = is ∙ ap (λ b. cond b (Whole (c ∷ cs)) TooLong) long in cc
 ]
 
-none_told : (rest : List ℕ) → cut [] ≡ cut rest → map cut (last_line rest) ≡ []
+none_told : (rest : List ℕ) → cut_of [] ≡ cut_of rest → map cut_of (last_line rest) ≡ []
 none_told [] is = refl
 none_told (c ∷ cs) is = absurd (some_cut c cs is)
 
-some_told : (c : ℕ) (cs rest : List ℕ) → cut (c ∷ cs) ≡ cut rest → map cut (last_line rest) ≡ cut (c ∷ cs) ∷ []
+some_told : (c : ℕ) (cs rest : List ℕ) → cut_of (c ∷ cs) ≡ cut_of rest → map cut_of (last_line rest) ≡ cut_of (c ∷ cs) ∷ []
 some_told c cs [] is = absurd (some_cut c cs (sym is))
 some_told c cs (d ∷ ds) is = ap (λ k. k ∷ []) (sym is)
 
@@ -143,7 +142,7 @@ line_ended read sent (c ∷ cs) border none f =
     let held = c ∷ cs in
     let last = held ++ 10 ∷ [] in
     let ends : IsBorder (sent ++ last) = inr (sent ++ held, sym (append_assoc sent held (10 ∷ []))) in
-    let begun : cut held ≡ pending read = sym (none_pending held none) ∙ f.begun in
+    let begun : cut_of held ≡ pending read = sym (none_pending held none) ∙ f.begun in
     cuts_border (sent ++ last) ends ∙ ended_border sent last border
     ∙ ap (λ l. ended_cuts sent ++ l) (ended-push held 10)
     ∙ sym (append_assoc (ended_cuts sent) (ended_cuts held) (pending held ∷ []))
@@ -154,22 +153,22 @@ line_ended read sent (c ∷ cs) border none f =
 
 -- ---- what was sent
 
-pub bytes_in-append : (xs ys : List Message) → bytes_in (xs ++ ys) ≡ bytes_in xs ++ bytes_in ys
-bytes_in-append [] ys = refl
-bytes_in-append (Lines batch ∷ xs) ys =
-    ap (λ l. bytes_of batch ++ l) (bytes_in-append xs ys) ∙ sym (append_assoc (bytes_of batch) (bytes_in xs) (bytes_in ys))
-bytes_in-append (Over end ∷ xs) ys = bytes_in-append xs ys
+pub bytes_of_messages-append : (xs ys : List Message) → bytes_of_messages (xs ++ ys) ≡ bytes_of_messages xs ++ bytes_of_messages ys
+bytes_of_messages-append [] ys = refl
+bytes_of_messages-append (Lines batch ∷ xs) ys =
+    ap (λ l. bytes_of_batch batch ++ l) (bytes_of_messages-append xs ys) ∙ sym (append_assoc (bytes_of_batch batch) (bytes_of_messages xs) (bytes_of_messages ys))
+bytes_of_messages-append (Over end ∷ xs) ys = bytes_of_messages-append xs ys
 
 -- a batch was sent
 pub sends_batch : (before after : List Message) (batch : Batch) (held rest : List ℕ) (border : ℕ) → after ≡ before ++ Lines batch ∷ []
-    → bytes_of batch ≡ take border held → rest ≡ drop border held → SendsOn before after held rest
+    → bytes_of_batch batch ≡ take border held → rest ≡ drop border held → SendsOn before after held rest
 sends_batch before after batch held rest border is front back = record {
   more = Lines batch ∷ [];
   after_is = is;
   keeps = λ read sent at f.
-      keeps_front read sent held (bytes_of batch ++ []) rest at (ends_border (Lines batch ∷ []))
-      (sym (take-append-drop border held) ∙ ap (λ l. l ++ drop border held) (sym front ∙ sym (append-nil (bytes_of batch)))
-      ∙ ap (λ l. (bytes_of batch ++ []) ++ l) (sym back)) f;
+      keeps_front read sent held (bytes_of_batch batch ++ []) rest at (ends_border (Lines batch ∷ []))
+      (sym (take-append-drop border held) ∙ ap (λ l. l ++ drop border held) (sym front ∙ sym (append-nil (bytes_of_batch batch)))
+      ∙ ap (λ l. (bytes_of_batch batch ++ []) ++ l) (sym back)) f;
 }
 
 -- and the end of a line that is too long was dropped
@@ -179,7 +178,7 @@ sends_shorter before after held mid rest none is on = record {
   more = on.more;
   after_is = on.after_is;
   keeps = λ read sent at f.
-      subst (λ l. KeepsLines read (sent ++ bytes_in on.more) l) (sym is) (keeps_short read (sent ++ bytes_in on.more) mid none (on.keeps read sent at f));
+      subst (λ l. KeepsLines read (sent ++ bytes_of_messages on.more) l) (sym is) (keeps_short read (sent ++ bytes_of_messages on.more) mid none (on.keeps read sent at f));
 }
 
 pub none_shorter : (mid rest : List ℕ) → HasNoLineFeed mid → rest ≡ take longest_kept mid → HasNoLineFeed rest
@@ -208,8 +207,8 @@ so_far_read left mid new before after held now n so_far on = record {
   more = so_far.more;
   given = Consumes-trans left mid new so_far.read on.bytes so_far.given on.given;
   after_is = so_far.after_is;
-  keeps = subst (KeepsLines (so_far.read ++ on.bytes) (bytes_in so_far.more)) (sym on.held)
-      (keeps_read so_far.read (bytes_in so_far.more) held on.bytes so_far.keeps);
+  keeps = subst (KeepsLines (so_far.read ++ on.bytes) (bytes_of_messages so_far.more)) (sym on.held)
+      (keeps_read so_far.read (bytes_of_messages so_far.more) held on.bytes so_far.keeps);
 }
 
 -- and sent
@@ -220,15 +219,15 @@ so_far_sent left new before mid after held now so_far on = record {
   more = so_far.more ++ on.more;
   given = so_far.given;
   after_is = on.after_is ∙ ap (λ l. l ++ on.more) so_far.after_is ∙ append_assoc before so_far.more on.more;
-  keeps = subst (λ l. KeepsLines so_far.read l now) (sym (bytes_in-append so_far.more on.more))
-      (on.keeps so_far.read (bytes_in so_far.more) (ends_border so_far.more) so_far.keeps);
+  keeps = subst (λ l. KeepsLines so_far.read l now) (sym (bytes_of_messages-append so_far.more on.more))
+      (on.keeps so_far.read (bytes_of_messages so_far.more) (ends_border so_far.more) so_far.keeps);
 }
 
 -- the path has ended: its last line was ended and sent
 pub path_sent : (left new : Option (List ℕ)) (before mid after : List Message) (held rest : List ℕ) → SentSoFar left new before mid held → HasNoLineFeed held
     → SendsOn mid after (ended_line held) rest → HasNoLineFeed rest → SendsPath left new before after AtEnd
 path_sent left new before mid after held rest so_far none on none' =
-    let sent = bytes_in so_far.more in
+    let sent = bytes_of_messages so_far.more in
     let last = ended_line held in
     let border = ends_border so_far.more in
     let own : KeepsLines (sent ++ last) sent last = record { lines = ended_border sent last border; begun = pending_border sent last border } in
@@ -239,10 +238,10 @@ path_sent left new before mid after held rest so_far none on none' =
       more = so_far.more ++ on.more;
       given = so_far.given;
       after_is = on.after_is ∙ ap (λ l. l ++ on.more) so_far.after_is ∙ append_assoc before so_far.more on.more;
-      lines = cuts_border (bytes_in (so_far.more ++ on.more)) (ends_border (so_far.more ++ on.more))
-          ∙ ap ended_cuts (bytes_in-append so_far.more on.more)
-          ∙ sym (append-nil (ended_cuts (sent ++ bytes_in on.more)))
-          ∙ ap (λ l. ended_cuts (sent ++ bytes_in on.more) ++ l) (sym (none_ended rest none'))
+      lines = cuts_border (bytes_of_messages (so_far.more ++ on.more)) (ends_border (so_far.more ++ on.more))
+          ∙ ap ended_cuts (bytes_of_messages-append so_far.more on.more)
+          ∙ sym (append-nil (ended_cuts (sent ++ bytes_of_messages on.more)))
+          ∙ ap (λ l. ended_cuts (sent ++ bytes_of_messages on.more) ++ l) (sym (none_ended rest none'))
           ∙ sym done.lines
           ∙ sym (cuts_border (sent ++ last) ends)
           ∙ line_ended so_far.read sent held border none so_far.keeps;
@@ -260,13 +259,13 @@ sent_up_to_failure left new before after held so_far none = record {
   more = so_far.more;
   given = so_far.given;
   after_is = so_far.after_is;
-  lines = cuts_border (bytes_in so_far.more) (ends_border so_far.more)
-      ∙ sym (append-nil (ended_cuts (bytes_in so_far.more)))
-      ∙ ap (λ l. ended_cuts (bytes_in so_far.more) ++ l) (sym (none_ended held none))
+  lines = cuts_border (bytes_of_messages so_far.more) (ends_border so_far.more)
+      ∙ sym (append-nil (ended_cuts (bytes_of_messages so_far.more)))
+      ∙ ap (λ l. ended_cuts (bytes_of_messages so_far.more) ++ l) (sym (none_ended held none))
       ∙ sym so_far.keeps.lines;
 }
 
-same_last : (one other : List ℕ) → cut one ≡ cut other → map cut (last_line one) ≡ map cut (last_line other)
+same_last : (one other : List ℕ) → cut_of one ≡ cut_of other → map cut_of (last_line one) ≡ map cut_of (last_line other)
 same_last [] other is = sym (none_told other is)
 same_last (c ∷ cs) other is = sym (some_told c cs other is)
 
@@ -274,8 +273,8 @@ same_last (c ∷ cs) other is = sym (some_told c cs other is)
 pub cuts_portions : (front rest : List ℕ) → IsBorder front → cuts (front ++ rest) ≡ cuts front ++ cuts rest
 cuts_portions front rest border =
     cuts-ended (front ++ rest)
-    ∙ ap (λ l. l ++ map cut (last_line (pieces (front ++ rest)).rest)) (ended_border front rest border)
-    ∙ append_assoc (ended_cuts front) (ended_cuts rest) (map cut (last_line (pieces (front ++ rest)).rest))
+    ∙ ap (λ l. l ++ map cut_of (last_line (pieces (front ++ rest)).rest)) (ended_border front rest border)
+    ∙ append_assoc (ended_cuts front) (ended_cuts rest) (map cut_of (last_line (pieces (front ++ rest)).rest))
     ∙ ap (λ l. ended_cuts front ++ (ended_cuts rest ++ l)) (sym (same_last (pieces rest).rest (pieces (front ++ rest)).rest (pending_border front rest border)))
     ∙ ap (λ l. ended_cuts front ++ l) (sym (cuts-ended rest))
     ∙ ap (λ l. l ++ cuts rest) (sym (cuts_border front border))

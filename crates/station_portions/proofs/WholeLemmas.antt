@@ -1,28 +1,27 @@
 -- All messages of a path.
-use Rattle.std.proofs.Common.{◌≡◌, ℕ, List, [], ◌∷◌, ◌++◌, sym, ap, ◌∙◌, subst, Option, Some, None}
-use Rattle.std.specs.Prelude.{IfSome}
+use Rattle.std.proofs.Common.{◌≡◌, ℕ, List, [], ◌∷◌, ◌++◌, sym, ap, ◌∙◌, subst, Option, Some, None, IfSome}
 use Rattle.std.proofs.lemmas.List.{append-nil}
 use Rattle.rtrb.specs.Ends.{SameRing}
 use Rattle.rtrb.specs.Ring.{Finishes, SameProducer, sent}
 use Rattle.rtrb.specs.declared.producer.Producer.{Producer}
 use Rattle.rtrb.specs.declared.finished.Finished.{Finished}
-use Rattle.station_portions.specs.Messages.{bytes_in}
+use Rattle.station_portions.specs.Messages.{bytes_of_messages}
 use Rattle.station_portions.specs.Sending.{SendsPath}
 use Rattle.station_portions.specs.Whole.{SendsAll, SendsWhole}
 use Rattle.station_portions.specs.declared.message.Message.{Message}
 use Rattle.station_portions.specs.declared.message.Message.TheVariants.{Over}
 use Rattle.station_portions.specs.declared.message.PathEnd.{PathEnd}
-use Rattle.station_portions.proofs.GivingLemmas.{bytes_in-more}
-use Rattle.station_portions.proofs.SendingLemmas.{bytes_in-append}
+use Rattle.station_portions.proofs.GivingLemmas.{bytes_of_messages-more}
+use Rattle.station_portions.proofs.SendingLemmas.{bytes_of_messages-append}
 
 -- the end was sent after a path
 pub over_sent : (left new : Option (List ℕ)) (before mid after : List Message) (end : PathEnd) → SendsPath left new before mid end → after ≡ mid ++ Over end ∷ []
     → SendsAll left new before after end
 over_sent left new before mid after end path is = record {
   read = path.read;
-  bytes = bytes_in path.more;
+  bytes = bytes_of_messages path.more;
   given = path.given;
-  sent = ap bytes_in is ∙ bytes_in-more mid (Over end) ∙ append-nil (bytes_in mid) ∙ ap bytes_in path.after_is ∙ bytes_in-append before path.more;
+  sent = ap bytes_of_messages is ∙ bytes_of_messages-more mid (Over end) ∙ append-nil (bytes_of_messages mid) ∙ ap bytes_of_messages path.after_is ∙ bytes_of_messages-append before path.more;
   lines = path.lines;
 }
 

@@ -3,8 +3,8 @@ use Rattle.std.specs.Prelude.{◌≡◌, ℕ, List, [], ◌∷◌, ◌++◌, len
 use Rattle.std.specs.Io.KnownBytes.{Consumes, IsAtEnd}
 use Rattle.station_portions.specs.declared.backlog.Backlog.{Backlog}
 
-abbrev pub unsent : Backlog → List ℕ
-unsent backlog = take backlog.count backlog.buffer.bytes.items
+abbrev pub unsent_bytes : Backlog → List ℕ
+unsent_bytes backlog = take backlog.count backlog.buffer.bytes.items
 
 -- the bytes with a line feed after them, where there are some
 abbrev pub ended_line : List ℕ → List ℕ

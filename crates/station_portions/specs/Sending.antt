@@ -4,7 +4,7 @@ use Rattle.std.specs.Io.KnownBytes.{Consumes}
 use Rattle.modes_frame.specs.declared.cutter.Cut.{Cut}
 use Rattle.modes_frame.specs.Lines.{cuts, ended_cuts, pending}
 use Rattle.station_portions.specs.Batches.{IsBorder}
-use Rattle.station_portions.specs.Messages.{bytes_in}
+use Rattle.station_portions.specs.Messages.{bytes_of_messages}
 use Rattle.station_portions.specs.declared.message.Message.{Message}
 use Rattle.station_portions.specs.declared.message.PathEnd.{PathEnd}
 use Rattle.station_portions.specs.declared.message.PathEnd.TheVariants.{AtEnd, ReadFailed}
@@ -18,7 +18,7 @@ pub record KeepsLines (read sent unsent : List ℕ) : Type 0 where
 pub record SendsOn (before after : List Message) (unsent_old unsent_new : List ℕ) : Type 0 where
   pub more : List Message
   pub after_is : after ≡ before ++ more
-  pub keeps : (read sent : List ℕ) → IsBorder sent → KeepsLines read sent unsent_old → KeepsLines read (sent ++ bytes_in more) unsent_new
+  pub keeps : (read sent : List ℕ) → IsBorder sent → KeepsLines read sent unsent_old → KeepsLines read (sent ++ bytes_of_messages more) unsent_new
 
 -- the bytes read so far, and the messages with lines of them
 pub record SentSoFar (left_old left_new : Option (List ℕ)) (before after : List Message) (unsent : List ℕ) : Type 0 where
@@ -26,7 +26,7 @@ pub record SentSoFar (left_old left_new : Option (List ℕ)) (before after : Lis
   pub more : List Message
   pub given : Consumes left_old left_new read
   pub after_is : after ≡ before ++ more
-  pub keeps : KeepsLines read (bytes_in more) unsent
+  pub keeps : KeepsLines read (bytes_of_messages more) unsent
 
 -- the lines to be sent: all, or after a failed read those that a line feed ended
 abbrev pub lines_of : PathEnd → List ℕ → List Cut
@@ -39,4 +39,4 @@ pub record SendsPath (left_old left_new : Option (List ℕ)) (before after : Lis
   pub more : List Message
   pub given : Consumes left_old left_new read
   pub after_is : after ≡ before ++ more
-  pub lines : cuts (bytes_in more) ≡ lines_of end read
+  pub lines : cuts (bytes_of_messages more) ≡ lines_of end read

@@ -6,7 +6,7 @@ use Rattle.rtrb.specs.Ends.{SameRing}
 use Rattle.rtrb.specs.Ring.{all_sent, sent}
 use Rattle.rtrb.specs.declared.producer.Producer.{Producer}
 use Rattle.rtrb.specs.declared.finished.Finished.{Finished}
-use Rattle.station_portions.specs.Messages.{bytes_in}
+use Rattle.station_portions.specs.Messages.{bytes_of_messages}
 use Rattle.station_portions.specs.Sending.{lines_of}
 use Rattle.station_portions.specs.declared.message.Message.{Message}
 use Rattle.station_portions.specs.declared.message.PathEnd.{PathEnd}
@@ -16,7 +16,7 @@ pub record SendsAll (left_old left_new : Option (List ℕ)) (before after : List
   pub read : List ℕ
   pub bytes : List ℕ
   pub given : Consumes left_old left_new read
-  pub sent : bytes_in after ≡ bytes_in before ++ bytes
+  pub sent : bytes_of_messages after ≡ bytes_of_messages before ++ bytes
   pub lines : cuts bytes ≡ lines_of end read
 
 -- the same of the messages of a thread that ended, unless the source was dropped before

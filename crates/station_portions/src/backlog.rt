@@ -53,30 +53,30 @@ impl Backlog {
     ghost use Rattle.std.specs.Prelude.{◌≡◌, ◌<◌, ◌≤◌, ◌-◌, [], IfOk, OnErr, length, slice_index_or, take, drop};
     ghost use Rattle.std.specs.Io.KnownBytes.{Keeps};
     ghost use Rattle.station_portions.specs.Batches.{HasNoLineFeed, buffer_size, longest_kept};
-    ghost use Rattle.station_portions.specs.Messages.{bytes_of};
-    ghost use Rattle.station_portions.specs.Backlog.{ReadsOn, ended_line, unsent};
+    ghost use Rattle.station_portions.specs.Messages.{bytes_of_batch};
+    ghost use Rattle.station_portions.specs.Backlog.{ReadsOn, ended_line, unsent_bytes};
 
     /// No bytes, in this buffer.
     pub fn new(buffer: Buffer) -> Self
-        ensures { unsent result ≡ [] }
+        ensures { unsent_bytes result ≡ [] }
     {
         Backlog { buffer, count: 0 }
     }
 
     /// Drops all bytes.
     pub fn clear(&mut self)
-        ensures { unsent self.new ≡ [] }
+        ensures { unsent_bytes self.new ≡ [] }
     {
         self.count = 0;
     }
 
     /// Reads once, and puts what came after the bytes that it contains. Answers how many came: 0 at the end alone.
     pub fn read_more<R: Read>(&mut self, from: &mut R) -> io::Result<usize>
-        requires room { length (unsent self.old) < buffer_size }
+        requires room { length (unsent_bytes self.old) < buffer_size }
         ensures ok { IfOk result (λ n.
-            ReadsOn (R.remaining from.old) (R.remaining from.new) (unsent self.old) (unsent self.new) n) }
+            ReadsOn (R.remaining from.old) (R.remaining from.new) (unsent_bytes self.old) (unsent_bytes self.new) n) }
         ensures err { OnErr result
-            (Keeps (R.remaining from.old) (R.remaining from.new) × (unsent self.new ≡ unsent self.old)) }
+            (Keeps (R.remaining from.old) (R.remaining from.new) × (unsent_bytes self.new ≡ unsent_bytes self.old)) }
     {
         let held = self.count;
         let count = from.read(&mut self.buffer.bytes[held..])?;
@@ -86,20 +86,20 @@ impl Backlog {
 
     /// The place after the last line feed, or 0 where there is none.
     pub fn border(&self) -> usize
-        ensures within { result ≤ length (unsent self.now) }
-        ensures after { 0 < result → slice_index_or (unsent self.now) (result - 1) 0 ≡ 10 }
-        ensures none { HasNoLineFeed (drop result (unsent self.now)) }
+        ensures within { result ≤ length (unsent_bytes self.now) }
+        ensures after { 0 < result → slice_index_or (unsent_bytes self.now) (result - 1) 0 ≡ 10 }
+        ensures none { HasNoLineFeed (drop result (unsent_bytes self.now)) }
     {
         border(&self.buffer.bytes[..self.count])
     }
 
     /// Takes out the bytes before `border`, the place after a line feed. The others move to `spare`.
     pub fn split(&mut self, border: usize, spare: Buffer) -> Batch
-        requires within { border ≤ length (unsent self.old) }
+        requires within { border ≤ length (unsent_bytes self.old) }
         requires some { 0 < border }
-        requires after { slice_index_or (unsent self.old) (border - 1) 0 ≡ 10 }
-        ensures front { bytes_of result ≡ take border (unsent self.old) }
-        ensures rest { unsent self.new ≡ drop border (unsent self.old) }
+        requires after { slice_index_or (unsent_bytes self.old) (border - 1) 0 ≡ 10 }
+        ensures front { bytes_of_batch result ≡ take border (unsent_bytes self.old) }
+        ensures rest { unsent_bytes self.new ≡ drop border (unsent_bytes self.old) }
     {
         let rest = self.count - border;
         let spare = filled_with(spare, &self.buffer.bytes[border..self.count]);
@@ -112,15 +112,15 @@ impl Backlog {
 
     /// Drops what is beyond the first 512 bytes.
     pub fn shorten(&mut self)
-        ensures { unsent self.new ≡ take longest_kept (unsent self.old) }
+        ensures { unsent_bytes self.new ≡ take longest_kept (unsent_bytes self.old) }
     {
         self.count = self.count.min(LONGEST_KEPT);
     }
 
     /// Puts a line feed after the bytes, where there are some.
     pub fn end_line(&mut self)
-        requires { length (unsent self.old) < buffer_size }
-        ensures { unsent self.new ≡ ended_line (unsent self.old) }
+        requires { length (unsent_bytes self.old) < buffer_size }
+        ensures { unsent_bytes self.new ≡ ended_line (unsent_bytes self.old) }
     {
         if self.count == 0 {
             return;

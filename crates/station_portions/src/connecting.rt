@@ -1,7 +1,7 @@
 //! Both ends of a source of portions.
 ghost use Rattle.std.specs.Prelude.{◌≡◌, IfOk, []};
 ghost use Rattle.rtrb.specs.Ring.{IsPair, sent};
-ghost use Rattle.station_portions.specs.Giving.{given, taken};
+ghost use Rattle.station_portions.specs.Giving.{given_bytes, taken_messages};
 
 use crate::backlog::Backlog;
 use crate::hand_over::HandOver;
@@ -21,8 +21,8 @@ pub fn connect<R>(
     rt: &R,
     alloc: Global,
 ) -> Result<(PathReader, Portions<'_, R>, Arc<HandOver, Global>), AllocError>
-    ensures given { IfOk result (λ made. given made.1 ≡ []) }
-    ensures taken { IfOk result (λ made. taken made.1 ≡ []) }
+    ensures given { IfOk result (λ made. given_bytes made.1 ≡ []) }
+    ensures taken { IfOk result (λ made. taken_messages made.1 ≡ []) }
     ensures sent { IfOk result (λ made. sent made.0.messages ≡ []) }
     ensures pair { IfOk result (λ made. IsPair made.0.messages made.1.messages) }
 {

@@ -58,7 +58,7 @@ impl PathReader {
     ghost use Rattle.std.specs.Prelude.{◌≡◌, ◌≤◌, ◌++◌, ◌∷◌, [], IfOk, length};
     ghost use Rattle.rtrb.specs.Ring.{SameProducer, sent};
     ghost use Rattle.station_portions.specs.Batches.{HasNoLineFeed, longest_kept};
-    ghost use Rattle.station_portions.specs.Backlog.{unsent};
+    ghost use Rattle.station_portions.specs.Backlog.{unsent_bytes};
     ghost use Rattle.station_portions.specs.Sending.{SendsOn, SendsPath, SentSoFar};
     ghost use Rattle.station_portions.specs.Whole.{SendsWhole};
     ghost use Rattle.station_portions.specs.declared.message.Message.TheVariants.{Over};
@@ -67,8 +67,8 @@ impl PathReader {
     fn send_ended<R: Wait>(&mut self, rt: &R)
         ensures ring { SameProducer self.old.messages self.new.messages }
         ensures sends { SendsOn (sent self.old.messages) (sent self.new.messages)
-            (unsent self.old.backlog) (unsent self.new.backlog) }
-        ensures none { HasNoLineFeed (unsent self.new.backlog) }
+            (unsent_bytes self.old.backlog) (unsent_bytes self.new.backlog) }
+        ensures none { HasNoLineFeed (unsent_bytes self.new.backlog) }
     {
         let border = self.backlog.border();
         if border == 0 {
@@ -88,9 +88,9 @@ impl PathReader {
     fn send_lines<R: Wait>(&mut self, rt: &R)
         ensures ring { SameProducer self.old.messages self.new.messages }
         ensures sends { SendsOn (sent self.old.messages) (sent self.new.messages)
-            (unsent self.old.backlog) (unsent self.new.backlog) }
-        ensures none { HasNoLineFeed (unsent self.new.backlog) }
-        ensures short { length (unsent self.new.backlog) ≤ longest_kept }
+            (unsent_bytes self.old.backlog) (unsent_bytes self.new.backlog) }
+        ensures none { HasNoLineFeed (unsent_bytes self.new.backlog) }
+        ensures short { length (unsent_bytes self.new.backlog) ≤ longest_kept }
     {
         self.send_ended(rt);
         self.backlog.shorten();
@@ -98,12 +98,12 @@ impl PathReader {
 
     // Sends the lines of a reader that a line feed ends, up to its end or a failed read.
     fn send_up_to_end<R: Wait, I: Read>(&mut self, rt: &R, from: &mut I) -> io::Result<()>
-        requires { unsent self.old.backlog ≡ [] }
+        requires { unsent_bytes self.old.backlog ≡ [] }
         ensures ring { SameProducer self.old.messages self.new.messages }
         ensures so_far { SentSoFar (I.remaining from.old) (I.remaining from.new)
-            (sent self.old.messages) (sent self.new.messages) (unsent self.new.backlog) }
-        ensures none { HasNoLineFeed (unsent self.new.backlog) }
-        ensures short { length (unsent self.new.backlog) ≤ longest_kept }
+            (sent self.old.messages) (sent self.new.messages) (unsent_bytes self.new.backlog) }
+        ensures none { HasNoLineFeed (unsent_bytes self.new.backlog) }
+        ensures short { length (unsent_bytes self.new.backlog) ≤ longest_kept }
     {
         for _ in rt.forever() {
             let count = self.backlog.read_more(from)?;

@@ -1,7 +1,7 @@
 //! A source over the lines that a path's reader sends.
 ghost use Rattle.std.specs.Prelude.{◌≡◌, ◌<◌, ◌≤◌, ◌++◌, ◌∷◌, IfSome, IfNone, [], length, take};
 ghost use Rattle.rtrb.specs.Ring.{SameConsumer, received};
-ghost use Rattle.station_portions.specs.Messages.{bytes_in, given_of, ungiven_of};
+ghost use Rattle.station_portions.specs.Messages.{bytes_of_messages, bytes_before, ungiven_of};
 
 use crate::finished_path::FinishedPath;
 use crate::hand_over::HandOver;
@@ -26,8 +26,8 @@ pub struct Portions<'a, R> {
     reads: u64,
     ends: u64,
     failures: u64,
-    ghost kept: { given_of (received messages) (ungiven_of batch at) ++ ungiven_of batch at
-        ≡ bytes_in (received messages) },
+    ghost kept: { bytes_before (received messages) (ungiven_of batch at) ++ ungiven_of batch at
+        ≡ bytes_of_messages (received messages) },
 }
 
 // Gives what is left of a batch, as far as there is room.
@@ -85,15 +85,15 @@ impl<R: Wait> Portions<'_, R> {
     ghost use Rattle.std.specs.Prelude.{◌≡◌, [], IfSome, Some};
     ghost use mathlib.Core.List.{IsPrefix};
     ghost use Rattle.rtrb.specs.Ring.{SameConsumer};
-    ghost use Rattle.station_portions.specs.Giving.{given, state_of, taken, ungiven};
+    ghost use Rattle.station_portions.specs.Giving.{given_bytes, state_of, taken_messages, ungiven_bytes};
 
     // Takes the next message, unless a hand-over is requested.
     fn refill(&mut self)
-        requires { ungiven self.old ≡ [] }
-        ensures given { given self.new ≡ given self.old }
+        requires { ungiven_bytes self.old ≡ [] }
+        ensures given { given_bytes self.new ≡ given_bytes self.old }
         ensures ring { SameConsumer self.old.messages self.new.messages }
-        ensures taken { IsPrefix (taken self.old) (taken self.new) }
-        ensures over { IfSome self.old.end (λ e. (self.new.end ≡ Some e) × (taken self.new ≡ taken self.old)) }
+        ensures taken { IsPrefix (taken_messages self.old) (taken_messages self.new) }
+        ensures over { IfSome self.old.end (λ e. (self.new.end ≡ Some e) × (taken_messages self.new ≡ taken_messages self.old)) }
         ensures reads { self.new.reads ≡ self.old.reads }
         ensures ends { self.new.ends ≡ self.old.ends }
         ensures failures { self.new.failures ≡ self.old.failures }
@@ -117,9 +117,9 @@ impl<R: Wait> Portions<'_, R> {
 impl<'a, R> Portions<'a, R> {
     ghost use Rattle.std.specs.Prelude.{◌≡◌, ◌<◌, ◌≤◌, ◌++◌, IfSome, [], not, length, nat_lt, take, true};
     ghost use Rattle.rtrb.specs.Ring.{IsFinishedOf, SameConsumer, all_sent, received};
-    ghost use Rattle.station_portions.specs.Messages.{bytes_in};
+    ghost use Rattle.station_portions.specs.Messages.{bytes_of_messages};
     ghost use Rattle.station_portions.specs.Batches.{IsBorder};
-    ghost use Rattle.station_portions.specs.Giving.{given, state_of, taken, ungiven};
+    ghost use Rattle.station_portions.specs.Giving.{given_bytes, state_of, taken_messages, ungiven_bytes};
 
     // Takes the messages from here on.
     pub(crate) fn new(
@@ -129,7 +129,7 @@ impl<'a, R> Portions<'a, R> {
         emptied: Producer<Buffer>,
     ) -> Self
         requires { received messages ≡ [] }
-        ensures given { given result ≡ [] }
+        ensures given { given_bytes result ≡ [] }
         ensures messages { result.messages ≡ messages }
     {
         Portions {
@@ -155,8 +155,8 @@ impl<'a, R> Portions<'a, R> {
 
     /// Whether every byte that was received is given, and so no line is begun.
     pub fn is_between_lines(&self) -> bool
-        ensures empty { result ≡ not (nat_lt 0 (length (ungiven self.now))) }
-        ensures border { result ≡ true → IsBorder (given self.now) }
+        ensures empty { result ≡ not (nat_lt 0 (length (ungiven_bytes self.now))) }
+        ensures border { result ≡ true → IsBorder (given_bytes self.now) }
     {
         !self.has_bytes()
     }
@@ -164,12 +164,12 @@ impl<'a, R> Portions<'a, R> {
     /// Whether every byte is given that this path's thread sent. It answers no where it can't know.
     pub fn gave_all<I>(&mut self, path: &mut FinishedPath<I>) -> bool
         requires { IfSome path.old.sent (λ f. IsFinishedOf f self.old.messages) }
-        ensures given { given self.new ≡ given self.old }
+        ensures given { given_bytes self.new ≡ given_bytes self.old }
         ensures end { self.new.end ≡ self.old.end }
         ensures reads { self.new.reads ≡ self.old.reads }
         ensures ends { self.new.ends ≡ self.old.ends }
         ensures failures { self.new.failures ≡ self.old.failures }
-        ensures all { result ≡ true → IfSome path.old.sent (λ f. given self.new ≡ bytes_in (all_sent f)) }
+        ensures all { result ≡ true → IfSome path.old.sent (λ f. given_bytes self.new ≡ bytes_of_messages (all_sent f)) }
     {
         let Some(sent) = &mut path.sent else {
             return false;
@@ -179,7 +179,7 @@ impl<'a, R> Portions<'a, R> {
 
     // Whether bytes were received that aren't given yet.
     fn has_bytes(&self) -> bool
-        ensures { result ≡ nat_lt 0 (length (ungiven self.now)) }
+        ensures { result ≡ nat_lt 0 (length (ungiven_bytes self.now)) }
     {
         match &self.batch {
             Some(batch) => self.at < batch.count,
@@ -191,10 +191,10 @@ impl<'a, R> Portions<'a, R> {
     fn give_some(&mut self, buffer: &mut [u8]) -> usize
         ensures room { length buffer.new ≡ length buffer.old }
         ensures within { result ≤ length buffer.new }
-        ensures given { given self.new ≡ given self.old ++ take result buffer.new }
-        ensures border { result ≡ 0 → 0 < length buffer.new → IsBorder (given self.new) }
+        ensures given { given_bytes self.new ≡ given_bytes self.old ++ take result buffer.new }
+        ensures border { result ≡ 0 → 0 < length buffer.new → IsBorder (given_bytes self.new) }
         ensures ring { SameConsumer self.old.messages self.new.messages }
-        ensures taken { taken self.new ≡ taken self.old }
+        ensures taken { taken_messages self.new ≡ taken_messages self.old }
         ensures end { self.new.end ≡ self.old.end }
         ensures reads { self.new.reads ≡ self.old.reads }
         ensures ends { self.new.ends ≡ self.old.ends }
@@ -209,10 +209,10 @@ impl<R: Wait> Source for Portions<'_, R> {
     ghost use mathlib.Core.List.{IsPrefix};
     ghost use Rattle.rtrb.specs.Ring.{SameConsumer};
     ghost use Rattle.std.specs.Io.KnownBytes.{ReadConsumes, WriteAppends};
-    ghost use Rattle.station_report.specs.Sink.{counted};
+    ghost use Rattle.station_report.specs.Sink.{count_after};
     ghost use Rattle.station_lines.specs.Source.{is_end, one_more};
     ghost use Rattle.station_portions.specs.Batches.{IsBorder};
-    ghost use Rattle.station_portions.specs.Giving.{given, state_of, taken, ungiven};
+    ghost use Rattle.station_portions.specs.Giving.{given_bytes, state_of, taken_messages, ungiven_bytes};
     ghost use Rattle.station_portions.specs.declared.message.PathEnd.TheVariants.{ReadFailed};
 
     ghost state = { state_of };
@@ -227,15 +227,15 @@ impl<R: Wait> Source for Portions<'_, R> {
     fn read(&mut self, buffer: &mut [u8]) -> Result<usize, Failed>
         ensures within { IfOk result (λ n. n ≤ length buffer.new) }
         ensures bytes { ReadConsumes None None result buffer.new }
-        ensures given { WriteAppends (Some (given self.old)) (Some (given self.new)) result buffer.new }
+        ensures given { WriteAppends (Some (given_bytes self.old)) (Some (given_bytes self.new)) result buffer.new }
         ensures reads { self.new.reads ≡ one_more self.old.reads }
-        ensures ends { self.new.ends ≡ counted (not (is_end result (length buffer.new))) self.old.ends }
-        ensures failures { self.new.failures ≡ counted (is_ok result) self.old.failures }
-        ensures at_hand { nat_lt 0 (length (ungiven self.old)) ≡ true → is_ok result ≡ true }
-        ensures border { result ≡ Ok 0 → 0 < length buffer.new → IsBorder (given self.new) }
+        ensures ends { self.new.ends ≡ count_after (not (is_end result (length buffer.new))) self.old.ends }
+        ensures failures { self.new.failures ≡ count_after (is_ok result) self.old.failures }
+        ensures at_hand { nat_lt 0 (length (ungiven_bytes self.old)) ≡ true → is_ok result ≡ true }
+        ensures border { result ≡ Ok 0 → 0 < length buffer.new → IsBorder (given_bytes self.new) }
         ensures ring { SameConsumer self.old.messages self.new.messages }
-        ensures taken { IsPrefix (taken self.old) (taken self.new) }
-        ensures over { IfSome self.old.end (λ e. (self.new.end ≡ Some e) × (taken self.new ≡ taken self.old)) }
+        ensures taken { IsPrefix (taken_messages self.old) (taken_messages self.new) }
+        ensures over { IfSome self.old.end (λ e. (self.new.end ≡ Some e) × (taken_messages self.new ≡ taken_messages self.old)) }
         ensures failed { OnErr result (self.new.end ≡ Some ReadFailed) }
     {
         self.reads = self.reads.saturating_add(1);

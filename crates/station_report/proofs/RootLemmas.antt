@@ -1,6 +1,5 @@
 -- The root of a number.
-use Rattle.std.proofs.Common.{◌≡◌, ℕ, zero, suc, ◌+◌, ◌*◌, ◌<◌, ◌≤◌, Bool, true, false, le_antisymm, mul-le-mul, ⊎_elim, if◌then◌else◌, refl, arith, lit<, lit≤}
-use Rattle.std.specs.Prelude.{nat_le}
+use Rattle.std.proofs.Common.{◌≡◌, ℕ, zero, suc, ◌+◌, ◌*◌, ◌<◌, ◌≤◌, Bool, true, false, le_antisymm, mul-le-mul, ⊎_elim, if◌then◌else◌, refl, arith, lit<, lit≤, nat_le}
 use Rattle.std.proofs.lemmas.Bool.{leb-true, leb-false, cases_lt}
 use Rattle.station_report.specs.Motion.{IsRoot, root}
 

@@ -42,8 +42,8 @@ if_known text (Some a) = text a
 unfoldable pub flight : List ℕ → List ℕ
 flight callsign = codes ",\"flight\":\"" ++ callsign_text callsign ++ codes "\""
 
-unfoldable pub altitude : ℤ → List ℕ
-altitude feet = codes ",\"alt_baro\":" ++ signed_decimal feet ++ codes ",\"altitude\":" ++ signed_decimal feet
+unfoldable pub altitude_members : ℤ → List ℕ
+altitude_members feet = codes ",\"alt_baro\":" ++ signed_decimal feet ++ codes ",\"altitude\":" ++ signed_decimal feet
 
 unfoldable pub track_member : ℕ → List ℕ
 track_member degrees = codes ",\"track\":" ++ decimal degrees
@@ -88,7 +88,7 @@ place now placed p = codes ",\"lat\":" ++ latitude_text p ++ codes ",\"lon\":" +
 unfoldable pub object : ℕ → Aircraft × Option ℕ → List ℕ
 object now (a, placed) = codes "{\"hex\":\"" ++ low_address a.address ++ codes "\""
     ++ if_known flight a.callsign
-    ++ if_known altitude a.altitude
+    ++ if_known altitude_members a.altitude
     ++ if_known moving a.velocity
     ++ if_known rate a.vertical
     ++ if_known squawk a.squawk

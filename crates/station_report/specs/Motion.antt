@@ -41,18 +41,18 @@ abbrev pub degrees_off : ℕ → ℕ → ℕ
 degrees_off east north = let c = nearest_degree (min east north) (max east north) in if nat_le east north then c else 90 - c
 
 -- whole degrees from north by east, where these are so far off: west of north, 0 is in the place of 360
-abbrev pub turned : Bool → Bool → ℕ → ℕ
-turned false false d = d
-turned false true d = 180 - d
-turned true true d = 180 + d
-turned true false d = (360 - d) % 360
+abbrev pub degrees_turned : Bool → Bool → ℕ → ℕ
+degrees_turned false false d = d
+degrees_turned false true d = 180 - d
+degrees_turned true true d = 180 + d
+degrees_turned true false d = (360 - d) % 360
 
 -- whole degrees from north by east, the nearest; none where nothing moves
 abbrev pub track : ℤ → ℤ → Option ℕ
 track east north =
     if unsigned_abs east == 0 && unsigned_abs north == 0
     then None
-    else Some (turned (is_negative east) (is_negative north) (degrees_off (unsigned_abs east) (unsigned_abs north)))
+    else Some (degrees_turned (is_negative east) (is_negative north) (degrees_off (unsigned_abs east) (unsigned_abs north)))
 
 -- ---- what the table of tangents is
 

@@ -8,9 +8,9 @@ pub record SinkState : Type 0 where
   pub failures : ℕ
 
 -- a stored count after a call: as before where it went well, else one more, up to 2^64 - 1
-abbrev pub counted : Bool → ℕ → ℕ
-counted true n = n
-counted false n = min (n + 1) (2 ^ 64 - 1)
+abbrev pub count_after : Bool → ℕ → ℕ
+count_after true n = n
+count_after false n = min (n + 1) (2 ^ 64 - 1)
 
 -- the known bytes grow by a prefix of this text
 pub record AppendsFront (old new : Option (List ℕ)) (text : List ℕ) : Type 0 where
@@ -22,4 +22,4 @@ pub record AppendsFront (old new : Option (List ℕ)) (text : List ℕ) : Type 0
 -- the whole text was taken and nothing failed, or the sink failed once and took a prefix of the text
 pub record TakesAll {E : Type 0} (old new : SinkState) (text : List ℕ) (result : Result (Unit {0}) E) : Type 0 where
   pub bytes : MatchResult result (λ _. Appends old.taken new.taken text) (λ _. AppendsFront old.taken new.taken text)
-  pub failures : new.failures ≡ counted (is_ok result) old.failures
+  pub failures : new.failures ≡ count_after (is_ok result) old.failures

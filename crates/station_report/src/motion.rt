@@ -2,7 +2,7 @@
 
 ghost use Rattle.std.specs.Prelude.{◌≡◌, ◌+◌, ◌*◌, ◌^◌, ◌≤◌, unsigned_abs, nat_lt, count_by, length};
 ghost use Rattle.std.specs.List.Sorted.{IsNonDecreasing};
-ghost use Rattle.station_report.specs.Motion.{root, square, speed_tenths, nearest_degree, degrees_off, turned, track};
+ghost use Rattle.station_report.specs.Motion.{root, square, speed_tenths, nearest_degree, degrees_off, degrees_turned, track};
 
 // The tangents of 1/2, 3/2, .., 89/2 degrees, in 1/1,000,000,000 and rounded down.
 const TANGENTS: [u32; 45] = [
@@ -54,7 +54,7 @@ pub fn track(east: i16, north: i16) -> Option<u16>
 // From degrees off the line from north to south to degrees from north by east.
 fn turned(is_west: bool, is_south: bool, degrees: u16) -> u16
     requires { degrees ≤ 90 }
-    ensures { result ≡ turned is_west is_south degrees }
+    ensures { result ≡ degrees_turned is_west is_south degrees }
 {
     match (is_west, is_south) {
         (false, false) => degrees,

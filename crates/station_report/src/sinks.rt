@@ -2,7 +2,7 @@
 
 ghost use Rattle.std.specs.Prelude.{◌≡◌, ℕ, ◌<◌, ◌≤◌, List, IfOk, OnOk, OnErr, is_ok, min, length, take};
 ghost use Rattle.std.specs.Io.KnownBytes.{Appends, Keeps, WriteAppends};
-ghost use Rattle.station_report.specs.Sink.{SinkState, counted, TakesAll};
+ghost use Rattle.station_report.specs.Sink.{SinkState, count_after, TakesAll};
 
 /// A read, a write or a flush failed.
 #[derive(Clone, Copy, Debug, PartialEq, Eq)]
@@ -23,12 +23,12 @@ pub trait Sink {
         ensures within { IfOk result (λ n. n ≤ length piece.now) }
         ensures some { 0 < length piece.now → IfOk result (λ n. 0 < n) }
         ensures bytes { WriteAppends (state self.old).taken (state self.new).taken result piece.now }
-        ensures failures { (state self.new).failures ≡ counted (is_ok result) (state self.old).failures };
+        ensures failures { (state self.new).failures ≡ count_after (is_ok result) (state self.old).failures };
 
     /// Passes on the bytes taken so far. [`Failed`] where that failed.
     fn flush(&mut self) -> Result<(), Failed>
         ensures bytes { Keeps (state self.old).taken (state self.new).taken }
-        ensures failures { (state self.new).failures ≡ counted (is_ok result) (state self.old).failures };
+        ensures failures { (state self.new).failures ≡ count_after (is_ok result) (state self.old).failures };
 }
 
 /// Writes a whole piece, and stops at the first failure. The sink has then taken a front of the piece.

@@ -15,7 +15,7 @@ pub struct ToWrite<W> {
 
 impl<W> ToWrite<W> {
     ghost use Rattle.std.specs.Prelude.{false};
-    ghost use Rattle.station_report.specs.Sink.{counted};
+    ghost use Rattle.station_report.specs.Sink.{count_after};
     ghost use Rattle.station_report.specs.ToWrite.{writer_of, failure_count};
 
     /// A sink that passes bytes on to this writer.
@@ -37,7 +37,7 @@ impl<W> ToWrite<W> {
     // Counts a failure, up to 2^64 - 1.
     fn failure(&mut self) -> Failed
         ensures inner { writer_of self.new ≡ writer_of self.old }
-        ensures failures { failure_count self.new ≡ counted false (failure_count self.old) }
+        ensures failures { failure_count self.new ≡ count_after false (failure_count self.old) }
     {
         self.failures = self.failures.saturating_add(1);
         Failed

@@ -4,25 +4,25 @@ use Rattle.std.proofs.lemmas.List.{get_or-map, length-map, map-append, take_more
 use Rattle.modes_frame.specs.declared.cutter.Cut.{Cut}
 use Rattle.modes_frame.specs.declared.cutter.Cut.TheVariants.{TooLong}
 use Rattle.modes_frame.specs.Lines.{cuts}
-use Rattle.station_lines.specs.Calls.{heard}
+use Rattle.station_lines.specs.Calls.{pump_command}
 use Rattle.station_lines.specs.Drawing.{Draws, Ending, LineStopped, Taken, ending_as, stopped_as}
 use Rattle.station_lines.specs.ParsedLines.{parsed_of}
 use Rattle.station_lines.specs.Source.{SourceState}
 use Rattle.station_lines.specs.declared.parsed_line.ParsedLine.{ParsedLine}
-use Rattle.station_lines.specs.declared.taking.Ended.{Ended}
-use Rattle.station_lines.specs.declared.taking.Ended.TheVariants as Ends
+use Rattle.station_lines.specs.declared.lines.Ended.{Ended}
+use Rattle.station_lines.specs.declared.lines.Ended.TheVariants as Ends
 use Rattle.station_shared.specs.KeptLines.{parsed_all, TakesFirst, TakesKept}
 
 -- ---- lines that are kept
 
 module _ {X E : Type 0} (Took : X → List Cut → Result (Unit {0}) E → X → Type 0) where
   -- one more is kept
-  pub kept-pushed : ((x : X) → Took x [] (Ok tt) x) → (x : X) (kept : List ParsedLine) (item : ParsedLine) (line : Cut) → item ≡ parsed_of (heard line) → TakesKept Took x kept (line ∷ []) (Ok tt) x (kept ++ item ∷ [])
+  pub kept-pushed : ((x : X) → Took x [] (Ok tt) x) → (x : X) (kept : List ParsedLine) (item : ParsedLine) (line : Cut) → item ≡ parsed_of (pump_command line) → TakesKept Took x kept (line ∷ []) (Ok tt) x (kept ++ item ∷ [])
   kept-pushed none x kept item line is before same = record {
     lines = [];
     others = before ++ line ∷ [];
     parts = refl;
-    left = ap (λ l. l ++ item ∷ []) same ∙ ap (λ p. parsed_all before ++ p ∷ []) is ∙ sym (map-append (λ (line : Cut). parsed_of (heard line)) before (line ∷ []));
+    left = ap (λ l. l ++ item ∷ []) same ∙ ap (λ p. parsed_all before ++ p ∷ []) is ∙ sym (map-append (λ (line : Cut). parsed_of (pump_command line)) before (line ∷ []));
     took = none x;
   }
 
@@ -75,12 +75,12 @@ module _ {X E : Type 0} (Took : X → List Cut → Result (Unit {0}) E → X →
 
 -- ---- one of the parsed lines
 
-pub parsed_line : (ahead : List ParsedLine) (lines : List Cut) (i : ℕ) (item : ParsedLine) → ahead ≡ parsed_all lines → i < length ahead → item ≡ get_or ahead i item → item ≡ parsed_of (heard (get_or lines i TooLong))
+pub parsed_line : (ahead : List ParsedLine) (lines : List Cut) (i : ℕ) (item : ParsedLine) → ahead ≡ parsed_all lines → i < length ahead → item ≡ get_or ahead i item → item ≡ parsed_of (pump_command (get_or lines i TooLong))
 parsed_line ahead lines i item same within is =
-    let many = ap length same ∙ length-map lines (λ (line : Cut). parsed_of (heard line)) in
-    is ∙ ap (λ l. get_or l i item) same ∙ get_or-map (λ (line : Cut). parsed_of (heard line)) lines i TooLong item (omega (arith, within, many))
+    let many = ap length same ∙ length-map lines (λ (line : Cut). parsed_of (pump_command line)) in
+    is ∙ ap (λ l. get_or l i item) same ∙ get_or-map (λ (line : Cut). parsed_of (pump_command line)) lines i TooLong item (omega (arith, within, many))
 
 pub line_more : (ahead : List ParsedLine) (lines : List Cut) (i : ℕ) → ahead ≡ parsed_all lines → i < length ahead → take (i + 1) lines ≡ take i lines ++ get_or lines i TooLong ∷ []
 line_more ahead lines i same within =
-    let many = ap length same ∙ length-map lines (λ (line : Cut). parsed_of (heard line)) in
+    let many = ap length same ∙ length-map lines (λ (line : Cut). parsed_of (pump_command line)) in
     take_more lines i TooLong (omega (arith, within, many))

@@ -5,7 +5,7 @@ use mathlib.Core.List.{IsPrefix}
 use Rattle.station_journal.specs.declared.entry.Entry.{Entry}
 use Rattle.station_journal.specs.Log.{IsLegal}
 use Rattle.station_desk.specs.Start.{Start, log_of}
-use Rattle.station_shared.specs.Seats.{Seated, own, count_of}
+use Rattle.station_shared.specs.Seats.{Seated, own_entries, count_of_seat}
 
 -- the numbers of the seats are those below n, each once
 pub record EachOnce (n : ℕ) (seats : List Seated) : Type 0 where
@@ -15,7 +15,7 @@ pub record EachOnce (n : ℕ) (seats : List Seated) : Type 0 where
 
 -- what the seat has seen is a prefix of the entries, which contain at least its accepted calls
 abbrev pub Backed : Start → List Entry → Seated → Type 0
-Backed start es s = IsPrefix s.seen es × (s.accepted ≤ count_of s.number (own start es))
+Backed start es s = IsPrefix s.seen es × (s.accepted ≤ count_of_seat s.number (own_entries start es))
 
 -- the accepted calls of the last seat with this number
 abbrev pub accepted_at : ℕ → List Seated → ℕ
@@ -29,7 +29,7 @@ accepted_by (suc n) seats = accepted_by n seats ++ accepted_at n seats ∷ []
 -- how many entries each seat number below n has
 abbrev pub counts_below : ℕ → List Entry → List ℕ
 counts_below zero es = []
-counts_below (suc n) es = counts_below n es ++ count_of n es ∷ []
+counts_below (suc n) es = counts_below n es ++ count_of_seat n es ∷ []
 
 -- the journal of a closed station:
 -- it is legal, and what each seat has seen is a prefix of it;
@@ -39,6 +39,6 @@ pub record Closes (start : Start) (n : ℕ) (es : List Entry) (seats : List Seat
   pub legal : IsLegal (log_of start es)
   pub seen : AllByRecursion (λ (s : Seated). IsPrefix s.seen es) seats
   pub total : start.resumed + sum_by (λ s. s.accepted) seats ≡ length es
-  pub each : AllByRecursion (λ (s : Seated). count_of s.number (own start es) ≡ s.accepted) seats
-  pub by_number : accepted_by n seats ≡ counts_below n (own start es)
+  pub each : AllByRecursion (λ (s : Seated). count_of_seat s.number (own_entries start es) ≡ s.accepted) seats
+  pub by_number : accepted_by n seats ≡ counts_below n (own_entries start es)
   pub all : start.resumed + sum (accepted_by n seats) ≡ length es

@@ -1,13 +1,13 @@
 -- Lines that are parsed before the lock of their station is taken, and kept until then.
 use Rattle.std.specs.Prelude.{◌≡◌, List, ◌++◌, Result, OnOk, map}
 use Rattle.modes_frame.specs.declared.cutter.Cut.{Cut}
-use Rattle.station_lines.specs.Calls.{heard}
+use Rattle.station_lines.specs.Calls.{pump_command}
 use Rattle.station_lines.specs.ParsedLines.{parsed_of}
 use Rattle.station_lines.specs.declared.parsed_line.ParsedLine.{ParsedLine}
 
 -- what each of these lines says
 abbrev pub parsed_all : List Cut → List ParsedLine
-parsed_all lines = map (λ (line : Cut). parsed_of (heard line)) lines
+parsed_all lines = map (λ (line : Cut). parsed_of (pump_command line)) lines
 
 -- the first of these lines were taken, as Took says; where none of them stopped the taking, the others are kept
 pub record TakesFirst {X E : Type 0} (Took : X → List Cut → Result (Unit {0}) E → X → Type 0) (all : List Cut) (x : X) (result : Result (Unit {0}) E) (y : X) (kept : List ParsedLine) : Type 0 where

@@ -9,8 +9,8 @@ use Rattle.station_desk.specs.History.{Known}
 use Rattle.station_desk.specs.Start.{Start, log_of}
 
 -- the entries of a station's own calls: those after the entries that it was resumed from
-abbrev pub own : Start → List Entry → List Entry
-own start entries = drop start.resumed entries
+abbrev pub own_entries : Start → List Entry → List Entry
+own_entries start entries = drop start.resumed entries
 
 -- the number of the seat whose entry it is
 abbrev pub seat_of : Entry → ℕ
@@ -18,8 +18,8 @@ seat_of (Tick seat at) = seat
 seat_of (Heard seat frame) = seat
 
 -- how many entries a seat has
-abbrev pub count_of : ℕ → List Entry → ℕ
-count_of seat entries = count_by (λ e. eqb (seat_of e) seat) entries
+abbrev pub count_of_seat : ℕ → List Entry → ℕ
+count_of_seat seat entries = count_by (λ e. eqb (seat_of e) seat) entries
 
 -- a seat: its number, how many of its calls were accepted, whether it has a place among the readers, and what it has seen
 -- of the journal
@@ -30,18 +30,18 @@ pub record Seated : Type 0 where
   pub seen : List Entry
 
 -- what a seat keeps whether it looks or not
-pub record Stands : Type 0 where
+pub record Account : Type 0 where
   pub number : ℕ
   pub accepted : ℕ
   pub seen : List Entry
 
 -- the seat that keeps this, with a place or without one
-abbrev pub seated : Stands → Bool → Seated
-seated s can_look = record { number = s.number; accepted = s.accepted; can_look = can_look; seen = s.seen }
+abbrev pub seat_over : Account → Bool → Seated
+seat_over s can_look = record { number = s.number; accepted = s.accepted; can_look = can_look; seen = s.seen }
 
 -- what this seat keeps
-abbrev pub stands : Seated → Stands
-stands s = record { number = s.number; accepted = s.accepted; seen = s.seen }
+abbrev pub account_of : Seated → Account
+account_of s = record { number = s.number; accepted = s.accepted; seen = s.seen }
 
 -- the entry was accepted after all that the seat had seen, as one more of its calls; the seat and the receipt know the
 -- list up to it
@@ -67,7 +67,7 @@ pub record Refused (start : Start) (old new : Seated) (e : Entry) (refusal : Ref
   pub place : new.can_look ≡ old.can_look
 
 -- the same seat, which has now seen the longer of two lists: what it had seen, and this one
-pub record Told (old new : Seated) (list : List Entry) : Type 0 where
+pub record HasLearned (old new : Seated) (list : List Entry) : Type 0 where
   pub later : IsPrefix old.seen new.seen
   pub told : IsPrefix list new.seen
   pub one : (new.seen ≡ old.seen) ⊎ (new.seen ≡ list)

@@ -10,7 +10,7 @@ use crate::station_name::StationName;
 use arrayvec::ArrayVec;
 use crossbeam_utils::rule::Protocol;
 use left_right::Absorb;
-use station_desk::{Mark, PublishRule, PublishedTable, Unlogged};
+use station_desk::{Mark, NoOperation, PublishRule, PublishedTable};
 use station_journal::Journal;
 use std::sync::Wait;
 
@@ -26,7 +26,7 @@ pub struct Closed {
 /// A refused close: the seats that were given aren't all the seats of the station, each once.
 pub struct Missing<const N: usize, L: StationName>
 where
-    PublishedTable<N>: Absorb<Unlogged, State = ()>,
+    PublishedTable<N>: Absorb<NoOperation, State = ()>,
     PublishRule: Protocol<PublishedTable<N>, Option<Mark>>,
 {
     /// The station, as it was.
@@ -98,8 +98,8 @@ impl<const N: usize, L: StationName> CountedDesk<N, L> {
         } = self;
         let _known = desk.front();
         while let Some(seat) = seats.pop() {
-            let standing = seat.into_standing();
-            let (share, front) = standing.into_parts();
+            let account = seat.into_account();
+            let (share, front) = account.into_parts();
             desk.covers(&front);
             rest.merge(share);
         }

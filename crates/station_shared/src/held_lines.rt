@@ -2,7 +2,7 @@
 ghost use Rattle.std.specs.Prelude.{◌≡◌, ℕ, ◌+◌, ◌^◌, ◌<◌, ◌≤◌, List, [], ◌∷◌, Ok, length};
 ghost use Rattle.modes_frame.specs.declared.cutter.Cut.{Cut};
 ghost use Rattle.station_shared.specs.KeptLines.{TakesFirst, parsed_all};
-ghost use Rattle.station_lines.specs.Calls.{heard};
+ghost use Rattle.station_lines.specs.Calls.{pump_command};
 ghost use Rattle.station_lines.specs.ParsedLines.{parsed_of};
 ghost use Rattle.station_lines.specs.Pump.{Pumps, PumpsFrame};
 ghost use Rattle.station_shared.specs.Workers.{SeatSteps};
@@ -20,7 +20,7 @@ use station_lines::pumping::stop_after;
 use station_lines::{ParsedLine, Tally};
 use std::sync::{MutexGuard, Wait};
 
-// Feeds a frame. Notes the limit that it meets.
+// Feeds a frame. PassesView the limit that it meets.
 fn feed<const N: usize, L: StationName, R: Wait>(
     rt: &R,
     flags: &LimitFlags,
@@ -73,7 +73,7 @@ fn take_line<const N: usize, L: StationName, R: Wait>(
     requires met { IsPrefix seat.old.seen desk.old.log.entries }
     ensures met { IsPrefix seat.new.seen desk.new.log.entries }
     ensures lines { tally.new.lines ≤ tally.old.lines + 1 }
-    ensures taken { (line : Cut) → parsed.now ≡ parsed_of (heard line) → Pumps (SeatSteps L.start)
+    ensures taken { (line : Cut) → parsed.now ≡ parsed_of (pump_command line) → Pumps (SeatSteps L.start)
         (record { feed = seat.old; tally = tally.old }) (line ∷ []) result
         (record { feed = seat.new; tally = tally.new }) }
 {

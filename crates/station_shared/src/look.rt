@@ -10,10 +10,12 @@ ghost use Rattle.station_desk.specs.Desk.{most_aircraft};
 ghost use Rattle.station_shared.specs.Seats.{Looks};
 
 use crate::seat::Seat;
-use crate::standing::Standing;
+use crate::seat_account::SeatAccount;
 use crate::station_name::StationName;
 use crossbeam_utils::rule::Protocol;
-use station_desk::{Front, LookingPlace, Mark, PublishRule, PublishedTable, ReaderPlace, Sees};
+use station_desk::{
+    Front, LookingPlace, Mark, PublishRule, PublishedTable, ReaderPlace, SeesPublished,
+};
 use station_journal::{Aircraft, PlacedRows, Rows};
 use std::marker::Model;
 
@@ -24,7 +26,7 @@ pub struct Look<const N: usize, L: StationName>
 where
     PublishRule: Protocol<PublishedTable<N>, Option<Mark>>,
 {
-    pub(crate) standing: Standing<L>,
+    pub(crate) account: SeatAccount<L>,
     pub(crate) looking: LookingPlace<N>,
     pub(crate) ghost small: { N ≤ most_aircraft },
 }
@@ -39,16 +41,16 @@ where
     ghost use Rattle.station_book.specs.Matching.{Matches};
     ghost use Rattle.station_desk.specs.History.{base_of};
     ghost use Rattle.station_desk.specs.Start.{log_of};
-    ghost use Rattle.station_shared.specs.Seats.{Seated, seated};
+    ghost use Rattle.station_shared.specs.Seats.{Seated, seat_over};
     ghost use Rattle.station_desk.specs.Published.{IsOf};
 
     ghost Value = { Seated };
 
-    ghost view = { λ l. seated l.standing true };
+    ghost view = { λ l. seat_over l.account true };
 
     ghost invariant = { λ l. IsOf L.start (view_of l.looking.place)
-        × Matches N (base_of L.start.history) l.looking.part.value.book l.standing.seen
-        × IsLegal (log_of L.start l.standing.seen) };
+        × Matches N (base_of L.start.history) l.looking.part.value.book l.account.seen
+        × IsLegal (log_of L.start l.account.seen) };
 }
 
 // Lets a reader in at its place, to look at what is published.
@@ -57,7 +59,7 @@ fn enter<const N: usize>(place: ReaderPlace<N>) -> Result<LookingPlace<N>, Reade
         (λ looking. SawPublished N (view_of place.entry.place) (sheet_of looking.part.value) (view_of looking.place))
         (λ back. view_of back.place ≡ view_of place.entry.place) }
 {
-    place.enter_as::<Sees>()
+    place.enter_as::<SeesPublished>()
 }
 
 // Whether the published table has fewer entries than `known`. It has no fewer where it was published with all of them.
@@ -82,25 +84,25 @@ impl<const N: usize, L: StationName> Seat<N, L> {
     pub fn look(self) -> Result<Look<N, L>, Seat<N, L>>
         ensures { MatchResult result (λ look. Looks L.start self look) (λ seat. seat ≡ self) }
     {
-        let (mut standing, place) = self.apart();
+        let (mut account, place) = self.apart();
         let Some(place) = place else {
             return Err(Seat {
-                standing,
+                account,
                 place: None,
             });
         };
         match enter(place) {
             Ok(looking) => {
-                if lacks(&looking, &standing.front) {
+                if lacks(&looking, &account.front) {
                     let place = Some(looking.leave());
-                    return Err(Seat { standing, place });
+                    return Err(Seat { account, place });
                 }
-                standing.front.begins(&looking.get().front);
-                standing.set_seen(looking.get().front.again());
-                Ok(Look { standing, looking })
+                account.front.begins(&looking.get().front);
+                account.set_seen(looking.get().front.again());
+                Ok(Look { account, looking })
             }
             Err(place) => Err(Seat {
-                standing,
+                account,
                 place: Some(place),
             }),
         }
@@ -135,9 +137,9 @@ impl<const N: usize, L: StationName> Look<N, L> {
     pub fn done(self) -> Seat<N, L>
         ensures { result ≡ self }
     {
-        let Look { standing, looking } = self;
+        let Look { account, looking } = self;
         let place = Some(looking.leave());
-        Seat { standing, place }
+        Seat { account, place }
     }
 }
 
@@ -173,7 +175,7 @@ where
 {
     fn drop(self) {
         let Look {
-            standing: _,
+            account: _,
             looking,
         } = self;
         looking.leave();

@@ -3,12 +3,12 @@ ghost use Rattle.std.specs.Prelude.{◌≡◌, ◌≤◌, IfSome, is_some};
 ghost use Rattle.station_journal.specs.Log.{IsLegal};
 ghost use Rattle.station_desk.specs.Start.{log_of};
 ghost use Rattle.left_right.specs.Sides.{view as view_of};
-ghost use Rattle.station_shared.specs.Seats.{Told, count_of, own, seated, stands};
+ghost use Rattle.station_shared.specs.Seats.{HasLearned, count_of_seat, own_entries, seat_over, account_of};
 ghost use Rattle.station_desk.specs.Published.{IsOf};
 ghost use Rattle.station_desk.specs.Desk.{most_aircraft};
 
 pub use crate::receipt::Receipt;
-use crate::standing::Standing;
+use crate::seat_account::SeatAccount;
 use crate::station_name::StationName;
 use crossbeam_utils::rule::Protocol;
 use station_desk::{Mark, PublishRule, PublishedTable, ReaderPlace};
@@ -22,7 +22,7 @@ pub struct Seat<const N: usize, L: StationName>
 where
     PublishRule: Protocol<PublishedTable<N>, Option<Mark>>,
 {
-    pub(crate) standing: Standing<L>,
+    pub(crate) account: SeatAccount<L>,
     pub(crate) place: Option<ReaderPlace<N>>,
     pub(crate) ghost small: { N ≤ most_aircraft },
 }
@@ -33,12 +33,12 @@ where
 {
     ghost use Rattle.std.specs.Prelude.{IfSome, is_some};
     ghost use Rattle.left_right.specs.Sides.{view as view_of};
-    ghost use Rattle.station_shared.specs.Seats.{Seated, seated};
+    ghost use Rattle.station_shared.specs.Seats.{Seated, seat_over};
     ghost use Rattle.station_desk.specs.Published.{IsOf};
 
     ghost Value = { Seated };
 
-    ghost view = { λ s. seated s.standing (is_some s.place) };
+    ghost view = { λ s. seat_over s.account (is_some s.place) };
 
     ghost invariant = { λ s. IfSome s.place (λ p. IsOf L.start (view_of p.place)) };
 }
@@ -48,43 +48,43 @@ impl<const N: usize, L: StationName> Seat<N, L> {
     pub fn number(&self) -> u8
         ensures { result ≡ self.now.number }
     {
-        self.standing.number
+        self.account.number
     }
 
     /// How many of its calls were accepted since the station began. What it has seen is legal, and contains at least as
     /// many entries of its number.
     pub fn accepted(&self) -> u64
         ensures value { result ≡ self.now.accepted }
-        ensures seen { result ≤ count_of self.now.number (own L.start self.now.seen) }
+        ensures seen { result ≤ count_of_seat self.now.number (own_entries L.start self.now.seen) }
         ensures legal { IsLegal (log_of L.start self.now.seen) }
     {
-        self.standing.accepted
+        self.account.accepted
     }
 
     /// Learns from a receipt of the same station: from now on the seat has seen the receipt's entry, and all before it.
     pub fn learn(&mut self, receipt: &Receipt<L>)
-        ensures told { Told self.old self.new receipt.now.entries }
+        ensures told { HasLearned self.old self.new receipt.now.entries }
         ensures legal { IsLegal (log_of L.start self.new.seen) }
     {
-        let longer = self.standing.front.longer(&receipt.front);
-        self.standing.set_seen(longer);
+        let longer = self.account.front.longer(&receipt.front);
+        self.account.set_seen(longer);
     }
 
     /// Takes the seat apart: what it keeps whether it looks or not, and its place among the readers, if it has one.
-    pub(crate) fn apart(self) -> (Standing<L>, Option<ReaderPlace<N>>)
-        ensures standing { seated result.0 (is_some result.1) ≡ self }
+    pub(crate) fn apart(self) -> (SeatAccount<L>, Option<ReaderPlace<N>>)
+        ensures account { seat_over result.0 (is_some result.1) ≡ self }
         ensures place { IfSome result.1 (λ p. IsOf L.start (view_of p.place)) }
     {
-        let Seat { standing, place } = self;
-        (standing, place)
+        let Seat { account, place } = self;
+        (account, place)
     }
 
     /// What the seat keeps whether it looks or not. Its place among the readers is dropped.
-    pub(crate) fn into_standing(self) -> Standing<L>
-        ensures { result ≡ stands self }
+    pub(crate) fn into_account(self) -> SeatAccount<L>
+        ensures { result ≡ account_of self }
     {
-        let Seat { standing, place: _ } = self;
-        standing
+        let Seat { account, place: _ } = self;
+        account
     }
 }
 
@@ -94,7 +94,7 @@ where
 {
     fn drop(self) {
         let Seat {
-            standing: _,
+            account: _,
             place: _,
         } = self;
     }

@@ -7,7 +7,9 @@ use super::staged::Staged;
 use super::{Trials, text};
 use crate::comparing::{holds, same};
 use station_journal::{Entry, Recent};
-use station_main::{Alarms, Asked, Duties, Kept, Pace, StandardError, Tables, run_for_displays};
+use station_main::{
+    Alarms, Duties, Kept, Pace, RunOptions, StandardError, Tables, run_for_displays,
+};
 use station_report::Format;
 use std::alloc::{AllocError, Global};
 use std::fs;
@@ -164,7 +166,7 @@ fn hand_overs_lose_no_line_and_print_no_table(rt: HostRuntime) -> Result<(), Fai
     let lines = all_call_replies(alloc, 1, FRAMES * TIMES)?;
     let path = format!(in alloc; "{record}")?;
     let asked_record = Some(record);
-    let asked = Asked {
+    let asked = RunOptions {
         tables: tables_each(3_600_000),
         rounds: 1,
         reopens: false,

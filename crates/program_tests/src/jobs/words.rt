@@ -1,7 +1,7 @@
 //! Command lines that are refused, and the jobs that others name.
 use super::{NO_LINES, Trials, text, words_of};
 use crate::comparing::{holds_at, same_at};
-use station_main::{Job, Pace, RunOptions, TableFormat, WordsFault, program, read_words};
+use station_main::{Job, Pace, RunArguments, TableFormat, WordsFault, program, read_words};
 use std::alloc::{AllocError, Global};
 
 // `clap` accepts the words, and the program refuses them.
@@ -99,7 +99,7 @@ fn job_of(alloc: Global, line: &str) -> Result<Job, WordsFault> {
 }
 
 // The options that a line gives, if its job is `run`.
-fn options_of(alloc: Global, line: &str) -> Result<Option<RunOptions>, WordsFault> {
+fn options_of(alloc: Global, line: &str) -> Result<Option<RunArguments>, WordsFault> {
     match job_of(alloc, line)? {
         Job::Run(options) => Ok(Some(options)),
         Job::Replay { .. } => Ok(None),

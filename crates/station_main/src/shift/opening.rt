@@ -1,7 +1,7 @@
 //! How a station begins: a receiver for each path, and the reporter's seat.
 ghost use Rattle.std.specs.Prelude.{◌≡◌, IfErr, IfOk, length, map};
 ghost use Rattle.station_shared.specs.Seats.{newcomer, newcomers};
-ghost use Rattle.station_main.specs.Rounds.{MayBegin, given_of};
+ghost use Rattle.station_main.specs.Rounds.{MayBegin, start_of};
 ghost use Rattle.station_main.specs.Run.{IsUnstarted};
 
 use crate::faults::Fault;
@@ -31,7 +31,7 @@ pub(super) fn begin<'a, L: StationName, R: Wait>(
     places: Places<AIRCRAFT>,
 ) -> Result<Begun<'a, L, R>, Fault<'static>>
     requires ledger { (blank.name ≡ L.name) × (blank.parts ≡ L.parts) }
-    requires may { MayBegin L.start L.parts L.seats places (given_of kept) (length inputs.items) }
+    requires may { MayBegin L.start L.parts L.seats places (start_of kept) (length inputs.items) }
     ensures unstarted { IfErr result IsUnstarted }
     ensures many { IfOk result (λ made. length made.1.items ≡ length inputs.entry.items) }
     ensures sources { IfOk result (λ made. map (λ r. r.source) made.1.items ≡ inputs.entry.items) }

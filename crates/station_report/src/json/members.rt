@@ -4,7 +4,7 @@ ghost use Rattle.std.specs.Prelude.{◌≡◌, ◌+◌, ◌≤◌, ◌++◌, len
 ghost use Rattle.std.specs.Fmt.{signed_decimal};
 ghost use Rattle.arrayvec.specs.ArrayVec.{array_vec_len};
 ghost use Rattle.modes_cpr.specs.Pair.{IsWhole};
-ghost use Rattle.station_report.specs.Json.{if_known, flight, altitude, track_member, ground, airspeed_key, air, moving, rate, squawk, seen_pos, place};
+ghost use Rattle.station_report.specs.Json.{if_known, flight, altitude_members, track_member, ground, airspeed_key, air, moving, rate, squawk, seen_pos, place};
 
 use crate::columns::{push_degrees, push_octal};
 use crate::decimals::{push_number, push_text};
@@ -33,10 +33,10 @@ pub(crate) fn push_flight(object: &mut Object, callsign: Option<Callsign>)
 }
 
 /// Appends `alt_baro` and `altitude`, in feet.
-#[tactic(auto, unfolding(crate::specs::Json::altitude))]
+#[tactic(auto, unfolding(crate::specs::Json::altitude_members))]
 pub(crate) fn push_altitude(object: &mut Object, feet: Option<i32>)
     requires { array_vec_len object.old + 96 ≤ 640 }
-    ensures items { object.new.items ≡ object.old.items ++ if_known altitude feet }
+    ensures items { object.new.items ≡ object.old.items ++ if_known altitude_members feet }
     ensures len { array_vec_len object.new ≤ array_vec_len object.old + 96 }
 {
     if let Some(feet) = feet {

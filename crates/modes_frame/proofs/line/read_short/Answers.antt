@@ -1,6 +1,6 @@
 use Rattle.std.proofs.Common.{ap, sym, ◌∙◌, subst, Result}
 use Rattle.modes_frame.specs.LineRules.{Reads}
-use Rattle.modes_frame.specs.Reading.{line_of}
+use Rattle.modes_frame.specs.Reading.{line_reading}
 use Rattle.modes_frame.specs.declared.line.Line.{Line}
 use Rattle.modes_frame.specs.declared.line.LineFault.{LineFault}
 use Rattle.modes_frame.proofs.RuleLemmas.{reads-short}
@@ -8,5 +8,5 @@ use Rattle.modes_frame.proofs.line.read_short.Goals as goal
 
 pub returns-clause-rules : goal.returns-clause-rules
 returns-clause-rules c =
-    subst (λ (r : Result Line LineFault). Reads c.args.line.now r) (sym (c.read_trimmed.ensures ∙ ap line_of c.trim_blanks.ensures.value))
+    subst (λ (r : Result Line LineFault). Reads c.args.line.now r) (sym (c.read_trimmed.ensures ∙ ap line_reading c.trim_blanks.ensures.value))
     (reads-short c.args.line.now c.requires)

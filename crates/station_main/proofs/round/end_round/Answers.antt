@@ -2,7 +2,7 @@ use Rattle.std.proofs.Common.{inl, inr, List, Option, subst, sym, arith, map, 鈼
 use Rattle.station_portions.specs.Giving.{state_of}
 use Rattle.station_journal.specs.declared.entry.Entry.{Entry}
 use Rattle.station_main.specs.Recorded.{Recording}
-use Rattle.station_main.specs.Rounds.{IsLastStation, IsRound, KeepsRecent, given_of}
+use Rattle.station_main.specs.Rounds.{IsLastStation, IsRound, KeepsRecent, start_of}
 use Rattle.station_main.specs.Telling.{Tells, fault_line, told_of}
 use Rattle.station_main.proofs.round.end_round.Goals as goal
 
@@ -36,7 +36,7 @@ returns-in-Ok g c = 位 asked given begun start closing mid before shown was serv
         closing = closing;
         shown = c.args.beside.now.record;
         round = subst (位 status. IsRound asked given start closing before (contents c.args.finished.written.out) was c.args.beside.now.record (told_of g.E.Write.contents c.args.err.now) (told_of g.E.Write.contents c.tell_end-status.new.err) status) none (chain _ _ _ last);
-        is_kept = subst (位 (es : List Entry). KeepsRecent start es (given_of c.in-Ok.kept) c.args.beside.now.record c.keep.new.beside.record) (sym served.journal) (c.in-Ok.ensures.kept start served.log);
+        is_kept = subst (位 (es : List Entry). KeepsRecent start es (start_of c.in-Ok.kept) c.args.beside.now.record c.keep.new.beside.record) (sym served.journal) (c.in-Ok.ensures.kept start served.log);
       },
     )
 

@@ -1,5 +1,4 @@
-use Rattle.std.proofs.Common.{refl, zero, suc, inr, arith, ap, length, subst, sym, ◌∙◌, ◌≡◌}
-use Rattle.std.specs.Prelude.{option_map}
+use Rattle.std.proofs.Common.{refl, zero, suc, inr, arith, ap, length, subst, sym, ◌∙◌, ◌≡◌, option_map}
 use Rattle.std.proofs.lemmas.List.{length-map}
 use Rattle.station_portions.specs.Giving.{state_of}
 use Rattle.station_main.specs.Output.{buffered_of}

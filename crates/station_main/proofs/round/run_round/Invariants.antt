@@ -4,7 +4,7 @@ use Rattle.station_desk.specs.Start.{Start}
 use Rattle.station_main.specs.Limits.{program_limits}
 use Rattle.station_main.specs.Output.{buffered_of}
 use Rattle.station_main.specs.Recorded.{Recording}
-use Rattle.station_main.specs.Rounds.{Asked, Given, IsFirst, IsRound, Stations, begun_of}
+use Rattle.station_main.specs.Rounds.{RunPlan, RoundStart, IsFirst, IsRound, Stations, begun_of}
 use Rattle.station_main.specs.Run.{Closing}
 use Rattle.station_main.specs.Telling.{Told, told_of}
 use Rattle.station_main.proofs.round.run_round.Given as goal
@@ -19,7 +19,7 @@ invariant-loop g l =
       many : length l.shift.answers.items ≡ length l.shift.inputs.items;
       sound : IsSound program_limits l.shift.kept.recent.base (reverse l.shift.kept.recent.entries.items);
       same : told l.err ≡ told l.fn.err;
-      all : (asked : Asked) (given : Given) (before : Option (List ℕ)) → IsFirst asked given (begun_of l.fn.shift) → buffered_of contents l.fn.shift.out ≡ record { taken = before; failures = 0 }
+      all : (asked : RunPlan) (given : RoundStart) (before : Option (List ℕ)) → IsFirst asked given (begun_of l.fn.shift) → buffered_of contents l.fn.shift.out ≡ record { taken = before; failures = 0 }
           → (more : ℕ) (start : Start) (closing : Closing) (after : Option (List ℕ)) (is : Option Recording) (err_new : Told) (status : ℕ)
           → Stations more (begun_of l.shift) start closing (buffered_of contents l.shift.out) after l.beside.record is (told l.err) err_new status
           → IsRound asked given start closing before after l.fn.beside.record is (told l.fn.err) err_new status;

@@ -1,5 +1,4 @@
-use Rattle.std.proofs.Common.{ap, inl}
-use Rattle.std.specs.Prelude.{option_map}
+use Rattle.std.proofs.Common.{ap, inl, option_map}
 use Rattle.station_main.proofs.TellLemmas.{record_fault_told}
 use Rattle.station_main.proofs.run_job.run_paths.Goals as goal
 

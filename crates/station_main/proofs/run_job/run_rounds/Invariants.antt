@@ -3,21 +3,21 @@ use Rattle.std.specs.String.{string_bytes}
 use Rattle.station_journal.specs.Resume.{IsSound}
 use Rattle.station_main.specs.Limits.{program_limits}
 use Rattle.station_main.specs.Recorded.{Recording}
-use Rattle.station_main.specs.Rounds.{Asked, Runs, given_of, nothing}
+use Rattle.station_main.specs.Rounds.{RunPlan, RunsRounds, start_of, no_start}
 use Rattle.station_main.specs.Telling.{Told, told_of}
 use Rattle.station_main.proofs.run_job.run_rounds.Given as goal
 
 -- all rounds leave what the rounds to come leave
 abbrev pub invariant-loop-ran : goal.invariant-loop-ran
 invariant-loop-ran g l =
-    let asked : Asked = record { tables = l.asked.tables; paths = map string_bytes l.asked.paths.now.items; hand_over_at = l.asked.hand_over_at } in
+    let asked : RunPlan = record { tables = l.asked.tables; paths = map string_bytes l.asked.paths.now.items; hand_over_at = l.asked.hand_over_at } in
     let contents = g.O.Write.contents in
     let told = told_of g.E.Write.contents in
     record {
       sound : IsSound program_limits l.kept.recent.base (reverse l.kept.recent.entries.items);
       all : (after : Option (Option (List ℕ))) (left : Option Recording) (err_new : Told) (status : ℕ) →
-          Runs asked l.more (given_of l.kept) (contents l.out) after l.beside.record left (told l.err) err_new status →
-          Runs asked (l.fn.asked.rounds - 1) nothing (contents l.fn.out) after l.fn.beside.record left (told l.fn.err) err_new status;
+          RunsRounds asked l.more (start_of l.kept) (contents l.out) after l.beside.record left (told l.err) err_new status →
+          RunsRounds asked (l.fn.asked.rounds - 1) no_start (contents l.fn.out) after l.fn.beside.record left (told l.fn.err) err_new status;
     }
 
 abbrev pub decreases-loop-ran : goal.decreases-loop-ran

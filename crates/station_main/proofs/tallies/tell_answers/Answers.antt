@@ -1,5 +1,4 @@
-use Rattle.std.proofs.Common.{◌≡◌, ◌<◌, ap, arith, get_or, length}
-use Rattle.std.specs.Prelude.{max}
+use Rattle.std.proofs.Common.{◌≡◌, ◌<◌, ap, arith, get_or, length, max}
 use Rattle.std.proofs.lemmas.Grind.{common_steps}
 use Rattle.station_main.specs.Telling.{told_of}
 use Rattle.station_main.proofs.TellLemmas.{one_more_status, one_more_told}

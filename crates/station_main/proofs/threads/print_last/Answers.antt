@@ -16,6 +16,6 @@ returns-in-Err g c = rw c.if-has_failed.false (record {
   sink = buffered_of g.O.Write.contents c.print_and_record-seat.new.out;
   result = c.print_and_record-seat.result.1;
   prints = c.print_and_record-seat.ensures;
-  gives = rw c.into_inner-in-Err.ensures at c.give_up-in-Err.ensures.bytes;
-  told = λ _. c.give_up-in-Err.ensures.failed;
+  gives = rw c.into_inner-in-Err.ensures at c.drop_unwritten-in-Err.ensures.bytes;
+  told = λ _. c.drop_unwritten-in-Err.ensures.failed;
 })

@@ -1,10 +1,9 @@
-use Rattle.std.proofs.Common.{◌≡◌, ◌∙◌, ◌≤◌, ℕ, List, Some, IfSome, map, sym, ap, subst, arith, length, Bor, codes}
-use Rattle.std.specs.Prelude.{unwrap_or}
+use Rattle.std.proofs.Common.{◌≡◌, ◌∙◌, ◌≤◌, ℕ, List, Some, IfSome, map, sym, ap, subst, arith, length, Bor, codes, unwrap_or}
 use Rattle.std.proofs.lemmas.List.{length-map}
 use Rattle.std.specs.Str.Parse.{ExplainsUnsignedError, HasUnsignedDigitsIfOk, ParsesUnsigned}
 use Rattle.clap.specs.Words.{found_of, one_text}
 use Rattle.clap.proofs.WalkLemmas.{first_value-rows, one_text-rows, raw_values-rows}
-use Rattle.station_main.specs.Command.{IsFlagText, IsNumberUpTo, IsPace, format_named, is_set, number, number_if_given}
+use Rattle.station_main.specs.Command.{IsFlagText, IsNumberUpTo, IsPace, format_named, is_set, number_in, number_if_given}
 use Rattle.station_main.proofs.FoundLemmas.{none_some, some_same}
 use Rattle.station_main.proofs.WordLemmas.{fits_if_given, reads_flag, reads_if_given, reads_number, rounds_in_range, same_length}
 use Rattle.station_main.proofs.words.read_run.Goals as goal
@@ -52,7 +51,7 @@ returns-clause-range c =
     let given = c.requires.given in
     let read = reads_number 32 (λ t r. ParsesUnsigned 32 10 t r × ExplainsUnsignedError 10 t r × HasUnsignedDigitsIfOk t r) (one_text found (codes "every")) c.in-Some.every (λ t r g. g.0) c.in-Some.ensures.none c.in-Some.ensures.value in
     let text_is = some_same read.0 given.text (sym read.1 ∙ one_text-rows found (codes "every") ∙ given.every) in
-    let every_is : c.in-Some.every ≡ number given.text = read.2 ∙ ap number text_is in
+    let every_is : c.in-Some.every ≡ number_in given.text = read.2 ∙ ap number_in text_is in
     let tick_is = reads_if_given 32 60000 (λ t r. ParsesUnsigned 32 10 t r × ExplainsUnsignedError 10 t r × HasUnsignedDigitsIfOk t r) (one_text found (codes "tick")) c.get_one-tick.result (omega arith)
     (subst (λ o. IfSome o (IsNumberUpTo 60000)) (sym (one_text-rows found (codes "tick"))) given.tick_fits) (λ t r g. g.0) c.get_one-tick.ensures.none c.get_one-tick.ensures.value in
     let rounds_fit = subst (λ o. IfSome o (IsNumberUpTo 1000)) (sym (one_text-rows found (codes "rounds"))) given.rounds_fit in

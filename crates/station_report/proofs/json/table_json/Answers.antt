@@ -1,5 +1,4 @@
-use Rattle.std.proofs.Common.{◌++◌, [], codes, sym, ap, subst, ◌∙◌, take, append_assoc, append-nil, arith}
-use Rattle.std.specs.Prelude.{zip}
+use Rattle.std.proofs.Common.{◌++◌, [], codes, sym, ap, subst, ◌∙◌, take, append_assoc, append-nil, arith, zip}
 use Rattle.std.specs.Io.KnownBytes.{Appends}
 use Rattle.station_report.specs.Text.{IsPrintableRow}
 use Rattle.station_report.specs.Json.{head, object, with_commas}

@@ -1,5 +1,4 @@
-use Rattle.std.proofs.Common.{◌++◌, take}
-use Rattle.std.specs.Prelude.{zip}
+use Rattle.std.proofs.Common.{◌++◌, take, zip}
 use Rattle.station_report.specs.Json.{head, object, with_commas}
 use Rattle.station_report.proofs.TakenLemmas.{Took}
 use Rattle.station_report.proofs.json.table_json.Given as goal

@@ -1,5 +1,4 @@
-use Rattle.std.proofs.Common.{ℕ, Bool, ◌*◌, rules}
-use Rattle.std.specs.Prelude.{nat_lt}
+use Rattle.std.proofs.Common.{ℕ, Bool, ◌*◌, rules, nat_lt}
 use Rattle.std.proofs.lemmas.List.Sorted.{IsPartitionPoint-from_clause}
 use Rattle.station_report.proofs.CountLemmas.{count_to_point, times_partitioned}
 use Rattle.station_report.proofs.motion.count_below.Goals as goal

@@ -3,7 +3,7 @@ use Rattle.std.proofs.lemmas.List.{length-map}
 use Rattle.std.proofs.lemmas.Result.{err_from_is_err_and}
 use Rattle.modes_frame.specs.declared.cutter.Cut.{Cut}
 use Rattle.modes_frame.specs.declared.cutter.Cut.TheVariants.{TooLong}
-use Rattle.station_lines.specs.Calls.{heard}
+use Rattle.station_lines.specs.Calls.{pump_command}
 use Rattle.station_lines.specs.ParsedLines.{parsed_of}
 use Rattle.station_lines.specs.Pump.{Pumps}
 use Rattle.station_shared.specs.Workers.{SeatSteps}
@@ -44,7 +44,7 @@ loop-parsed-preserved g c =
 pub returns-clause-taken : goal.returns-clause-taken
 returns-clause-taken g c lines h =
     let i = c.loop-parsed.parsed-index in
-    let many = ap length h ∙ length-map lines (λ (line : Cut). parsed_of (heard line)) in
+    let many = ap length h ∙ length-map lines (λ (line : Cut). parsed_of (pump_command line)) in
     let whole : take i lines ≡ lines = take_all i lines (omega (arith, many, c.loop-parsed-test.false)) in
     record {
       lines = lines;

@@ -1,12 +1,12 @@
 use Rattle.std.proofs.Common.{◌++◌, ap, sym, ◌∙◌}
 use Rattle.std.specs.Option.{option_to_list}
-use Rattle.modes_frame.specs.Lines.{after, told, ended_cuts}
+use Rattle.modes_frame.specs.Lines.{cut_after, cut_ended_by, ended_cuts}
 use Rattle.modes_frame.proofs.LineLemmas.{pending-push, ended-push}
 use Rattle.modes_frame.proofs.cutter.Cutter.push.Goals as goal
 
 pub returns-clause-held : goal.returns-clause-held
-returns-clause-held c before h = c.step.ensures.held ∙ ap (λ v. after v c.args.byte) h ∙ pending-push before c.args.byte
+returns-clause-held c before h = c.step.ensures.held ∙ ap (λ v. cut_after v c.args.byte) h ∙ pending-push before c.args.byte
 
 pub returns-clause-told : goal.returns-clause-told
 returns-clause-told c before h =
-    ended-push before c.args.byte ∙ ap (λ r. ended_cuts before ++ option_to_list r) (sym (c.step.ensures.told ∙ ap (λ v. told v c.args.byte) h))
+    ended-push before c.args.byte ∙ ap (λ r. ended_cuts before ++ option_to_list r) (sym (c.step.ensures.told ∙ ap (λ v. cut_ended_by v c.args.byte) h))

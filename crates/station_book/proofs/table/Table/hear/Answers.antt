@@ -2,7 +2,7 @@ use Rattle.std.proofs.Common.{◌≡◌, ◌≤◌, Ok, Err, refl, ap, sym, ◌�
 use Rattle.std.specs.List.{insert, refill}
 use Rattle.std.proofs.Math.ListN.{length-set}
 use Rattle.modes_fields.specs.Carried.{fields_of}
-use Rattle.station_book.specs.Tracks.{blank, updated, StandsAt}
+use Rattle.station_book.specs.Tracks.{blank, updated_track, StandsAt}
 use Rattle.station_book.proofs.TrackLemmas.{rising_put}
 use Rattle.station_book.proofs.RankLemmas.{refill_same, map_set, map_insert, update_there}
 use Rattle.station_book.proofs.HeardLemmas.{heard_earlier, heard_put}
@@ -14,7 +14,7 @@ invariant_of-self g c =
     let i = c.in-Ok.rank in
     let stood = c.index-deref_mut-rank.result in
     let place : StandsAt tracks c.args.address (Ok i) = rw (c.in-Ok.is, ← c.self.view_is) at c.requires.place in
-    let t = updated c.args.now (fields_of c.args.frame.now) (get_or tracks i stood) in
+    let t = updated_track c.args.now (fields_of c.args.frame.now) (get_or tracks i stood) in
     let is : c.update.new.track ≡ t = rw c.deref_mut.ensures.value at c.update.ensures in
     let put = update_there c.args.address i c.args.now (fields_of c.args.frame.now) tracks stood place in
     let whole : refill (length tracks) tracks (set c.deref_mut.result.now i c.update.new.track) ≡ set tracks i t = rw (c.deref_mut.ensures.value, is) (refill_same tracks (set tracks i t) (length-set tracks i t)) in
@@ -31,8 +31,8 @@ invariant_of-self-in-Err g c =
     let tracks = c.self.inside.tracks.items in
     let i = c.in-Err.rank in
     let place : StandsAt tracks c.args.address (Err i) = rw (c.in-Err.is, ← c.self.view_is) at c.requires.place in
-    let t = updated c.args.now (fields_of c.args.frame.now) (blank c.args.address) in
-    let is : c.update-in-Err.new.track ≡ t = c.update-in-Err.ensures ∙ ap (updated c.args.now (fields_of c.args.frame.now)) c.blank-track.ensures in
+    let t = updated_track c.args.now (fields_of c.args.frame.now) (blank c.args.address) in
+    let is : c.update-in-Err.new.track ≡ t = c.update-in-Err.ensures ∙ ap (updated_track c.args.now (fields_of c.args.frame.now)) c.blank-track.ensures in
     let whole : c.insert-in-Err.new.self.items ≡ insert tracks i t = c.insert-in-Err.ensures.items ∙ ap (insert tracks i) is in
     let put = place.2 t refl in
     let before : c.min-self-inside.result ≤ c.self.inside.oldest = grind (arith, c.min-self-inside.ensures) in
@@ -49,7 +49,7 @@ returns-in-Ok g c =
     let i = c.in-Ok.rank in
     let stood = c.index-deref_mut-rank.result in
     let place : StandsAt tracks c.args.address (Ok i) = rw (c.in-Ok.is, ← c.self.view_is) at c.requires.place in
-    let t = updated c.args.now (fields_of c.args.frame.now) (get_or tracks i stood) in
+    let t = updated_track c.args.now (fields_of c.args.frame.now) (get_or tracks i stood) in
     let is : c.update.new.track ≡ t = rw c.deref_mut.ensures.value at c.update.ensures in
     let whole : refill (length tracks) tracks (set c.deref_mut.result.now i c.update.new.track) ≡ set tracks i t = rw (c.deref_mut.ensures.value, is) (refill_same tracks (set tracks i t) (length-set tracks i t)) in
     rw (← c.self.view_is) (whole ∙ update_there c.args.address i c.args.now (fields_of c.args.frame.now) tracks stood place)

@@ -1,5 +1,5 @@
 use Rattle.std.proofs.Common.{take, length, length-take-le, ap, ◌∙◌, arith}
-use Rattle.station_report.specs.Sink.{counted}
+use Rattle.station_report.specs.Sink.{count_after}
 use Rattle.station_report.specs.declared.sinks.Failed.{Failed}
 use Rattle.station_lines.proofs.PieceLemmas.{grown, some_given}
 use Rattle.station_lines.proofs.piece.Piece.read_more.Goals as goal
@@ -16,7 +16,7 @@ returns-clause-ok g c =
       many = length-take-le n room told.within;
       given = (told.bytes.0, told.given);
       reads = told.reads;
-      ends = told.ends ∙ ap (λ b. counted b (g.S.Source.state c.args.from.now).ends) (some_given Failed n (length room) (omega (arith, c.read.auto.buffer)));
+      ends = told.ends ∙ ap (λ b. count_after b (g.S.Source.state c.args.from.now).ends) (some_given Failed n (length room) (omega (arith, c.read.auto.buffer)));
       over = λ e. told.bytes.1 e (omega (arith, c.read.auto.buffer));
       failures = told.failures;
       asked = omega (arith, told.within, c.read.auto.buffer);

@@ -1,6 +1,6 @@
 use Rattle.std.proofs.Common.{length, ap, refl, arith}
 use Rattle.rtrb.specs.Ring.{sent}
-use Rattle.station_portions.specs.Backlog.{unsent}
+use Rattle.station_portions.specs.Backlog.{unsent_bytes}
 use Rattle.station_portions.proofs.SendingLemmas.{none_in_nothing, so_far_nothing, so_far_read, so_far_sent}
 use Rattle.station_portions.proofs.WholeLemmas.{same_ring}
 use Rattle.station_portions.proofs.path_reader.PathReader.send_up_to_end.Goals as goal
@@ -8,8 +8,8 @@ use Rattle.station_portions.proofs.path_reader.PathReader.send_up_to_end.Goals a
 pub loop-init : goal.loop-init
 loop-init g c =
     let reader = c.args.self.now in (
-      so_far_nothing (g.I.Read.remaining c.args.from.now) (sent reader.messages) (unsent reader.backlog) c.requires,
-      none_in_nothing (unsent reader.backlog) c.requires,
+      so_far_nothing (g.I.Read.remaining c.args.from.now) (sent reader.messages) (unsent_bytes reader.backlog) c.requires,
+      none_in_nothing (unsent_bytes reader.backlog) c.requires,
       omega (arith, ap length c.requires),
       ((refl, refl, refl, refl), refl),
     )
@@ -20,8 +20,8 @@ loop-preserved g c =
     let mid = g.I.Read.remaining c.loop.from in
     let new = g.I.Read.remaining c.read_more.new.from in
     let before = sent c.args.self.now.messages in
-    let read = so_far_read left mid new before (sent c.loop.self.messages) (unsent c.loop.self.backlog) (unsent c.read_more.new.self) _ c.loop.invariant.0 c.in_ok-count.ensures.ok in (
-      so_far_sent left new before (sent c.loop.self.messages) _ (unsent c.read_more.new.self) _ read c.send_lines.ensures.sends,
+    let read = so_far_read left mid new before (sent c.loop.self.messages) (unsent_bytes c.loop.self.backlog) (unsent_bytes c.read_more.new.self) _ c.loop.invariant.0 c.in_ok-count.ensures.ok in (
+      so_far_sent left new before (sent c.loop.self.messages) _ (unsent_bytes c.read_more.new.self) _ read c.send_lines.ensures.sends,
       c.send_lines.ensures.none,
       c.send_lines.ensures.short,
       same_ring c.args.self.now.messages c.loop.self.messages c.send_lines.new.self.messages c.loop.invariant.3 c.send_lines.ensures.ring,

@@ -1,13 +1,13 @@
 use Rattle.std.proofs.Common.{◌≤◌, length}
 use Rattle.rtrb.specs.Ring.{SameProducer, sent}
 use Rattle.station_portions.specs.Batches.{HasNoLineFeed, longest_kept}
-use Rattle.station_portions.specs.Backlog.{unsent}
+use Rattle.station_portions.specs.Backlog.{unsent_bytes}
 use Rattle.station_portions.specs.Sending.{SentSoFar}
 use Rattle.station_portions.proofs.path_reader.PathReader.send_up_to_end.Given as goal
 
 abbrev pub invariant-loop : goal.invariant-loop
 invariant-loop g l =
-    SentSoFar (g.I.Read.remaining l.initial.from) (g.I.Read.remaining l.from) (sent l.initial.self.messages) (sent l.self.messages) (unsent l.self.backlog)
-    × HasNoLineFeed (unsent l.self.backlog)
-    × (length (unsent l.self.backlog) ≤ longest_kept)
+    SentSoFar (g.I.Read.remaining l.initial.from) (g.I.Read.remaining l.from) (sent l.initial.self.messages) (sent l.self.messages) (unsent_bytes l.self.backlog)
+    × HasNoLineFeed (unsent_bytes l.self.backlog)
+    × (length (unsent_bytes l.self.backlog) ≤ longest_kept)
     × SameProducer l.initial.self.messages l.self.messages

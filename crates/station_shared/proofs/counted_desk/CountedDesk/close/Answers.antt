@@ -1,5 +1,4 @@
-use Rattle.std.proofs.Common.{◌≡◌, ◌+◌, ◌≤◌, List, [], ◌∷◌, ◌++◌, length, arith, append_assoc, append-nil, refl, sym, ap, subst, ◌∙◌, vec_len}
-use Rattle.std.specs.Prelude.{sum_by}
+use Rattle.std.proofs.Common.{◌≡◌, ◌+◌, ◌≤◌, List, [], ◌∷◌, ◌++◌, length, arith, append_assoc, append-nil, refl, sym, ap, subst, ◌∙◌, vec_len, sum_by}
 use Rattle.std.specs.List.{AllByRecursion}
 use Rattle.std.proofs.lemmas.List.{nil_from_length}
 use Rattle.std.proofs.lemmas.List.Sums.{sum_by-cons}
@@ -9,7 +8,7 @@ use Rattle.station_journal.specs.Log.{Log, IsLegal}
 use Rattle.station_shared.specs.Closing.{Backed, Closes}
 use Rattle.station_desk.specs.Desk.{PublishedState}
 use Rattle.station_desk.specs.Start.{log_of}
-use Rattle.station_shared.specs.Seats.{Seated, Stands, stands, count_of, own}
+use Rattle.station_shared.specs.Seats.{Seated, Account, account_of, count_of_seat, own_entries}
 use Rattle.station_shared.proofs.CountLemmas.{count_own}
 use Rattle.station_shared.proofs.CloseLemmas.{closes}
 use Rattle.station_shared.proofs.counted_desk.CountedDesk.close.Goals as goal
@@ -25,12 +24,12 @@ loop-seat-preserved g c =
     let i = c.loop-seat.invariant in
     let seat = c.in-Some.seat in
     let es = c.covers.new.self.log.entries in
-    let is : c.into_standing-standing.result ≡ stands seat = c.into_standing-standing.ensures in
+    let is : c.into_account-account.result ≡ account_of seat = c.into_account-account.ensures in
     let parts = c.into_parts-share.ensures in
     let same = c.covers.ensures.same in
-    let seen : IsPrefix seat.seen es = subst (λ (l : List Entry). IsPrefix l es) (parts.front.1 ∙ ap (λ (s : Stands). s.seen) is) c.covers.ensures.begins in
-    let counted : seat.accepted ≤ count_of seat.number (own g.L.StationName.start seat.seen) = subst (λ (s : Stands). s.accepted ≤ count_of s.number (own g.L.StationName.start s.seen)) is parts.counted in
-    let amount = parts.share.1 ∙ ap (λ (s : Stands). s.accepted) is in
+    let seen : IsPrefix seat.seen es = subst (λ (l : List Entry). IsPrefix l es) (parts.front.1 ∙ ap (λ (s : Account). s.seen) is) c.covers.ensures.begins in
+    let counted : seat.accepted ≤ count_of_seat seat.number (own_entries g.L.StationName.start seat.seen) = subst (λ (s : Account). s.accepted ≤ count_of_seat s.number (own_entries g.L.StationName.start s.seen)) is parts.counted in
+    let amount = parts.share.1 ∙ ap (λ (s : Account). s.accepted) is in
     let items : c.args.seats.items ≡ c.pop.new.self.items ++ (seat ∷ i.0) = i.1 ∙ (ap (λ (l : List Seated). l ++ i.0) c.in-Some.ensures.items ∙ append_assoc c.pop.new.self.items (seat ∷ []) i.0) in (
       seat ∷ i.0,
       items,

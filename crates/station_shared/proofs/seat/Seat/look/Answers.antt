@@ -3,8 +3,8 @@ use Rattle.station_desk.proofs.RoomLemmas.{copy_fits, none_within}
 use Rattle.station_shared.proofs.RoomLemmas.{few}
 use Rattle.station_shared.proofs.seat.Seat.look.Goals as goal
 
-pub apart-standing-requires : goal.apart-standing-requires
-apart-standing-requires g c = (omega arith, copy_fits g.row.N (few g.row.N (search)))
+pub apart-account-requires : goal.apart-account-requires
+apart-account-requires g c = (omega arith, copy_fits g.row.N (few g.row.N (search)))
 
 pub enter-requires : goal.enter-requires
 enter-requires g c = copy_fits g.row.N (few g.row.N (search))

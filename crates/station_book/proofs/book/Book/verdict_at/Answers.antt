@@ -1,0 +1,5 @@
+use Rattle.station_book.proofs.RoomLemmas.{table_in_book}
+use Rattle.station_book.proofs.book.Book.verdict_at.Goals as goal
+
+pub is_full-requires : goal.is_full-requires
+is_full-requires g c = table_in_book g.row.N (search)

@@ -1,4 +1,0 @@
-use Rattle.station_book.proofs.running.Book.offer_tick.Goals as goal
-
-pub sweep-requires : goal.sweep-requires
-sweep-requires g c = search

@@ -1,5 +1,0 @@
-use Rattle.station_book.proofs.RoomLemmas.{table_in_book}
-use Rattle.station_book.proofs.running.Book.sweep.Goals as goal
-
-pub sweep-requires : goal.sweep-requires
-sweep-requires g c = table_in_book g.row.N (search)
