@@ -1,13 +1,9 @@
 -- The angle of a bin is encoded as that bin.
-use Rattle.std.proofs.Common.{◌≡◌, ℕ, ◌+◌, ◌*◌, ◌<◌, ℤ, pos, ◌+ℤ◌, ◌-ℤ◌, ◌*ℤ◌, ap, ◌∙◌, refl, arith, unsigned_abs, Bool, true, false, cond}
-use Rattle.std.specs.Prelude.{int_le}
+use Rattle.std.proofs.Common.{◌≡◌, ℕ, ◌+◌, ◌*◌, ◌<◌, ℤ, pos, ◌+ℤ◌, ◌-ℤ◌, ◌*ℤ◌, ap, ◌∙◌, refl, arith, unsigned_abs, Bool, true, false, cond, int_le}
 use Rattle.std.proofs.lemmas.Int.{ints}
 use Rattle.std.proofs.Math.Nat.{mul-lt-mul_of_pos_left}
 use borrow.Author.Differences.{up, down, product_is}
-use Rattle.modes_cpr.specs.Floor.{floor, modulo}
-use Rattle.modes_cpr.specs.declared.points.Degrees.{Degrees}
-use Rattle.modes_cpr.specs.Pair.{bins, angle, decoded_angle}
-use Rattle.modes_cpr.specs.Encoding.{zone_of, bin_of, sent_bin}
+use Rattle.modes_cpr.proofs.Common.{floor, modulo, Degrees, bins, angle, decoded_angle, zone_of, bin_of, sent_bin}
 use Rattle.modes_cpr.proofs.FloorLemmas.{floor_unique}
 
 -- in units of 1/(2^17 z) of a zone

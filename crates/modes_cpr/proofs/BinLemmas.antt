@@ -3,10 +3,7 @@ use Rattle.std.proofs.Common.{◌≡◌, ℕ, ◌+◌, ◌-◌, ◌*◌, ◌<◌
 use Rattle.std.proofs.lemmas.Int.{ints}
 use Rattle.std.proofs.Math.Nat.{mul-le-mul_left, mul-lt-mul_of_pos_left, lt_of_mul-lt-mul_left}
 use borrow.Author.Differences.{up, down, sum_is_lem, product_is}
-use Rattle.modes_cpr.specs.Floor.{floor, modulo}
-use Rattle.modes_cpr.specs.declared.points.Degrees.{Degrees}
-use Rattle.modes_cpr.specs.Pair.{bins, zone_index}
-use Rattle.modes_cpr.specs.Encoding.{zone_of, bin_of, sent_bin}
+use Rattle.modes_cpr.proofs.Common.{floor, modulo, Degrees, bins, zone_index, zone_of, bin_of, sent_bin}
 use Rattle.modes_cpr.proofs.WholeNumberLemmas.{*ℤ--ℤ}
 use Rattle.modes_cpr.proofs.FloorLemmas.{floor_is, floor_unique, modulo_shift}
 

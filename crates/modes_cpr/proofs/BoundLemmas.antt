@@ -4,8 +4,7 @@ use Rattle.std.proofs.lemmas.Int.{ints, to_z-of_z, to_z_pos, fits_signed_mul}
 use Rattle.std.proofs.lemmas.Nat.{mul-le}
 use Rattle.std.proofs.Math.Nat.{mul-le-mul_left}
 use borrow.Author.Differences.{up, down, neg_is}
-use Rattle.modes_cpr.specs.declared.points.Degrees.{Degrees}
-use Rattle.modes_cpr.specs.Encoding.{zone_of}
+use Rattle.modes_cpr.proofs.Common.{Degrees, zone_of}
 use Rattle.modes_cpr.proofs.WholeNumberLemmas.{at_most_by}
 use Rattle.modes_cpr.proofs.FloorLemmas.{floor_is}
 

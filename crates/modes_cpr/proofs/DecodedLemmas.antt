@@ -1,14 +1,10 @@
 -- The bins that are sent for a point decode to the point, rounded to the nearest bin.
-use Rattle.std.proofs.Common.{◌≡◌, ℕ, ◌+◌, ◌*◌, ◌^◌, ◌<◌, ◌≤◌, ℤ, pos, negsuc, neg_ℤ, ◌+ℤ◌, ◌-ℤ◌, ◌*ℤ◌, ◌≤ℤ◌, ◌<ℤ◌, ap, ◌∙◌, sym, subst, arith, unsigned_abs, Bool, true, false, cond}
-use Rattle.std.specs.Prelude.{int_le}
+use Rattle.std.proofs.Common.{◌≡◌, ℕ, ◌+◌, ◌*◌, ◌^◌, ◌<◌, ◌≤◌, ℤ, pos, negsuc, neg_ℤ, ◌+ℤ◌, ◌-ℤ◌, ◌*ℤ◌, ◌≤ℤ◌, ◌<ℤ◌, ap, ◌∙◌, sym, subst, arith, unsigned_abs, Bool, true, false, cond, int_le}
 use Rattle.std.proofs.lemmas.Int.{ints, by_lt_z}
 use Rattle.std.proofs.lemmas.Bool.Decides.{nat_tests}
 use Rattle.std.proofs.Math.Nat.{mul-le-mul_left, le_of_mul-le-mul_left}
 use borrow.Author.Differences.{up, down, neg_is, product_is}
-use Rattle.modes_cpr.specs.Floor.{floor, modulo}
-use Rattle.modes_cpr.specs.declared.points.Degrees.{Degrees}
-use Rattle.modes_cpr.specs.Pair.{bins, angle, wrapped_angle, decoded_angle, is_latitude}
-use Rattle.modes_cpr.specs.Laws.{IsWithinHalfBin, IsWithinHalfBinRound}
+use Rattle.modes_cpr.proofs.Common.{floor, modulo, Degrees, bins, angle, wrapped_angle, decoded_angle, is_latitude, IsWithinHalfBin, IsWithinHalfBinRound}
 use Rattle.modes_cpr.proofs.WholeNumberLemmas.{*ℤ-+ℤ}
 use Rattle.modes_cpr.proofs.FloorLemmas.{floor_unique}
 use Rattle.modes_cpr.proofs.BinLemmas.{IsNearest, IsSent}

@@ -1,11 +1,7 @@
 -- Worked examples, computed by the checker from the definitions alone.
 use Rattle.std.proofs.Common.{◌≡◌, ℕ, ℤ, pos, neg_ℤ, refl, true, false, Some, None, Option}
 use Rattle.modes_fields.specs.declared.place.Place.{Place}
-use Rattle.modes_cpr.specs.Floor.{floor}
-use Rattle.modes_cpr.specs.declared.points.Position.{Position}
-use Rattle.modes_cpr.specs.Zones.{zone_count, transitions}
-use Rattle.modes_cpr.specs.Pair.{decoded_angle, zone_index, position_by, position_of}
-use Rattle.modes_cpr.specs.Encoding.{zone_of, bin_of, place_by, place_at}
+use Rattle.modes_cpr.proofs.Common.{floor, Position, zone_count, transitions, decoded_angle, zone_index, position_by, position_of, zone_of, bin_of, place_by, place_at}
 
 abbrev even : ℕ → ℕ → Place
 even y x = record { odd = false; lat = y; lon = x }

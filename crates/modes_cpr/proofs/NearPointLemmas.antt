@@ -1,14 +1,8 @@
 -- The two places that are sent for a point give a position near the point.
-use Rattle.std.proofs.Common.{◌≡◌, ℕ, zero, suc, ◌+◌, ◌<◌, ◌≤◌, ℤ, pos, ◌+ℤ◌, ◌-ℤ◌, ◌*ℤ◌, ap, ◌∙◌, refl, sym, subst, arith, Bool, true, false, Some}
-use Rattle.std.specs.Prelude.{if◌then◌else◌, IsSomeAnd}
+use Rattle.std.proofs.Common.{◌≡◌, ℕ, zero, suc, ◌+◌, ◌<◌, ◌≤◌, ℤ, pos, ◌+ℤ◌, ◌-ℤ◌, ◌*ℤ◌, ap, ◌∙◌, refl, sym, subst, arith, Bool, true, false, Some, if◌then◌else◌, IsSomeAnd}
 use Rattle.std.proofs.lemmas.Int.{ints}
 use Rattle.modes_fields.specs.declared.place.Place.{Place}
-use Rattle.modes_cpr.specs.Floor.{floor, modulo}
-use Rattle.modes_cpr.specs.declared.points.Degrees.{Degrees}
-use Rattle.modes_cpr.specs.declared.points.Position.{Position}
-use Rattle.modes_cpr.specs.Pair.{bins, latitude_zones, longitude_zones, decoded_angle, zone_index, position_by}
-use Rattle.modes_cpr.specs.Encoding.{zone_of, bin_of, sent_bin, place_by}
-use Rattle.modes_cpr.specs.Laws.{IsZoneCount, IsWithinHalfBin, IsWithinHalfBinRound, zones_at, Near}
+use Rattle.modes_cpr.proofs.Common.{floor, modulo, Degrees, Position, bins, latitude_zones, longitude_zones, decoded_angle, zone_index, position_by, zone_of, bin_of, sent_bin, place_by, IsZoneCount, IsWithinHalfBin, IsWithinHalfBinRound, zones_at, Near}
 use Rattle.modes_cpr.proofs.FloorLemmas.{floor_unique}
 use Rattle.modes_cpr.proofs.BinLemmas.{steps, IsNearest, IsSent, steps-nearest, steps-sent_bin, same_point, zone_index_is, even_zone, odd_zone}
 use Rattle.modes_cpr.proofs.PairLemmas.{found_at}

@@ -1,12 +1,9 @@
 -- The position of a pair whose latitudes are known.
-use Rattle.std.proofs.Common.{◌≡◌, ℕ, ℤ, ap, ◌∙◌, sym, Bool, true, false, Option, Some, None, w64, FitsSigned, to_z, of_z}
-use Rattle.std.specs.Prelude.{◌==◌, ◌&&◌, if◌then◌else◌}
+use Rattle.std.proofs.Common.{◌≡◌, ℕ, ℤ, ap, ◌∙◌, sym, Bool, true, false, Option, Some, None, w64, FitsSigned, to_z, of_z, ◌==◌, ◌&&◌, if◌then◌else◌}
 use Rattle.std.proofs.lemmas.Bool.{eq-eqb, ne_eqb, and_from, and_left, and_right}
 use Rattle.std.proofs.lemmas.Int.{to_z-of_z}
 use Rattle.modes_fields.specs.declared.place.Place.{Place}
-use Rattle.modes_cpr.specs.declared.points.Degrees.{Degrees}
-use Rattle.modes_cpr.specs.declared.points.Position.{Position}
-use Rattle.modes_cpr.specs.Pair.{longitude_zones, decoded_angle, zone_index, is_latitude, position_by}
+use Rattle.modes_cpr.proofs.Common.{Degrees, Position, longitude_zones, decoded_angle, zone_index, is_latitude, position_by}
 
 -- an angle that the code decoded with an index that it computed
 pub decoded_at : (limit z y : ℕ) (i j : ℤ) (a : Degrees) → FitsSigned w64 i → i ≡ j → a ≡ decoded_angle limit z (to_z w64 (of_z w64 i)) y → decoded_angle limit z j y ≡ a

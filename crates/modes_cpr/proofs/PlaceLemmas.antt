@@ -2,9 +2,7 @@
 use Rattle.std.proofs.Common.{◌≡◌, ℕ, ◌*◌, ◌%◌, ◌<◌, ◌≤◌, ℤ, pos, ap, ◌∙◌, sym, subst, arith, unsigned_abs, Bool, w64, FitsSigned, to_z, of_z}
 use Rattle.std.proofs.lemmas.Int.{ints, to_z-of_z}
 use Rattle.modes_fields.specs.declared.place.Place.{Place}
-use Rattle.modes_cpr.specs.declared.points.Degrees.{Degrees}
-use Rattle.modes_cpr.specs.Pair.{bins, latitude_zones, longitude_zones, angle}
-use Rattle.modes_cpr.specs.Encoding.{zone_of, bin_of, sent_bin, rounded_latitude, place_by}
+use Rattle.modes_cpr.proofs.Common.{Degrees, bins, latitude_zones, longitude_zones, angle, zone_of, bin_of, sent_bin, rounded_latitude, place_by}
 use Rattle.modes_cpr.proofs.FloorLemmas.{modulo_is}
 use Rattle.modes_cpr.proofs.BinLemmas.{steps, steps-nearest}
 use Rattle.modes_cpr.proofs.DecodedLemmas.{quarter-nearest}

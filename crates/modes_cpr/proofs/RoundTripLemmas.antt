@@ -1,13 +1,8 @@
 -- The position of a pair of places is encoded as the newest of them.
-use Rattle.std.proofs.Common.{◌≡◌, ℕ, ◌<◌, ℤ, pos, ap, ◌∙◌, refl, sym, subst, arith, Bool, true, false, Some, None}
+use Rattle.std.proofs.Common.{◌≡◌, ℕ, ◌<◌, ℤ, pos, ap, ◌∙◌, refl, sym, subst, arith, Bool, true, false, Some, None, ◌==◌, ◌&&◌, if◌then◌else◌}
 use Rattle.std.proofs.lemmas.Bool.{eqb-true, and_parts}
-use Rattle.std.specs.Prelude.{◌==◌, ◌&&◌, if◌then◌else◌}
 use Rattle.modes_fields.specs.declared.place.Place.{Place}
-use Rattle.modes_cpr.specs.declared.points.Degrees.{Degrees}
-use Rattle.modes_cpr.specs.declared.points.Position.{Position}
-use Rattle.modes_cpr.specs.Pair.{bins, latitude_zones, longitude_zones, angle, decoded_angle, zone_index, is_latitude, position_by}
-use Rattle.modes_cpr.specs.Encoding.{zone_of, bin_of, sent_bin, place_by}
-use Rattle.modes_cpr.specs.Laws.{RoundTrip}
+use Rattle.modes_cpr.proofs.Common.{Degrees, Position, bins, latitude_zones, longitude_zones, angle, decoded_angle, zone_index, is_latitude, position_by, zone_of, bin_of, sent_bin, place_by, RoundTrip}
 use Rattle.modes_cpr.proofs.AngleLemmas.{zone_of-angle, bin_of-angle, sent_bin-small, decoded_angle-angle}
 
 -- the angle of bin y in one of z zones

@@ -1,11 +1,8 @@
 -- Known codes and frames, by computing the definitions.
-use Rattle.std.proofs.Common.{◌≡◌, refl, Some, None, [], ◌∷◌, pos, negsuc, true, false}
-use Rattle.std.specs.Prelude.{codes}
+use Rattle.std.proofs.Common.{◌≡◌, refl, Some, None, [], ◌∷◌, pos, negsuc, true, false, codes}
 use Rattle.modes_frame.specs.Frames.{bit_of, byte_bits, df_of}
-use Rattle.modes_fields.specs.Bits.{number, field, code_bits, me_of}
-use Rattle.modes_fields.specs.Altitudes.{altitude13_of, altitude12_of, altitude, altitude_code, gray_number}
+use Rattle.modes_fields.proofs.Common.{number, field, code_bits, me_of, altitude13_of, altitude12_of, altitude, altitude_code, gray_number, callsign_in_code, characters_of, character_of, without_end_spaces}
 use Rattle.modes_fields.specs.Identity.{squawk_of_code}
-use Rattle.modes_fields.specs.Characters.{callsign_in_code, characters_of, character_of, without_end_spaces}
 use Rattle.modes_fields.specs.Velocities.{velocity_in, vertical_in, ground_of, air_of}
 use Rattle.modes_fields.specs.Places.{place_in}
 use Rattle.modes_fields.specs.Carried.{fields_of, message_fields}

@@ -1,6 +1,5 @@
 -- What a claim says of its address.
-use Rattle.std.proofs.Common.{◌≡◌, ◌≢◌, ℕ, ◌==◌, ◌*◌, ◌+◌, ◌<◌, ◌≤◌, ◌%◌, not, Bool, true, false, List, [], ◌∷◌, Result, Ok, IfOk, length, take, drop, cond, refl, sym, subst, arith, eqb-true}
-use Rattle.std.specs.Prelude.{slice_index}
+use Rattle.std.proofs.Common.{◌≡◌, ◌≢◌, ℕ, ◌==◌, ◌*◌, ◌+◌, ◌<◌, ◌≤◌, ◌%◌, not, Bool, true, false, List, [], ◌∷◌, Result, Ok, IfOk, length, take, drop, cond, refl, sym, subst, arith, eqb-true, slice_index}
 use Rattle.modes_frame.specs.Frames.{byte_bits, df_of, number_of, remainder_of}
 use Rattle.modes_frame.specs.Claims.{address_field, control_field, is_overlaid_format, is_announced_format, has_parity, is_unassigned, claim_by, claim_of}
 use Rattle.modes_frame.specs.declared.claims.Claim.{Claim}

@@ -1,8 +1,6 @@
 -- Numbers in lanes: the values of digits, and the bytes of their pairs.
-use Rattle.std.proofs.Common.{◌≡◌, ℕ, zero, suc, get_or, ◌/◌, ◌+◌, ◌-◌, ◌*◌, ◌/◌, ◌%◌, ◌^◌, ◌<◌, ◌≤◌, ◌⊎◌, ◌==◌, nat_lt, Bool, true, false, cond, List, [], ◌∷◌, ◌++◌, Option, Some, None, Ok, length, take, drop, map, replicate, bit_and, bit_or, Fits, w8, arith, rules, refl, ap, ap₂, sym, ◌∙◌, subst, inl, inr, eqb-true}
-use Rattle.std.specs.Prelude.{unwrap_or}
+use Rattle.std.proofs.Common.{◌≡◌, ℕ, zero, suc, get_or, ◌/◌, ◌+◌, ◌-◌, ◌*◌, ◌%◌, ◌^◌, ◌<◌, ◌≤◌, ◌⊎◌, ◌==◌, nat_lt, Bool, true, false, cond, List, [], ◌∷◌, ◌++◌, Option, Some, None, Ok, length, take, drop, map, replicate, bit_and, bit_or, Fits, w8, arith, rules, refl, ap, ap₂, sym, ◌∙◌, subst, inl, inr, eqb-true, unwrap_or, le-ltb, lt-ltb, ltb-false}
 use Rattle.std.specs.Simd.Lanes.{Each1, chunk, mask_l, sel_l, top, zip2}
-use Rattle.std.proofs.lemmas.Bool.{le-ltb, lt-ltb, ltb-false}
 use Rattle.std.proofs.lemmas.Simd.{length-chunk, tops_compared}
 use Rattle.std.proofs.lemmas.Nat.{and_mask, le_or_l, le_or_r, or_shifted, shl_whole}
 use Rattle.hex.specs.Hex.{decode_pairs, hex_digit_value, pair_value}

@@ -1,12 +1,9 @@
 -- One more byte at the end, and the lines.
-use Rattle.std.proofs.Common.{◌≡◌, ℕ, nat_eq, nat_le, nat_lt, Bool, true, false, cond, List, [], ◌∷◌, ◌++◌, Some, None, refl, sym, ap, ◌∙◌, length, map, length-append, rules, tests, subst, append-nil, inl, inr, ◌≢◌, ◌<◌, suc, append_assoc, get_or, arith, take, ◌≤◌, ◌+◌}
+use Rattle.std.proofs.Common.{◌≡◌, ℕ, nat_eq, nat_le, nat_lt, Bool, true, false, cond, List, [], ◌∷◌, ◌++◌, Some, None, refl, sym, ap, ◌∙◌, length, map, length-append, rules, tests, subst, append-nil, inl, inr, ◌≢◌, ◌<◌, suc, append_assoc, get_or, arith, take, ◌≤◌, ◌+◌, option_to_list}
 use Rattle.std.proofs.lemmas.Bool.{cases_Bool}
 use Rattle.std.proofs.lemmas.Bool.Decides.{eqb_tells}
 use Rattle.std.proofs.lemmas.List.{map-append, length-take-le, get_or-take, take_more}
-use Rattle.std.specs.Option.{option_to_list}
-use Rattle.modes_frame.specs.declared.cutter.Cut.{Cut}
-use Rattle.modes_frame.specs.declared.cutter.Cut.TheVariants.{Whole}
-use Rattle.modes_frame.specs.Lines.{Pieces, onto, pieces, cut_of, pending, ended_cuts, grown_cut, cut_after, cut_ended_by, lengthened_cut}
+use Rattle.modes_frame.proofs.Common.{Cut, Whole, Pieces, onto, pieces, cut_of, pending, ended_cuts, grown_cut, cut_after, cut_ended_by, lengthened_cut}
 
 -- the pieces with a line feed at the end, and with another byte
 abbrev ended_by : Pieces → Pieces

@@ -8,9 +8,7 @@ use Rattle.modes_frame.proofs.AllByteLemmas.{all_of_width, all_of_width-at}
 use Rattle.modes_frame.proofs.BitLemmas.{length-bits_of}
 use Rattle.modes_frame.proofs.NumberLemmas.{number-three}
 use Rattle.modes_frame.proofs.ParityLemmas.{byte-is, divided-xor, parity-is, remainder-lt, table-at, undivided}
-use Rattle.modes_frame.specs.Frames.{byte_bits, bits_of, number_of, divide, remainder_of, parity_of}
-use Rattle.modes_frame.specs.declared.parity.TheConstants.{TABLE}
-use Rattle.modes_frame.specs.declared.parity_by_place.TheConstants.{BEFORE_1, BEFORE_2, BEFORE_3, BEFORE_4, BEFORE_5, BEFORE_6, BEFORE_7, BEFORE_8, BEFORE_9, BEFORE_10}
+use Rattle.modes_frame.proofs.Common.{byte_bits, bits_of, number_of, divide, remainder_of, parity_of, TABLE, BEFORE_1, BEFORE_2, BEFORE_3, BEFORE_4, BEFORE_5, BEFORE_6, BEFORE_7, BEFORE_8, BEFORE_9, BEFORE_10}
 
 -- ---- the first byte
 

@@ -1,22 +1,16 @@
 -- A line of digits says its frame, and ends at its line feed.
-use Rattle.std.proofs.Common.{◌≡◌, ◌≢◌, ℕ, zero, suc, ◌-◌, ◌<◌, ◌≤◌, ◌⊎◌, ◌==◌, nat_le, nat_lt, inl, inr, true, false, cond, List, [], ◌∷◌, ◌++◌, Option, Some, None, Ok, length, length-append, append_assoc, take, get_or, refl, ap, sym, ◌∙◌, arith, rules, tests, eq-eqb}
+use Rattle.std.proofs.Common.{◌≡◌, ◌≢◌, ℕ, zero, suc, ◌-◌, ◌<◌, ◌≤◌, ◌⊎◌, ◌==◌, nat_le, nat_lt, inl, inr, true, false, cond, List, [], ◌∷◌, ◌++◌, Option, Some, None, Ok, length, length-append, append_assoc, take, get_or, refl, ap, sym, ◌∙◌, arith, rules, tests, eq-eqb, IfSome, take_all}
 use Rattle.std.specs.List.{AllPass, suffix_len}
-use Rattle.std.specs.Option.{IfSome}
 use Rattle.std.proofs.lemmas.Bool.{cases_lt}
-use Rattle.std.proofs.lemmas.List.{take_all}
 use Rattle.std.proofs.lemmas.List.Sums.{suffix_len-take_no}
 use Rattle.std.proofs.Math.ListN.{get_or-append}
 use Rattle.std.proofs.Math.Seq.{get_or-append_seam, take-append_seam, take-length}
 use Rattle.hex.specs.Hex.{decode_pairs, is_hex_digit}
 use Rattle.hex.proofs.HexLemmas.{decode_pairs-ok}
-use Rattle.modes_frame.specs.declared.cutter.Cut.{Cut}
-use Rattle.modes_frame.specs.declared.cutter.Cut.TheVariants.{Whole}
+use Rattle.modes_frame.proofs.Common.{Cut, Whole, df_of, IsFrame, ended_cuts, pending, lengthened_cut, is_blank, front_trimmed, back_trimmed, trimmed_line, reading_of, line_reading, said_by, fits_length, digits_of, body_of}
 use Rattle.modes_frame.specs.declared.line.Line.TheVariants.{Frame}
 use Rattle.modes_frame.specs.declared.plain.PlainLine.{PlainLine}
-use Rattle.modes_frame.specs.Frames.{df_of, IsFrame}
-use Rattle.modes_frame.specs.Lines.{ended_cuts, pending, lengthened_cut}
 use Rattle.modes_frame.specs.Plain.{IsFrameLine, EndsFrame}
-use Rattle.modes_frame.specs.Reading.{is_blank, front_trimmed, back_trimmed, trimmed_line, reading_of, line_reading, said_by, fits_length, digits_of, body_of}
 use Rattle.modes_frame.proofs.LineLemmas.{HasNone, pending-lengthened_cut, ended-lengthened_cut, pending-push, ended-push}
 use Rattle.modes_frame.proofs.RuleLemmas.{ends-at, ended-test}
 

@@ -1,18 +1,13 @@
 -- The answer to a line is the one that the rules give.
-use Rattle.std.proofs.Common.{◌≡◌, ◌≢◌, ℕ, zero, suc, ◌+◌, ◌-◌, ◌*◌, ◌/◌, ◌<◌, ◌≤◌, ◌==◌, ◌||◌, ◌&&◌, nat_lt, ◌⊎◌, inl, inr, Bool, true, false, cond, List, [], ◌∷◌, ◌++◌, Option, Some, None, Result, Ok, Err, length, length-append, take, drop, get_or, refl, ap, sym, ◌∙◌, subst, arith, eqb-true, zero-add}
-use Rattle.std.specs.List.{All}
+use Rattle.std.proofs.Common.{◌≡◌, ◌≢◌, ℕ, zero, suc, ◌+◌, ◌-◌, ◌*◌, ◌/◌, ◌<◌, ◌≤◌, ◌==◌, ◌||◌, ◌&&◌, nat_lt, ◌⊎◌, inl, inr, Bool, true, false, cond, List, [], ◌∷◌, ◌++◌, Option, Some, None, Result, Ok, Err, length, length-append, take, drop, get_or, refl, ap, sym, ◌∙◌, subst, arith, eqb-true, zero-add, All}
 use Rattle.std.proofs.lemmas.List.{length-drop, take_all, take_more}
 use Rattle.std.proofs.Math.Seq.{get_or-append_seam}
-use Rattle.modes_frame.specs.declared.line.Line.{Line}
-use Rattle.modes_frame.specs.declared.line.LineFault.{LineFault}
+use Rattle.modes_frame.proofs.Common.{Line, LineFault, df_of, is_start, counter_len, fits_length, said_by, from_digits, digits_of, body_of, line_reading, trimmed_line, IsStart, IsEnclosed, HasLength, IsDigit, Writes, IsFirstBad, Carries, Says, Reads}
 use Rattle.modes_frame.proofs.TrimLemmas.{trimmed_line-is}
 use Rattle.std.proofs.lemmas.List.Elements.{All-nil, All-cons}
 use Rattle.hex.specs.Hex.{decode_pairs, digit_or_error, hex_digit_value, ◌>>=◌}
 use Rattle.hex.specs.declared.error.FromHexError.{FromHexError}
 use Rattle.hex.specs.declared.error.FromHexError.TheVariants.{InvalidHexCharacter, OddLength, InvalidStringLength, OutOfMemory}
-use Rattle.modes_frame.specs.Frames.{df_of}
-use Rattle.modes_frame.specs.Reading.{is_start, counter_len, fits_length, said_by, from_digits, digits_of, body_of, line_reading, trimmed_line}
-use Rattle.modes_frame.specs.LineRules.{IsStart, IsEnclosed, HasLength, IsDigit, Writes, IsFirstBad, Carries, Says, Reads}
 
 -- ---- digits
 

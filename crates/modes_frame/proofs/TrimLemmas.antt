@@ -5,8 +5,7 @@ use Rattle.std.proofs.lemmas.List.{length-take-le, length-drop, length-reverse, 
 use Rattle.std.proofs.lemmas.List.Sums.{prefix_len_passes, prefix_len_stops, prefix_len-le-length, suffix_len-le-length}
 use Rattle.std.proofs.lemmas.List.Elements.{All-from_get_or}
 use Rattle.std.proofs.Math.Seq.{get_or-append_seam}
-use Rattle.modes_frame.specs.Reading.{is_blank, front_trimmed, back_trimmed, trimmed_line}
-use Rattle.modes_frame.specs.LineRules.{IsBlank, IsTrimmed}
+use Rattle.modes_frame.proofs.Common.{is_blank, front_trimmed, back_trimmed, trimmed_line, IsBlank, IsTrimmed}
 
 -- the number of blanks at the front, what follows them, the number of blanks at the back of that, and what is left
 abbrev ahead : List ℕ → ℕ

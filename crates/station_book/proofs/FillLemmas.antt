@@ -1,14 +1,10 @@
 -- The first entry of a list that doesn't fit those before it.
-use Rattle.std.proofs.Common.{◌≡◌, ℕ, ◌+◌, ◌<◌, false, List, [], ◌∷◌, ◌++◌, length, take, get_or, sym, ap, ◌∙◌, subst, arith, length-take-le}
+use Rattle.std.proofs.Common.{◌≡◌, ℕ, ◌+◌, ◌<◌, false, List, [], ◌∷◌, ◌++◌, length, take, get_or, sym, ap, ◌∙◌, subst, arith, length-take-le, reverse}
 use Rattle.std.proofs.lemmas.Bool.{false≢true}
-use mathlib.Core.List.{reverse}
 use Rattle.std.proofs.lemmas.List.{length-reverse, reverse-append, take_more}
 use Rattle.station_journal.specs.declared.entry.Entry.{Entry}
-use Rattle.station_journal.specs.Resume.{Sound}
-use Rattle.station_book.specs.Call.{call_of}
-use Rattle.station_book.specs.State.{BookState, fits}
-use Rattle.station_journal.specs.Follow.{IsFirstUnsound}
-use Rattle.station_book.specs.Matching.{Matches}
+use Rattle.station_journal.proofs.Common.{Sound, IsFirstUnsound}
+use Rattle.station_book.proofs.Common.{call_of, BookState, fits, Matches}
 use Rattle.station_book.proofs.VerdictLemmas.{fits_from}
 
 module _ (n base : ℕ) (book : BookState) (entries : List Entry) (i : ℕ) (entry : Entry) (within : i < length entries) (is : entry ≡ get_or entries i entry) (m : Matches n base book (take i entries)) where

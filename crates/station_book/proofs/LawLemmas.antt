@@ -1,17 +1,11 @@
 -- The laws of the book over whole journals.
-use Rattle.std.proofs.Common.{◌≡◌, ℕ, ◌<◌, true, List, [], ◌∷◌, ◌++◌, length, None, refl, ◌∙◌, arith, nat_lt}
+use Rattle.std.proofs.Common.{◌≡◌, ℕ, ◌<◌, true, List, [], ◌∷◌, ◌++◌, length, None, refl, ◌∙◌, arith, nat_lt, reverse}
 use Rattle.std.proofs.lemmas.Bool.Decides.{nat_tests}
-use mathlib.Core.List.{reverse}
 use Rattle.std.proofs.lemmas.List.{length-reverse}
 use Rattle.station_journal.specs.declared.entry.Entry.{Entry}
-use Rattle.station_journal.specs.Log.{Log, IsLegal, table_of, placed_of, clock_of, past_of, refusal_of, most_entries}
-use Rattle.station_journal.specs.Resume.{Sound}
+use Rattle.station_journal.proofs.Common.{Log, IsLegal, table_of, placed_of, clock_of, past_of, refusal_of, most_entries, Sound}
 use Rattle.station_journal.proofs.SoundLemmas.{sound_legal}
-use Rattle.station_book.specs.declared.call.Call.{Call}
-use Rattle.station_book.specs.declared.call.Call.TheVariants.{Tick, Heard}
-use Rattle.station_book.specs.Call.{call_of, entry_of}
-use Rattle.station_book.specs.State.{BookState, applied_book, book_offered, rows, placed_rows, fits}
-use Rattle.station_book.specs.Matching.{MatchesPast, Matches, Shows, book_of_past, book_after}
+use Rattle.station_book.proofs.Common.{Call, Tick, Heard, call_of, entry_of, BookState, applied_book, book_offered, rows, placed_rows, fits, MatchesPast, Matches, Shows, book_of_past, book_after}
 use Rattle.station_book.proofs.MatchingLemmas.{matches_starting, matches_applied, matches_push}
 use Rattle.station_book.proofs.TableLemmas.{rows_are_table, placed_are_table}
 use Rattle.station_book.proofs.VerdictLemmas.{same_tick_refusal, same_refusal, fits_from_accepts, fits_from, fits_back}

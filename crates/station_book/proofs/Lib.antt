@@ -1,3 +1,4 @@
+pub mod Common
 pub mod AircraftLemmas
 pub mod TrackLemmas
 pub mod RankLemmas

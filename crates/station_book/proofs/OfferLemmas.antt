@@ -1,11 +1,8 @@
 -- A book that is offered an entry still matches, with the entry or without it.
-use Rattle.std.proofs.Common.{◌≡◌, ◌⊎◌, ℕ, Bool, true, false, List, [], ◌∷◌, ◌++◌, refl, nat_lt}
-use mathlib.Core.Logic.{inl, inr}
+use Rattle.std.proofs.Common.{◌≡◌, ◌⊎◌, ℕ, Bool, true, false, List, [], ◌∷◌, ◌++◌, refl, nat_lt, inl, inr}
 use Rattle.station_journal.specs.declared.entry.Entry.{Entry}
 use Rattle.station_journal.specs.Log.{most_entries}
-use Rattle.station_book.specs.Call.{call_of}
-use Rattle.station_book.specs.State.{BookState, book_offered, fits}
-use Rattle.station_book.specs.Matching.{Matches}
+use Rattle.station_book.proofs.Common.{call_of, BookState, book_offered, fits, Matches}
 use Rattle.station_book.proofs.LawLemmas.{match_after_fit}
 
 module _ (n base : ℕ) (book : BookState) (journal : List Entry) (entry : Entry) (m : Matches n base book journal) where

@@ -9,8 +9,7 @@ use Rattle.std.proofs.lemmas.Simd.{length-zip2, mask_l-mod, tops_compared}
 use Rattle.std.proofs.lemmas.Slice.Eq.{bytes_eq-Decides}
 use Rattle.modes_frame.specs.Frames.{IsFrame, byte_bits, df_of}
 use Rattle.modes_frame.proofs.FormatLemmas.{format-first}
-use Rattle.station_journal.specs.Past.{Frame}
-use Rattle.station_journal.specs.Repeats.{same_frame}
+use Rattle.station_journal.proofs.Common.{Frame, same_frame}
 use Rattle.station_book.specs.Digests.{digest_of}
 
 -- the bytes with zeros before them, 16 in all

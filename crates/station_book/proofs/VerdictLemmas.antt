@@ -10,13 +10,8 @@ use Rattle.station_journal.specs.declared.entry.Entry.{Entry}
 use Rattle.station_journal.specs.declared.entry.Entry.TheVariants.{Tick, Heard}
 use Rattle.station_journal.specs.declared.limits.Limits.{Limits}
 use Rattle.station_journal.specs.declared.refusal.Refusal.TheVariants.{NotLater}
-use Rattle.station_journal.specs.Past.{Frame, clock, or_older}
-use Rattle.station_journal.specs.Repeats.{is_one_of, is_repeated}
-use Rattle.station_journal.specs.Verdict.{refuse_if, claim_refusal, tick_refusal, refusal, is_full, Accepts}
-use Rattle.station_book.specs.Call.{call_of}
-use Rattle.station_book.specs.State.{BookState, book_claim_refusal, book_tick_refusal, book_refusal, claim_fits, fits}
-use Rattle.station_book.specs.Matching.{MatchesPast}
-use Rattle.station_journal.specs.Resume.{ClaimFits, Fits, Sound}
+use Rattle.station_journal.proofs.Common.{Frame, clock, or_older, is_one_of, is_repeated, refuse_if, claim_refusal, tick_refusal, refusal, is_full, Accepts, ClaimFits, Fits, Sound}
+use Rattle.station_book.proofs.Common.{call_of, BookState, book_claim_refusal, book_tick_refusal, book_refusal, claim_fits, fits, MatchesPast}
 use Rattle.station_book.proofs.TableLemmas.{kept_is_live, same_count}
 
 or_older_none : {V : Type 0} (x : Option V) → or_older x None ≡ x

@@ -1,3 +1,4 @@
+pub mod Common
 pub mod HistoryLemmas
 pub mod DeskLemmas
 pub mod EndingLemmas

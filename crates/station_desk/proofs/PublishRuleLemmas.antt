@@ -5,9 +5,7 @@ use mathlib.Core.Option.{some}
 use lib.ListN.{get_elem?}
 use Rattle.crossbeam_utils.specs.Register.{Admits, TurnsAt, Turns, Forks, Merges}
 use Rattle.atomic_table.proofs.Lists.{at_set, at_snoc, set_again}
-use Rattle.station_desk.specs.Published.{Sheet, IsPublished, IsOfSheet, SawPublished, GoesOn, Follows, mark_of}
-use Rattle.station_desk.specs.declared.published.Mark.{Mark}
-use Rattle.station_desk.specs.declared.published.Origin.{Origin}
+use Rattle.station_desk.proofs.Common.{Sheet, IsPublished, IsOfSheet, SawPublished, GoesOn, Follows, mark_of, Mark, Origin}
 use Rattle.station_desk.proofs.FrontLemmas.{prefix_refl, prefix_trans}
 
 some_mark : (k l : Mark) → Some k ≡ Some l → k ≡ l

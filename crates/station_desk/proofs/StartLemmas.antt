@@ -1,17 +1,12 @@
 -- What is shown when a station begins.
-use Rattle.std.proofs.Common.{◌≡◌, ℕ, ◌+◌, ◌≤◌, List, [], ◌∷◌, ◌++◌, None, Some, length, take, drop, sym, ap, ◌∙◌, subst, inl, arith}
-use mathlib.Core.List.{reverse}
+use Rattle.std.proofs.Common.{◌≡◌, ℕ, ◌+◌, ◌≤◌, List, [], ◌∷◌, ◌++◌, None, Some, length, take, drop, sym, ap, ◌∙◌, subst, inl, arith, reverse}
 use Rattle.std.proofs.lemmas.List.{length-reverse, reverse-append, length-take-le, take-append-drop}
 use Rattle.station_journal.specs.declared.entry.Entry.{Entry}
-use Rattle.station_journal.specs.Follow.{IsFirstUnsound}
-use Rattle.station_journal.specs.Resume.{Sound, IsSound, LegalFrom, IsUnsoundAt}
+use Rattle.station_journal.proofs.Common.{IsFirstUnsound, Sound, IsSound, LegalFrom, IsUnsoundAt}
 use Rattle.station_journal.specs.declared.limits.Limits.{Limits}
 use Rattle.station_journal.proofs.SoundLemmas.{sound_by_counts, sound_by_fits, legal_resumed}
-use Rattle.station_book.specs.State.{BookState}
-use Rattle.station_book.specs.Matching.{Matches}
-use Rattle.station_desk.specs.History.{Known, base_of}
-use Rattle.station_desk.specs.Published.{Sheet, sheet, Follows, BeginsWith}
-use Rattle.station_desk.specs.declared.published.Origin.{Origin}
+use Rattle.station_book.proofs.Common.{BookState, Matches}
+use Rattle.station_desk.proofs.Common.{Known, base_of, Sheet, sheet, Follows, BeginsWith, Origin}
 
 -- the older part of a sound past is sound
 sound_behind : (n base : ℕ) (newer past : List Entry) → Sound n base (newer ++ past) → Sound n base past

@@ -1,8 +1,7 @@
 -- Values with their times: how they age, and when two show the same from some time on.
 use Rattle.std.proofs.Common.{◌≡◌, ℕ, ◌+◌, ◌-◌, ◌≤◌, Option, Some, None, refl, sym, arith}
 use Rattle.std.proofs.lemmas.Bool.Decides.{nat_tests}
-use Rattle.station_journal.specs.declared.aircraft.Stamped.{Stamped}
-use Rattle.station_journal.specs.Past.{or_older, fresh, fresh_moment}
+use Rattle.station_journal.proofs.Common.{Stamped, or_older, fresh, fresh_moment}
 
 -- both show the same at each time from now on
 abbrev pub AgreeFrom : {V : Type 0} → ℕ → ℕ → Option (Stamped V) → Option (Stamped V) → Type 0

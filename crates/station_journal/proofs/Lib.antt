@@ -1,3 +1,4 @@
+pub mod Common
 pub mod FreshLemmas
 pub mod SearchLemmas
 pub mod RisingLemmas

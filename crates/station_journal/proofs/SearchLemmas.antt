@@ -1,13 +1,8 @@
 -- The time of what a search of the past finds. It is old where the aircraft isn't live.
-use Rattle.std.proofs.Common.{◌≡◌, ℕ, ◌-◌, ◌≤◌, Bool, true, false, ◌&&◌, ◌||◌, if◌then◌else◌, List, [], ◌∷◌, Option, Some, None, IfSome, is_some, refl, arith}
-use Rattle.std.specs.Prelude.{nat_le}
+use Rattle.std.proofs.Common.{◌≡◌, ℕ, ◌-◌, ◌≤◌, Bool, true, false, ◌&&◌, ◌||◌, if◌then◌else◌, List, [], ◌∷◌, Option, Some, None, IfSome, is_some, refl, arith, nat_le}
 use Rattle.std.proofs.lemmas.Bool.Decides.{nat_tests}
-use Rattle.station_journal.specs.Past.{Frame}
+use Rattle.station_journal.proofs.Common.{Frame, Entry, Tick, Heard, Stamped, clock, speaks_for, heard_within, stamp, or_older, fresh, read_for, newest, newest_fix, fix_by, place_of, sighting_of, IsTimed}
 use Rattle.modes_cpr.specs.declared.points.Position.{Position}
-use Rattle.station_journal.specs.declared.entry.Entry.{Entry}
-use Rattle.station_journal.specs.declared.entry.Entry.TheVariants.{Tick, Heard}
-use Rattle.station_journal.specs.declared.aircraft.Stamped.{Stamped}
-use Rattle.station_journal.specs.Past.{clock, speaks_for, heard_within, stamp, or_older, fresh, read_for, newest, newest_fix, fix_by, place_of, sighting_of, IsTimed}
 
 module _ {V : Type 0} where
   -- one step: the reading of the newest frame, or what is found before it

@@ -1,16 +1,13 @@
 -- Bytes of a source, one read after another.
-use Rattle.std.proofs.Common.{◌≡◌, ℕ, zero, suc, ◌+◌, ◌*◌, ◌-◌, ◌<◌, ◌≤◌, Bool, true, false, not, List, [], ◌∷◌, ◌++◌, length, take, drop, length-drop, Result, Ok, Err, OnOk, take-append-drop, refl, sym, ap, ◌∙◌, subst, append_assoc, append-nil, length-append, map, arith}
-use Rattle.std.specs.Option.{option_to_list}
+use Rattle.std.proofs.Common.{◌≡◌, ℕ, zero, suc, ◌+◌, ◌*◌, ◌-◌, ◌<◌, ◌≤◌, Bool, true, false, not, List, [], ◌∷◌, ◌++◌, length, take, drop, length-drop, Result, Ok, Err, OnOk, take-append-drop, refl, sym, ap, ◌∙◌, subst, append_assoc, append-nil, length-append, map, arith, option_to_list, take-add}
 use Rattle.std.specs.Io.KnownBytes.{IsAtEnd}
 use Rattle.std.proofs.KnownBytes.{Consumes-nil, Consumes-trans, Consumes-kept, Appends-nil, Appends-trans, Appends-kept}
 use Rattle.std.proofs.lemmas.List.{map-append, take_all}
-use Rattle.std.proofs.Math.Seq.{take-add}
 use Rattle.modes_frame.specs.declared.cutter.Cut.{Cut}
 use Rattle.modes_frame.specs.Lines.{pieces, cut_of, cuts, last_line, pending, ended_cuts, cut_ended_by}
 use Rattle.modes_frame.proofs.LineLemmas.{ended-push}
 use Rattle.station_report.specs.Sink.{count_after}
-use Rattle.station_lines.specs.Source.{SourceState, one_more, counted_up, longest_read}
-use Rattle.station_lines.specs.Drawing.{Gives, GivesNone, Gathers, FailsOnce, Ending, AtEnd, ReadFailed, TurnsOver, LineStopped, EndsAs, is_read_failed, TakesEach, StopsWithin, TakesBytes, TakesLast, Taken, ending_as, stopped_as, ended_by}
+use Rattle.station_lines.proofs.Common.{SourceState, one_more, counted_up, longest_read, Gives, GivesNone, Gathers, FailsOnce, Ending, AtEnd, ReadFailed, TurnsOver, LineStopped, EndsAs, is_read_failed, TakesEach, StopsWithin, TakesBytes, TakesLast, Taken, ending_as, stopped_as, ended_by}
 
 -- ---- bytes of a source
 

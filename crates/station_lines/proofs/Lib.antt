@@ -1,3 +1,4 @@
+pub mod Common
 pub mod CommandLemmas
 pub mod DigitLemmas
 pub mod DrawingLemmas

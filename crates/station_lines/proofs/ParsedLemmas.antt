@@ -5,13 +5,8 @@ use Rattle.modes_frame.specs.declared.cutter.Cut.TheVariants.{Whole}
 use Rattle.modes_frame.specs.declared.line.Line.TheVariants.{Frame, ModeAc, Blank}
 use Rattle.modes_frame.specs.declared.line.LineFault.TheVariants.{TooLong}
 use Rattle.modes_frame.specs.Reading.{is_start, line_reading, reading_of, trimmed_line}
-use Rattle.station_lines.specs.Calls.{heard_line, replay_command, frame_in}
-use Rattle.station_lines.specs.Command.{command_by, command_of, of_line}
-use Rattle.station_lines.specs.Counting.{is_frame, is_mode_ac, is_blank_line}
-use Rattle.station_lines.specs.ParsedLines.{parsed_of, read_as}
-use Rattle.station_lines.specs.declared.command.Command.{Command}
+use Rattle.station_lines.proofs.Common.{heard_line, replay_command, frame_in, command_by, command_of, of_line, is_frame, is_mode_ac, is_blank_line, parsed_of, read_as, Command, CommandFault}
 use Rattle.station_lines.specs.declared.command.Command.TheVariants.{Tick, Show, Line as Received}
-use Rattle.station_lines.specs.declared.command.CommandFault.{CommandFault}
 use Rattle.station_lines.specs.declared.command.CommandFault.TheVariants.{Line as Faulty}
 use Rattle.station_lines.specs.declared.parsed_line.ParsedLine.{ParsedLine}
 use Rattle.station_lines.specs.declared.parsed_line.ParsedLine.TheVariants as parsed

@@ -6,8 +6,7 @@ use Rattle.std.proofs.lemmas.List.{map_push}
 use Rattle.station_portions.specs.Giving.{state_of}
 use Rattle.station_lines.specs.Source.{SourceState}
 use Rattle.station_portions.specs.declared.portions.Portions.{Portions}
-use Rattle.station_main.specs.Inputs.{AreFed, IsFedBy, path_of}
-use Rattle.station_main.specs.Sums.{AddsAll, AddsAnswer}
+use Rattle.station_main.proofs.Common.{AreFed, IsFedBy, path_of, AddsAll, AddsAnswer}
 use Rattle.station_main.specs.declared.opened.Opened.{Opened}
 
 -- one more item, of a list whose other items are to come

@@ -9,20 +9,11 @@ use Rattle.station_report.specs.Sink.{SinkState}
 use native.Mathlib.Decide.{dec_lt}
 use Rattle.station_journal.specs.declared.entry.Entry.{Entry}
 use Rattle.station_desk.specs.Start.{Start}
-use Rattle.station_shared.specs.Closing.{Closes, EachOnce}
-use Rattle.station_shared.specs.Seats.{Seated, new_seat, new_seats, newcomer, newcomers}
-use Rattle.station_shared.specs.Workers.{Works}
+use Rattle.station_shared.proofs.Common.{Closes, EachOnce, Seated, new_seat, new_seats, newcomer, newcomers, Works}
 use Rattle.station_portions.specs.declared.portions.Portions.{Portions}
 use Rattle.station_lines.specs.declared.pumping.PumpFault.{PumpFault}
 use Rattle.station_lines.specs.declared.tally.Tally.{Tally}
-use Rattle.station_main.specs.Limits.{most_reads}
-use Rattle.station_main.specs.Recorded.{Recording}
-use Rattle.station_main.specs.Reporter.{ReportsByAClock}
-use Rattle.station_main.specs.Rounds.{Begun, IsServedBy, Serves}
-use Rattle.station_main.specs.Run.{AreNumbered, Closing, HavePumped, HaveWorked, IsClosed}
-use Rattle.station_main.specs.Sums.{AddsAll, AddsEach}
-use Rattle.station_main.specs.declared.duties.Duties.{Duties}
-use Rattle.station_main.specs.declared.schedule.Due.{Due}
+use Rattle.station_main.proofs.Common.{most_reads, Recording, ReportsByAClock, Begun, IsServedBy, Serves, AreNumbered, Closing, HavePumped, HaveWorked, IsClosed, AddsAll, AddsEach, Duties, Due}
 use Rattle.station_main.proofs.RunJobLemmas.{length_new_seats}
 use Rattle.station_main.proofs.FoundLemmas.{some_same}
 use Rattle.station_main.proofs.SeatNumberLemmas.{all_once}

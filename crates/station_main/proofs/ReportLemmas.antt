@@ -7,17 +7,12 @@ use Rattle.station_journal.specs.declared.refusal.Refusal.{Refusal}
 use Rattle.station_report.specs.Sink.{SinkState, count_after}
 use Rattle.station_report.specs.declared.formats.Format.{Format}
 use Rattle.station_report.specs.declared.sinks.WriteFault.{WriteFault}
-use Rattle.station_desk.specs.Start.{Start}
+use Rattle.station_desk.proofs.Common.{Start, Known}
 use Rattle.station_shared.specs.Seats.{Seated, Accepted, Refused, Looks}
-use Rattle.station_desk.specs.History.{Known}
-use Rattle.station_main.specs.Reporter.{Acting, DoesAct, IsActAt, IsShowing, IsLater, Reports, Showing, Showings, Ticks, after_table, after_tick, due_moments, has_come, looks_of, seat_after}
-use Rattle.station_main.specs.Recorded.{IfRecording, PrintsAndRecords, Recording, Records, seen_by}
+use Rattle.station_main.proofs.Common.{Acting, DoesAct, IsActAt, IsShowing, IsLater, Reports, Showing, Showings, Ticks, after_table, after_tick, due_moments, has_come, looks_of, seat_after, IfRecording, PrintsAndRecords, Recording, Records, seen_by, Due, Tables, Prints, PassesOver, TakesTexts, look_text, texts, failures_after}
 use Rattle.station_main.specs.declared.reporter.ReporterResult.{ReporterResult}
 use Rattle.station_main.specs.declared.schedule.Act.{Act}
 use Rattle.station_main.specs.declared.schedule.Act.TheVariants as act
-use Rattle.station_main.specs.declared.schedule.Due.{Due}
-use Rattle.station_main.specs.declared.schedule.Tables.{Tables}
-use Rattle.station_main.specs.Tables.{Prints, PassesOver, TakesTexts, look_text, texts, failures_after}
 use Rattle.station_main.proofs.RecordedLemmas.{no-more-records, no-records, one-more-look}
 use Rattle.station_main.proofs.LookLemmas.{begins-trans}
 use Rattle.station_main.proofs.ReportTimeLemmas.{acts-then, due-then, nothing-due, table-due, tick-due}

@@ -1,8 +1,7 @@
 -- What a reporter does at the times that its clock gives, one more at the end.
 use Rattle.std.proofs.Common.{rules, ◌≡◌, ◌∙◌, ℕ, ◌≤◌, ◌<◌, Bool, true, false, List, [], ◌∷◌, ◌++◌, refl, sym, ap, cond, nat_le}
 use Rattle.std.proofs.lemmas.Bool.{lt-leb, le-leb}
-use Rattle.station_main.specs.Reporter.{Acting, after_table, after_tick, due_after, due_moments, has_come}
-use Rattle.station_main.specs.declared.schedule.Due.{Due}
+use Rattle.station_main.proofs.Common.{Acting, after_table, after_tick, due_after, due_moments, has_come, Due}
 use Rattle.station_main.specs.declared.schedule.Pace.{Pace}
 
 append-by : (table tick : Bool) (later : Due → List Acting) (t u : Acting) (a b c : Due) (of_a of_b of_c all_a all_b all_c : List Acting)

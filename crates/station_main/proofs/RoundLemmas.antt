@@ -6,23 +6,16 @@ use Rattle.station_journal.specs.declared.entry.Entry.{Entry}
 use Rattle.station_journal.specs.declared.limits.Limits.{Limits}
 use Rattle.station_journal.specs.declared.recent.ResumeFault.{ResumeFault}
 use Rattle.station_journal.specs.declared.recent.ResumeFault.TheVariants.{TooManyEntries, Unsound, NoMemory}
-use Rattle.station_journal.specs.Resume.{IsSound, Refuses, recent_base}
+use Rattle.station_journal.proofs.Common.{IsSound, Refuses, recent_base, IsLegal}
 use Rattle.station_journal.proofs.SoundLemmas.{sound_by_fits}
 use Rattle.station_journal.proofs.StandsLemmas.{length_sound, recent_stands, sound_from_legal}
-use Rattle.station_desk.specs.History.{base_of}
-use Rattle.station_desk.specs.Start.{Start, log_of}
-use Rattle.station_journal.specs.Log.{IsLegal}
+use Rattle.station_desk.proofs.Common.{base_of, Start, log_of}
 use Rattle.station_shared.specs.Seats.{Seated, new_seats, newcomer, newcomers}
 use Rattle.station_shared.proofs.NewcomerLemmas.{one_place}
 use Rattle.station_lines.specs.declared.pumping.PumpFault.{PumpFault}
 use Rattle.station_lines.specs.declared.tally.Tally.{Tally}
 use Rattle.station_desk.proofs.StartLemmas.{sound_at, sound_front}
-use Rattle.station_main.specs.Limits.{program_limits}
-use Rattle.station_main.specs.Recorded.{Recording}
-use Rattle.station_main.specs.Rounds.{RunPlan, Begun, RoundStart, HandsOn, IsCutShort, IsHandOver, IsOver, KeepsRecent, RunsRounds, Stations}
-use Rattle.station_main.specs.Run.{Closing, EndsEarly}
-use Rattle.station_main.specs.Sums.{AddsEach}
-use Rattle.station_main.specs.Telling.{Told}
+use Rattle.station_main.proofs.Common.{program_limits, Recording, RunPlan, Begun, RoundStart, HandsOn, IsCutShort, IsHandOver, IsOver, KeepsRecent, RunsRounds, Stations, Closing, EndsEarly, AddsEach, Told}
 
 -- ---- a sound list is refused only if out of memory
 

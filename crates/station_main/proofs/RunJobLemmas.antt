@@ -7,12 +7,7 @@ use Rattle.station_journal.specs.declared.entry.Entry.{Entry}
 use Rattle.station_report.specs.declared.sinks.WriteFault.{WriteFault}
 use Rattle.station_desk.specs.Start.{Start}
 use Rattle.station_shared.specs.Seats.{Seated, Looks, new_seat, new_seats}
-use Rattle.station_main.specs.Recorded.{IfRecording, Recording, Records, seen_by}
-use Rattle.station_main.specs.Reporter.{MayHandOver, ReportsByAClock, looks_of}
-use Rattle.station_main.specs.Run.{LastLook, ReporterLeaves, PrintsLast}
-use Rattle.station_main.specs.Tables.{TakesTexts}
-use Rattle.station_main.specs.declared.duties.Duties.{Duties}
-use Rattle.station_main.specs.declared.schedule.Due.{Due}
+use Rattle.station_main.proofs.Common.{IfRecording, Recording, Records, seen_by, MayHandOver, ReportsByAClock, looks_of, LastLook, ReporterLeaves, PrintsLast, TakesTexts, Duties, Due}
 use Rattle.station_main.proofs.RecordedLemmas.{one-more-look}
 use Rattle.station_main.proofs.ReportLemmas.{printed_at_most}
 

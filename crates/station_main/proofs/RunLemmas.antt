@@ -1,8 +1,6 @@
 -- What an accepted command line gives `run`.
-use Rattle.std.proofs.Common.{rules, ◌≡◌, ◌∙◌, ◌≤◌, inl, inr, ℕ, Bool, true, false, zero, suc, List, [], ◌∷◌, Option, Some, None, refl, sym, ap, ap₂, subst, ◌==◌, length, codes, drop, pos, int_le, unwrap_or, slice_get, option_and_then, neg_ℤ, find, ◌&&◌, ◌||◌, cond, option_map, if◌then◌else◌, IfSome}
-use Rattle.std.specs.Str.{bytes_eq}
+use Rattle.std.proofs.Common.{rules, ◌≡◌, ◌∙◌, ◌≤◌, inl, inr, ℕ, Bool, true, false, zero, suc, List, [], ◌∷◌, Option, Some, None, refl, sym, ap, ap₂, subst, ◌==◌, length, codes, drop, pos, int_le, unwrap_or, slice_get, option_and_then, neg_ℤ, find, ◌&&◌, ◌||◌, cond, option_map, if◌then◌else◌, IfSome, bytes_eq, leb-true}
 use Rattle.clap.specs.Faults.{fault_of}
-use Rattle.std.proofs.lemmas.Bool.{leb-true}
 use Rattle.clap.specs.ValueTests.{fits_i64, is_numeral}
 use Rattle.clap.specs.Values.{read_as}
 use Rattle.clap.specs.Lexer.{without_minus}

@@ -1,7 +1,6 @@
 -- The rows of `run` after accepted uses, and one more.
-use Rattle.std.proofs.Common.{rules, ◌≡◌, ◌∙◌, ◌≤◌, ◌⊎◌, ℕ, Bool, true, false, List, [], ◌∷◌, ◌++◌, Option, Some, None, refl, ap, subst, length, codes, pos}
+use Rattle.std.proofs.Common.{rules, ◌≡◌, ◌∙◌, ◌≤◌, ◌⊎◌, ℕ, Bool, true, false, List, [], ◌∷◌, ◌++◌, Option, Some, None, refl, ap, subst, length, codes, pos, bytes_eq}
 use Rattle.std.specs.Prelude.{⊤, find, ◌||◌, cond, if◌then◌else◌}
-use Rattle.std.specs.Str.{bytes_eq}
 use Rattle.clap.specs.ValueTests.{is_signed_in}
 use Rattle.clap.specs.Walk.{Row, Text, at_row, has_row, used_as, more_values, without}
 use Rattle.clap.specs.declared.builder.action.ArgAction.TheVariants.{Set}

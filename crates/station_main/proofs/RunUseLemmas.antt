@@ -1,9 +1,8 @@
 -- The accepted uses of the options of `run`.
-use Rattle.std.proofs.Common.{◌≡◌, ◌≤◌, inl, inr, ℕ, Bool, true, false, List, [], ◌∷◌, refl, sym, subst, ◌==◌, length, codes, arith, pos, nat_lt, ◌&&◌, if◌then◌else◌}
+use Rattle.std.proofs.Common.{◌≡◌, ◌≤◌, inl, inr, ℕ, Bool, true, false, List, [], ◌∷◌, refl, sym, subst, ◌==◌, length, codes, arith, pos, nat_lt, ◌&&◌, if◌then◌else◌, eqb-true, ltb-false}
 use Rattle.clap.specs.Faults.{use_fault, set_fault, repeat_fault, values_fault}
 use Rattle.clap.specs.declared.error.kind.ErrorKind.{ErrorKind}
 use Rattle.clap.specs.declared.error.kind.ErrorKind.TheVariants as kind
-use Rattle.std.proofs.lemmas.Bool.{eqb-true, ltb-false}
 use Rattle.clap.specs.Kinds.{Kinds, or_else, range_kinds, value_kinds, values_kinds}
 use Rattle.clap.specs.Simple.{filled, help_rule, with_index}
 use Rattle.clap.specs.ValueTests.{is_signed_in}

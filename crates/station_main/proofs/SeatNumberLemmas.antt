@@ -6,15 +6,10 @@ use Rattle.std.proofs.lemmas.List.Sums.{sum_by-cons}
 use Rattle.station_report.specs.Sink.{SinkState}
 use native.Mathlib.Decide.{dec_lt}
 use Rattle.station_desk.specs.Start.{Start}
-use Rattle.station_shared.specs.Closing.{EachOnce}
-use Rattle.station_shared.specs.Seats.{Seated, Looks}
+use Rattle.station_shared.proofs.Common.{EachOnce, Seated, Looks}
 use Rattle.station_report.specs.declared.formats.Format.{Format}
 use Rattle.station_report.specs.declared.sinks.WriteFault.{WriteFault}
-use Rattle.station_main.specs.Recorded.{PrintsAndRecords, Recording}
-use Rattle.station_main.specs.Reporter.{IsLater, MayHandOver, ReportsByAClock, Showing, Showings, Ticks, seat_after}
-use Rattle.station_main.specs.Run.{AreNumbered, PrintsLast}
-use Rattle.station_main.specs.declared.duties.Duties.{Duties}
-use Rattle.station_main.specs.declared.schedule.Due.{Due}
+use Rattle.station_main.proofs.Common.{PrintsAndRecords, Recording, IsLater, MayHandOver, ReportsByAClock, Showing, Showings, Ticks, seat_after, AreNumbered, PrintsLast, Duties, Due}
 
 -- ---- the reporter's seat keeps its number
 

@@ -1,13 +1,11 @@
 -- What is printed, one line after another.
-use Rattle.std.proofs.Common.{◌≡◌, ◌∙◌, ◌⊎◌, inl, inr, Bor, ℕ, ◌+◌, ◌<◌, List, [], ◌++◌, Result, length, take, get_or, sym, ap, subst, fold, max}
-use Rattle.std.specs.List.{flat_map}
+use Rattle.std.proofs.Common.{◌≡◌, ◌∙◌, ◌⊎◌, inl, inr, Bor, ℕ, ◌+◌, ◌<◌, List, [], ◌++◌, Result, length, take, get_or, sym, ap, subst, fold, max, flat_map}
 use Rattle.std.proofs.KnownBytes.{Appends-trans}
 use Rattle.std.proofs.lemmas.List.{flat_map_more, take_more}
 use Rattle.std.proofs.lemmas.List.Sums.{fold_more}
 use Rattle.station_lines.specs.declared.pumping.PumpFault.{PumpFault}
 use Rattle.station_lines.specs.declared.tally.Tally.{Tally}
-use Rattle.station_main.specs.Status.{status_of}
-use Rattle.station_main.specs.Telling.{Tells, Told, cannot_record, fault_line, telling_line, pump_lines}
+use Rattle.station_main.proofs.Common.{status_of, Tells, Told, cannot_record, fault_line, telling_line, pump_lines}
 use Rattle.station_main.specs.declared.faults.Fault.{Fault}
 use Rattle.station_main.specs.declared.faults.Fault.TheVariants as fault
 

@@ -1,7 +1,6 @@
 -- What a walk over a command line keeps of the rows, if no use of an argument fails.
-use Rattle.std.proofs.Common.{◌≡◌, ℕ, Bool, true, false, zero, suc, List, [], ◌∷◌, Option, Some, None, refl, ap, length, drop, arith, find, slice_get, encode_utf8, is_some, ◌&&◌, if◌then◌else◌, fold}
+use Rattle.std.proofs.Common.{◌≡◌, ℕ, Bool, true, false, zero, suc, List, [], ◌∷◌, Option, Some, None, refl, ap, length, drop, arith, find, slice_get, encode_utf8, is_some, ◌&&◌, if◌then◌else◌, fold, bytes_eq, chars}
 use Rattle.std.specs.Option.{option_map_or}
-use Rattle.std.specs.Str.{bytes_eq, chars}
 use Rattle.clap.specs.Lexer.{long_of, short_of}
 use Rattle.clap.specs.Kinds.{Kinds, or_else}
 use Rattle.clap.specs.Walk.{Held, Names, Outcome, Row, Rule, Step, Text, Waiting, Walk, after_flag, after_step, arg_by_id, arg_by_index, arg_by_long, arg_by_short, attached_value, bundle, bundle_met, long_met, long_or_other, option_met, plain_word, reacted, settled, settled_rows, short_met, short_or_plain, subcommand_met, subcommand_or_other, takes_several, takes_values, is_pending, to_positional, used, used_by_id, walked, walked_from, word_met, option_word, option, idle, positional, done, waits, plain, refused, next, trailing, subcommand, value, bundle_step, flag_met}

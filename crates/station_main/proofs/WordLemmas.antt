@@ -1,6 +1,5 @@
 -- From what `clap` ensures of its getters to the job.
-use Rattle.std.proofs.Common.{inl, inr, ◌≡◌, ◌∙◌, ℕ, ◌≤◌, ◌<◌, ◌^◌, List, Option, Some, None, IfSome, Result, Ok, Err, Bool, true, false, arith, map, option_map, refl, sym, ap, ap₂, length, codes, is_some, unwrap_or}
-use Rattle.std.specs.Box.{box_value}
+use Rattle.std.proofs.Common.{inl, inr, ◌≡◌, ◌∙◌, ℕ, ◌≤◌, ◌<◌, ◌^◌, List, Option, Some, None, IfSome, Result, Ok, Err, Bool, true, false, arith, map, option_map, refl, sym, ap, ap₂, length, codes, is_some, unwrap_or, box_value}
 use Rattle.clap.specs.declared.parser.matches.ArgMatches.{ArgMatches}
 use Rattle.clap.specs.declared.parser.matches.ArgMatches.TheViews.{out-ArgMatches, out-SubCommand}
 use Rattle.std.proofs.lemmas.List.{length-map}

@@ -2,12 +2,7 @@
 use Rattle.std.proofs.Common.{◌≡◌, ℕ, ◌+◌, ◌-◌, ◌≤◌, inl, inr, List, [], ◌∷◌, ◌++◌, length, take, drop, nat_lt, not, true, refl, sym, ap, ◌∙◌, subst, append_assoc, take-append-drop, length-append, arith}
 use Rattle.std.proofs.lemmas.List.{take_at, drop-drop, drop-take, take-take, append-nil, nil_from_length, take_more}
 use Rattle.std.proofs.lemmas.Bool.Decides.{nat_tests}
-use Rattle.station_portions.specs.Batches.{IsBorder}
-use Rattle.station_portions.specs.Messages.{bytes_of_messages, bytes_of_batch, bytes_before}
-use Rattle.station_portions.specs.declared.message.Batch.{Batch}
-use Rattle.station_portions.specs.declared.message.Message.{Message}
-use Rattle.station_portions.specs.declared.message.PathEnd.{PathEnd}
-use Rattle.station_portions.specs.declared.message.Message.TheVariants.{Lines, Over}
+use Rattle.station_portions.proofs.Common.{IsBorder, bytes_of_messages, bytes_of_batch, bytes_before, Batch, Message, PathEnd, Lines, Over}
 
 -- the next bytes of a batch, copied before others
 pub give_split : (room : List ℕ) (count at n : ℕ) (copied rest : List ℕ) → length copied ≡ n → at + n ≤ count → copied ≡ take n (drop at room)

@@ -1,3 +1,4 @@
+pub mod Common
 pub mod GivingLemmas
 pub mod BacklogLemmas
 pub mod SendingLemmas

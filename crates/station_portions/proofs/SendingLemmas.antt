@@ -1,22 +1,14 @@
 -- The lines of the bytes read and of the bytes sent.
-use Rattle.std.proofs.Common.{◌≡◌, ℕ, ◌<◌, ◌≤◌, nat_le, false, cond, List, [], ◌∷◌, ◌++◌, length, map, take, drop, inl, inr, refl, sym, ap, ◌∙◌, subst, append_assoc, take-append-drop, length-take-le, arith, Option}
-use Rattle.std.proofs.lemmas.List.{append-nil, take_all}
+use Rattle.std.proofs.Common.{◌≡◌, ℕ, ◌<◌, ◌≤◌, nat_le, false, cond, List, [], ◌∷◌, ◌++◌, length, map, take, drop, inl, inr, refl, sym, ap, ◌∙◌, subst, append_assoc, take-append-drop, length-take-le, arith, Option, append-nil, take_all, option_to_list}
 use Rattle.std.proofs.lemmas.Bool.{cases_Bool}
 use Rattle.std.proofs.lemmas.Bool.Decides.{nat_tests}
-use Rattle.std.specs.Option.{option_to_list}
 use Rattle.modes_frame.specs.declared.cutter.Cut.{Cut}
 use Rattle.modes_frame.specs.declared.cutter.Cut.TheVariants.{Whole, TooLong}
 use Rattle.modes_frame.specs.Lines.{pieces, cut_of, cuts, ended_cuts, last_line, pending, cut_after, cut_ended_by}
 use Rattle.modes_frame.proofs.LineLemmas.{none-before, pieces-line_feed, pending-push, ended-push, pending-lengthened_cut, ended-lengthened_cut}
 use Rattle.station_lines.proofs.DrawingLemmas.{cuts-ended}
-use Rattle.station_portions.specs.Batches.{HasNoLineFeed, IsBorder, longest_kept}
+use Rattle.station_portions.proofs.Common.{HasNoLineFeed, IsBorder, longest_kept, bytes_of_messages, bytes_of_batch, ReadsOn, ended_line, KeepsLines, SendsOn, SendsPath, SentSoFar, Batch, Message, Lines, Over}
 use Rattle.std.proofs.KnownBytes.{Consumes-nil, Consumes-trans}
-use Rattle.station_portions.specs.Messages.{bytes_of_messages, bytes_of_batch}
-use Rattle.station_portions.specs.Backlog.{ReadsOn, ended_line}
-use Rattle.station_portions.specs.Sending.{KeepsLines, SendsOn, SendsPath, SentSoFar}
-use Rattle.station_portions.specs.declared.message.Batch.{Batch}
-use Rattle.station_portions.specs.declared.message.Message.{Message}
-use Rattle.station_portions.specs.declared.message.Message.TheVariants.{Lines, Over}
 use Rattle.station_portions.specs.declared.message.PathEnd.TheVariants.{AtEnd, ReadFailed}
 use Rattle.station_portions.proofs.GivingLemmas.{ends_border}
 

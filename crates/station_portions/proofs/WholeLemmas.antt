@@ -1,16 +1,11 @@
 -- All messages of a path.
-use Rattle.std.proofs.Common.{◌≡◌, ℕ, List, [], ◌∷◌, ◌++◌, sym, ap, ◌∙◌, subst, Option, Some, None, IfSome}
-use Rattle.std.proofs.lemmas.List.{append-nil}
+use Rattle.std.proofs.Common.{◌≡◌, ℕ, List, [], ◌∷◌, ◌++◌, sym, ap, ◌∙◌, subst, Option, Some, None, IfSome, append-nil}
 use Rattle.rtrb.specs.Ends.{SameRing}
 use Rattle.rtrb.specs.Ring.{Finishes, SameProducer, sent}
 use Rattle.rtrb.specs.declared.producer.Producer.{Producer}
 use Rattle.rtrb.specs.declared.finished.Finished.{Finished}
-use Rattle.station_portions.specs.Messages.{bytes_of_messages}
-use Rattle.station_portions.specs.Sending.{SendsPath}
+use Rattle.station_portions.proofs.Common.{bytes_of_messages, SendsPath, Message, Over, PathEnd}
 use Rattle.station_portions.specs.Whole.{SendsAll, SendsWhole}
-use Rattle.station_portions.specs.declared.message.Message.{Message}
-use Rattle.station_portions.specs.declared.message.Message.TheVariants.{Over}
-use Rattle.station_portions.specs.declared.message.PathEnd.{PathEnd}
 use Rattle.station_portions.proofs.GivingLemmas.{bytes_of_messages-more}
 use Rattle.station_portions.proofs.SendingLemmas.{bytes_of_messages-append}
 

@@ -1,8 +1,6 @@
 -- Texts with commas between them, taken one at a time.
-use Rattle.std.proofs.Common.{◌≡◌, ℕ, zero, suc, ◌+◌, ◌≤◌, List, [], ◌∷◌, ◌++◌, Some, codes, if◌then◌else◌, sym, refl, ap, ◌∙◌, take, drop, length, append_assoc, append-nil, take-append-drop, add-one, take_all, arith, slice_get, ◌==◌, zip}
-use Rattle.std.specs.List.{flat_map}
+use Rattle.std.proofs.Common.{◌≡◌, ℕ, zero, suc, ◌+◌, ◌≤◌, List, [], ◌∷◌, ◌++◌, Some, codes, if◌then◌else◌, sym, refl, ap, ◌∙◌, take, drop, length, append_assoc, append-nil, take-append-drop, add-one, take_all, arith, slice_get, ◌==◌, zip, flat_map, ne_eqb}
 use Rattle.std.proofs.lemmas.Grind.{flat_map-append}
-use Rattle.std.proofs.lemmas.Bool.{ne_eqb}
 use Rattle.station_report.specs.Json.{with_commas}
 use Rattle.station_report.proofs.RowLemmas.{one_more}
 

@@ -3,11 +3,7 @@ use Rattle.std.proofs.Common.{◌≡◌, ℕ, ◌+◌, ◌<◌, List, [], ◌∷
 use Rattle.std.proofs.lemmas.List.{get_or-map, length-map, map-append, take_more}
 use Rattle.modes_frame.specs.declared.cutter.Cut.{Cut}
 use Rattle.modes_frame.specs.declared.cutter.Cut.TheVariants.{TooLong}
-use Rattle.modes_frame.specs.Lines.{cuts}
-use Rattle.station_lines.specs.Calls.{pump_command}
-use Rattle.station_lines.specs.Drawing.{Draws, Ending, LineStopped, Taken, ending_as, stopped_as}
-use Rattle.station_lines.specs.ParsedLines.{parsed_of}
-use Rattle.station_lines.specs.Source.{SourceState}
+use Rattle.station_lines.proofs.Common.{pump_command, Draws, Ending, Taken, ending_as, stopped_as, parsed_of, SourceState}
 use Rattle.station_lines.specs.declared.parsed_line.ParsedLine.{ParsedLine}
 use Rattle.station_lines.specs.declared.lines.Ended.{Ended}
 use Rattle.station_lines.specs.declared.lines.Ended.TheVariants as Ends

@@ -1,3 +1,4 @@
+pub mod Common
 pub mod KeptLemmas
 pub mod CloseLemmas
 pub mod CountLemmas

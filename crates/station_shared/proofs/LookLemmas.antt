@@ -2,11 +2,9 @@
 use Rattle.std.proofs.Common.{◌≡◌, ℕ, List, ap, ◌∙◌}
 use Rattle.station_journal.specs.declared.entry.Entry.{Entry}
 use Rattle.station_journal.specs.Log.{table_of, placed_of}
-use Rattle.station_book.specs.State.{BookState, rows, placed_rows}
-use Rattle.station_book.specs.Matching.{Matches, Shows}
+use Rattle.station_book.proofs.Common.{BookState, rows, placed_rows, Matches, Shows}
 use Rattle.station_book.proofs.LawLemmas.{shows_from_match}
-use Rattle.station_desk.specs.History.{base_of}
-use Rattle.station_desk.specs.Start.{Start, log_of}
+use Rattle.station_desk.proofs.Common.{base_of, Start, log_of}
 use Rattle.station_shared.specs.Seats.{Seated}
 
 module _ (n : ℕ) (start : Start) (book : BookState) (entries : List Entry) (seen : Seated) (matched : Matches n (base_of start.history) book entries) (is : entries ≡ seen.seen) where

@@ -3,13 +3,9 @@ use Rattle.std.proofs.Common.{◌≡◌, ℕ, ◌+◌, List, [], ◌∷◌, ◌+
 use Rattle.station_journal.specs.declared.entry.Entry.{Entry}
 use Rattle.station_journal.specs.declared.entry.Entry.TheVariants.{Heard}
 use Rattle.station_journal.specs.declared.refusal.Refusal.{Refusal}
-use Rattle.station_lines.specs.Calls.{frames_of}
-use Rattle.station_lines.specs.Feeds.{Feeds}
-use Rattle.station_lines.specs.Pump.{PumpsAll}
-use Rattle.station_lines.specs.Source.{SourceState}
+use Rattle.station_lines.proofs.Common.{frames_of, Feeds, PumpsAll, SourceState}
 use Rattle.station_desk.specs.Start.{Start}
-use Rattle.station_shared.specs.Seats.{Seated}
-use Rattle.station_shared.specs.Workers.{SeatSteps, Within, accepted_frames, heard_by, Fed, Works}
+use Rattle.station_shared.proofs.Common.{Seated, SeatSteps, Within, accepted_frames, heard_by, Fed, Works}
 use Rattle.station_lines.specs.declared.pumping.PumpFault.{PumpFault}
 use Rattle.station_lines.specs.declared.tally.Tally.{Tally}
 use Rattle.station_desk.proofs.CallLemmas.{count_first}

@@ -1,7 +1,6 @@
 use Rattle.std.proofs.Common.{ℤ, w64, FitsSigned, rules, ap, ◌∙◌, arith}
 use Rattle.std.proofs.lemmas.Int.{to_z-of_z}
-use Rattle.modes_cpr.specs.Floor.{floor}
-use Rattle.modes_cpr.specs.Pair.{bins, zone_index}
+use Rattle.modes_cpr.proofs.Common.{floor, bins, zone_index}
 use Rattle.modes_cpr.proofs.BoundLemmas.{apart_is}
 use Rattle.modes_cpr.proofs.decoding.zone_index.Goals as goal
 

@@ -1,5 +1,4 @@
-use Rattle.std.proofs.Common.{ℕ, ◌+◌, ◌*◌, w64, unsigned_abs, refl, ap, ◌∙◌}
-use Rattle.std.specs.Prelude.{nat_le, ◌==◌, count_by}
+use Rattle.std.proofs.Common.{ℕ, ◌+◌, ◌*◌, w64, unsigned_abs, refl, ap, ◌∙◌, nat_le, ◌==◌, count_by}
 use Rattle.std.proofs.lemmas.Int.{to_z-of_z}
 use Rattle.modes_cpr.specs.declared.transitions.TheConstants.{TRANSITIONS}
 use Rattle.modes_cpr.specs.Zones.{zone_count, transitions}

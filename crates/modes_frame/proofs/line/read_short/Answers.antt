@@ -1,8 +1,5 @@
 use Rattle.std.proofs.Common.{ap, sym, ◌∙◌, subst, Result}
-use Rattle.modes_frame.specs.LineRules.{Reads}
-use Rattle.modes_frame.specs.Reading.{line_reading}
-use Rattle.modes_frame.specs.declared.line.Line.{Line}
-use Rattle.modes_frame.specs.declared.line.LineFault.{LineFault}
+use Rattle.modes_frame.proofs.Common.{Reads, line_reading, Line, LineFault}
 use Rattle.modes_frame.proofs.RuleLemmas.{reads-short}
 use Rattle.modes_frame.proofs.line.read_short.Goals as goal
 

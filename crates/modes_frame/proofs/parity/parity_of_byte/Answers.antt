@@ -1,6 +1,5 @@
 use Rattle.std.proofs.Common.{refl, arith}
-use Rattle.modes_frame.specs.Frames.{parity_of, divide, byte_bits}
-use Rattle.modes_frame.specs.declared.parity.TheConstants.{TABLE}
+use Rattle.modes_frame.proofs.Common.{parity_of, divide, byte_bits, TABLE}
 use Rattle.modes_frame.proofs.AllByteLemmas.{all_of_width}
 use Rattle.modes_frame.proofs.ParityLemmas.{table-at}
 use Rattle.modes_frame.proofs.parity.parity_of_byte.Goals as goal

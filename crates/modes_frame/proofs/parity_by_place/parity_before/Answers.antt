@@ -1,6 +1,5 @@
 use Rattle.std.proofs.Common.{◌≡◌, ℕ, ◌<◌, List, ◌∷◌, ap, sym, ◌∙◌, arith, get_or, replicate}
-use Rattle.modes_frame.specs.Frames.{parity_of}
-use Rattle.modes_frame.specs.declared.parity_by_place.TheConstants.{BEFORE_1, BEFORE_2, BEFORE_3, BEFORE_4, BEFORE_5, BEFORE_6, BEFORE_7, BEFORE_8, BEFORE_9, BEFORE_10}
+use Rattle.modes_frame.proofs.Common.{parity_of, BEFORE_1, BEFORE_2, BEFORE_3, BEFORE_4, BEFORE_5, BEFORE_6, BEFORE_7, BEFORE_8, BEFORE_9, BEFORE_10}
 use Rattle.modes_frame.proofs.PlaceLemmas.{IsTable, table-1, table-2, table-3, table-4, table-5, table-6, table-7, table-8, table-9, table-10}
 use Rattle.modes_frame.proofs.parity_by_place.parity_before.Goals as goal
 

@@ -1,6 +1,5 @@
 use Rattle.std.proofs.Common.{◌≡◌, ap, ◌∙◌}
-use Rattle.station_book.specs.State.{BookState}
-use Rattle.station_book.specs.Matching.{book_after}
+use Rattle.station_book.proofs.Common.{BookState, book_after}
 use Rattle.station_desk.specs.Published.{Sheet, sheet_of}
 use Rattle.station_desk.proofs.StartLemmas.{begins}
 use Rattle.station_desk.proofs.publisher.begin.Goals as goal

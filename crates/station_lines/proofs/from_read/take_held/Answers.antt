@@ -1,5 +1,4 @@
-use Rattle.std.proofs.Common.{length, take, drop, ap, ◌∙◌, arith, nat_eq, length-take-le}
-use Rattle.std.proofs.lemmas.List.{take_at}
+use Rattle.std.proofs.Common.{length, take, drop, ap, ◌∙◌, arith, nat_eq, length-take-le, take_at}
 use Rattle.std.specs.Io.Buffered.{reader_buffer, reader_capacity, reader_inner}
 use Rattle.station_lines.proofs.PieceLemmas.{held_first}
 use Rattle.station_lines.proofs.from_read.take_held.Goals as goal

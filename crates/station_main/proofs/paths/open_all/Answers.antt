@@ -1,5 +1,4 @@
-use Rattle.std.proofs.Common.{rules, ◌≡◌, ◌+◌, ◌<◌, ◌∙◌, ◌∷◌, [], ◌++◌, List, ℕ, ap, ap₂, arith, get_or, length, map, sym, Contains}
-use Rattle.std.specs.String.{string_bytes}
+use Rattle.std.proofs.Common.{rules, ◌≡◌, ◌+◌, ◌<◌, ◌∙◌, ◌∷◌, [], ◌++◌, List, ℕ, ap, ap₂, arith, get_or, length, map, sym, Contains, string_bytes}
 use Rattle.std.proofs.lemmas.List.{get_or-map, length-map, length_push, map_more, map_push}
 use Rattle.std.proofs.lemmas.Result.{err_from_is_err_and}
 use Rattle.station_main.specs.Inputs.{path_of}

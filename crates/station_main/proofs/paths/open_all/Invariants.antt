@@ -1,5 +1,4 @@
-use Rattle.std.proofs.Common.{◌≡◌, length, take, map}
-use Rattle.std.specs.String.{string_bytes}
+use Rattle.std.proofs.Common.{◌≡◌, length, take, map, string_bytes}
 use Rattle.station_main.specs.Inputs.{path_of}
 use Rattle.station_main.proofs.paths.open_all.Given as goal
 

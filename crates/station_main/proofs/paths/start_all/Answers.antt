@@ -3,8 +3,7 @@ use Rattle.std.specs.Vec.Iter.{into_iter_items}
 use Rattle.std.proofs.lemmas.List.{length_push}
 use Rattle.std.proofs.lemmas.List.Elements.{All-push}
 use Rattle.station_portions.specs.Giving.{state_of}
-use Rattle.station_main.specs.Inputs.{AreFed, path_of}
-use Rattle.station_main.specs.Rounds.{HasNoLines}
+use Rattle.station_main.proofs.Common.{AreFed, path_of, HasNoLines}
 use Rattle.station_main.proofs.PartLemmas.{no_items, one_more_fed}
 use Rattle.station_main.proofs.paths.start_all.Goals as goal
 

@@ -2,8 +2,7 @@ use Rattle.std.specs.Prelude.{◌≡◌, ◌+◌, ◌++◌, All, List, length, m
 use Rattle.std.specs.Vec.Iter.{into_iter_items}
 use Rattle.station_portions.specs.Giving.{state_of}
 use Rattle.station_lines.specs.Source.{SourceState}
-use Rattle.station_main.specs.Inputs.{AreFed, path_of}
-use Rattle.station_main.specs.Rounds.{HasNoLines}
+use Rattle.station_main.proofs.Common.{AreFed, path_of, HasNoLines}
 use Rattle.station_main.proofs.paths.start_all.Given as goal
 
 -- an input that comes from each file so far, and an answer without lines

@@ -1,9 +1,7 @@
 use Rattle.std.proofs.Common.{inl, inr, List, Option, subst, sym, arith, map, ◌≡◌}
 use Rattle.station_portions.specs.Giving.{state_of}
 use Rattle.station_journal.specs.declared.entry.Entry.{Entry}
-use Rattle.station_main.specs.Recorded.{Recording}
-use Rattle.station_main.specs.Rounds.{IsLastStation, IsRound, KeepsRecent, start_of}
-use Rattle.station_main.specs.Telling.{Tells, fault_line, told_of}
+use Rattle.station_main.proofs.Common.{Recording, IsLastStation, IsRound, KeepsRecent, start_of, Tells, fault_line, told_of}
 use Rattle.station_main.proofs.round.end_round.Goals as goal
 
 pub returns-then-is_last : goal.returns-then-is_last

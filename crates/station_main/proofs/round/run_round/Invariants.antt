@@ -1,12 +1,7 @@
 use Rattle.std.specs.Prelude.{◌≡◌, ◌≤◌, ℕ, List, Option, length, reverse}
 use Rattle.station_journal.specs.Resume.{IsSound}
 use Rattle.station_desk.specs.Start.{Start}
-use Rattle.station_main.specs.Limits.{program_limits}
-use Rattle.station_main.specs.Output.{buffered_of}
-use Rattle.station_main.specs.Recorded.{Recording}
-use Rattle.station_main.specs.Rounds.{RunPlan, RoundStart, IsFirst, IsRound, Stations, begun_of}
-use Rattle.station_main.specs.Run.{Closing}
-use Rattle.station_main.specs.Telling.{Told, told_of}
+use Rattle.station_main.proofs.Common.{program_limits, buffered_of, Recording, RunPlan, RoundStart, IsFirst, IsRound, Stations, begun_of, Closing, Told, told_of}
 use Rattle.station_main.proofs.round.run_round.Given as goal
 
 -- with the stations to come, those so far are the stations of the round

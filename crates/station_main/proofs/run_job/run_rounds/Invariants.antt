@@ -1,10 +1,6 @@
-use Rattle.std.specs.Prelude.{ℕ, ◌-◌, List, Option, map, reverse}
-use Rattle.std.specs.String.{string_bytes}
+use Rattle.std.proofs.Common.{ℕ, ◌-◌, List, Option, map, reverse, string_bytes}
 use Rattle.station_journal.specs.Resume.{IsSound}
-use Rattle.station_main.specs.Limits.{program_limits}
-use Rattle.station_main.specs.Recorded.{Recording}
-use Rattle.station_main.specs.Rounds.{RunPlan, RunsRounds, start_of, no_start}
-use Rattle.station_main.specs.Telling.{Told, told_of}
+use Rattle.station_main.proofs.Common.{program_limits, Recording, RunPlan, RunsRounds, start_of, no_start, Told, told_of}
 use Rattle.station_main.proofs.run_job.run_rounds.Given as goal
 
 -- all rounds leave what the rounds to come leave

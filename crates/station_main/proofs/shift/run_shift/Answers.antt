@@ -2,8 +2,7 @@ use Rattle.std.proofs.Common.{◌≡◌, ◌∙◌, ap, arith, length, map, refl
 use Rattle.std.proofs.lemmas.List.{length-map}
 use Rattle.station_portions.specs.Giving.{state_of}
 use Rattle.station_shared.specs.Seats.{newcomer}
-use Rattle.station_main.specs.Output.{buffered_of}
-use Rattle.station_main.specs.Rounds.{Begun, IsServedBy, begun_of}
+use Rattle.station_main.proofs.Common.{buffered_of, Begun, IsServedBy, begun_of}
 use Rattle.station_main.proofs.ReceiverLemmas.{all_answered, answers_of, hand_over_reports, are_numbered, have_pumped, reports_from}
 use Rattle.station_main.proofs.SeatNumberLemmas.{reporter_numbered}
 use Rattle.station_main.proofs.shift.run_shift.Goals as goal

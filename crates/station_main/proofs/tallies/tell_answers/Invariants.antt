@@ -1,7 +1,5 @@
-use Rattle.std.specs.Prelude.{◌≡◌, ◌≤◌, fold, max, take}
-use Rattle.std.specs.List.{flat_map}
-use Rattle.station_main.specs.Status.{status_of}
-use Rattle.station_main.specs.Telling.{Tells, pump_lines, told_of}
+use Rattle.std.proofs.Common.{◌≡◌, ◌≤◌, fold, max, take, flat_map}
+use Rattle.station_main.proofs.Common.{status_of, Tells, pump_lines, told_of}
 use Rattle.station_main.proofs.tallies.tell_answers.Given as goal
 
 abbrev pub invariant-loop-answer : goal.invariant-loop-answer

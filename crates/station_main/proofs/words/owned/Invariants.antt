@@ -1,5 +1,4 @@
-use Rattle.std.proofs.Common.{◌≡◌, ℕ, List, Bor, map, take}
-use Rattle.std.specs.String.{string_bytes}
+use Rattle.std.proofs.Common.{◌≡◌, ℕ, List, Bor, map, take, string_bytes}
 use Rattle.station_main.proofs.words.owned.Given as goal
 
 abbrev pub invariant-loop-text : goal.invariant-loop-text

@@ -1,5 +1,4 @@
-use Rattle.std.proofs.Common.{◌+◌, drop, [], ◌++◌, sym, ap, ◌∙◌, length, take, append_assoc, append-nil}
-use Rattle.std.specs.List.{flat_map}
+use Rattle.std.proofs.Common.{◌+◌, drop, [], ◌++◌, sym, ap, ◌∙◌, length, take, append_assoc, append-nil, flat_map}
 use Rattle.station_report.specs.Text.{IsPrintableRow, first_line, header, row_text}
 use Rattle.station_report.proofs.RowLemmas.{one_more, and_the_rest, All_at}
 use Rattle.station_report.proofs.TakenLemmas.{Took-nil, Took-then, TakesAll-fails}

@@ -1,5 +1,4 @@
-use Rattle.std.proofs.Common.{◌++◌, take, length}
-use Rattle.std.specs.List.{flat_map}
+use Rattle.std.proofs.Common.{◌++◌, take, length, flat_map}
 use Rattle.station_report.specs.Text.{first_line, header, row_text}
 use Rattle.station_report.proofs.TakenLemmas.{Took}
 use Rattle.station_report.proofs.lines.table.Given as goal

@@ -1,6 +1,5 @@
-use Rattle.std.proofs.Common.{◌≡◌, ◌<◌, List, take, take_all, arith, refl, sym, ◌∙◌, subst}
+use Rattle.std.proofs.Common.{◌≡◌, ◌<◌, List, take, take_all, arith, refl, sym, ◌∙◌, subst, below_more}
 use Rattle.std.specs.List.{AllByRecursion}
-use borrow.Author.Count.{below_more}
 use Rattle.station_shared.specs.Seats.{Seated}
 use Rattle.station_shared.proofs.close.each_once.Goals as goal
 

@@ -3,12 +3,9 @@ use Rattle.std.proofs.lemmas.List.{length-map}
 use Rattle.std.proofs.lemmas.Result.{err_from_is_err_and}
 use Rattle.modes_frame.specs.declared.cutter.Cut.{Cut}
 use Rattle.modes_frame.specs.declared.cutter.Cut.TheVariants.{TooLong}
-use Rattle.station_lines.specs.Calls.{pump_command}
-use Rattle.station_lines.specs.ParsedLines.{parsed_of}
-use Rattle.station_lines.specs.Pump.{Pumps}
+use Rattle.station_lines.proofs.Common.{pump_command, parsed_of, Pumps, Pumps-then}
 use Rattle.station_shared.specs.Workers.{SeatSteps}
 use Rattle.station_shared.proofs.KeptLemmas.{parsed_line, line_more}
-use Rattle.station_lines.specs.PumpLaws.{Pumps-then}
 use Rattle.station_shared.proofs.held_lines.take_parsed.Goals as goal
 
 pub returns-in_err-take_line-clause-taken : goal.returns-in_err-take_line-clause-taken

@@ -1,9 +1,8 @@
 use Rattle.std.proofs.Common.{◌≡◌, ◌+◌, ◌≤◌, List, take, Ok}
 use mathlib.Core.List.{IsPrefix}
 use Rattle.modes_frame.specs.declared.cutter.Cut.{Cut}
-use Rattle.station_shared.specs.KeptLines.{parsed_all}
+use Rattle.station_shared.proofs.Common.{parsed_all, SeatSteps}
 use Rattle.station_lines.specs.Pump.{Pumps}
-use Rattle.station_shared.specs.Workers.{SeatSteps}
 use Rattle.station_shared.proofs.held_lines.take_parsed.Given as goal
 
 -- the lines so far were taken, and what the seat has seen is a prefix of the journal

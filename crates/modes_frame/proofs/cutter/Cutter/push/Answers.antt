@@ -1,5 +1,4 @@
-use Rattle.std.proofs.Common.{◌++◌, ap, sym, ◌∙◌}
-use Rattle.std.specs.Option.{option_to_list}
+use Rattle.std.proofs.Common.{◌++◌, ap, sym, ◌∙◌, option_to_list}
 use Rattle.modes_frame.specs.Lines.{cut_after, cut_ended_by, ended_cuts}
 use Rattle.modes_frame.proofs.LineLemmas.{pending-push, ended-push}
 use Rattle.modes_frame.proofs.cutter.Cutter.push.Goals as goal

@@ -1,5 +1,4 @@
-use Rattle.std.proofs.Common.{◌≡◌, ◌++◌, take, ap, sym, ◌∙◌, append-nil}
-use Rattle.std.specs.Option.{option_to_list}
+use Rattle.std.proofs.Common.{◌≡◌, ◌++◌, take, ap, sym, ◌∙◌, append-nil, option_to_list}
 use Rattle.modes_frame.specs.Lines.{pending, ended_cuts}
 use Rattle.modes_frame.proofs.LineLemmas.{held-before, ended-before, to-line_feed}
 use Rattle.modes_frame.proofs.cutter.Cutter.push_line.Goals as goal

@@ -1,8 +1,6 @@
 use Rattle.std.proofs.Common.{◌≡◌, ℕ, false, take, ap, sym, subst, ◌∙◌, arith}
 use Rattle.std.proofs.lemmas.Grind.{common_steps}
-use Rattle.station_book.specs.Call.{call_of}
-use Rattle.station_book.specs.Matching.{Matches, book_after}
-use Rattle.station_book.specs.State.{BookState, fits}
+use Rattle.station_book.proofs.Common.{call_of, Matches, book_after, BookState, fits}
 use Rattle.station_book.proofs.FillLemmas.{count_is, out_of_place}
 use Rattle.station_book.proofs.book.Book.take_all.Goals as goal
 

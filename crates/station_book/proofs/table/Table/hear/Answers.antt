@@ -1,6 +1,5 @@
-use Rattle.std.proofs.Common.{◌≡◌, ◌≤◌, Ok, Err, refl, ap, sym, ◌∙◌, set, get_or, length, arith}
+use Rattle.std.proofs.Common.{◌≡◌, ◌≤◌, Ok, Err, refl, ap, sym, ◌∙◌, set, get_or, length, arith, length-set}
 use Rattle.std.specs.List.{insert, refill}
-use Rattle.std.proofs.Math.ListN.{length-set}
 use Rattle.modes_fields.specs.Carried.{fields_of}
 use Rattle.station_book.specs.Tracks.{blank, updated_track, StandsAt}
 use Rattle.station_book.proofs.TrackLemmas.{rising_put}

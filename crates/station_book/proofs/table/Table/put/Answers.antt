@@ -1,6 +1,5 @@
-use Rattle.std.proofs.Common.{◌≡◌, ◌≤◌, Ok, Err, refl, ap, sym, ◌∙◌, set, length, arith}
+use Rattle.std.proofs.Common.{◌≡◌, ◌≤◌, Ok, Err, refl, ap, sym, ◌∙◌, set, length, arith, length-set}
 use Rattle.std.specs.List.{insert, refill}
-use Rattle.std.proofs.Math.ListN.{length-set}
 use Rattle.station_book.specs.Tracks.{StandsAt}
 use Rattle.station_book.proofs.TrackLemmas.{rising_put}
 use Rattle.station_book.proofs.RankLemmas.{refill_same, map_set, map_insert, stands_there, copy_there}

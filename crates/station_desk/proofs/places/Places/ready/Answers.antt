@@ -3,10 +3,7 @@ use Rattle.std.specs.List.{AllByRecursion}
 use Rattle.left_right.specs.Sides.{view}
 use Rattle.station_journal.specs.Follow.{IsFirstUnsound}
 use Rattle.station_book.specs.Matching.{Matches}
-use Rattle.station_desk.specs.History.{base_of}
-use Rattle.station_desk.specs.Start.{Start}
-use Rattle.station_desk.specs.Published.{IsOf, Prepared}
-use Rattle.station_desk.specs.declared.published.Mark.{Mark}
+use Rattle.station_desk.proofs.Common.{base_of, Start, IsOf, Prepared, Mark}
 use Rattle.station_desk.proofs.RoomLemmas.{copy_fits}
 use Rattle.station_desk.proofs.StartLemmas.{sound_at, unsound_at}
 use Rattle.station_desk.proofs.places.Places.ready.Goals as goal

@@ -1,7 +1,6 @@
 use Rattle.std.proofs.Common.{map, refl, subst, sym, ◌∙◌}
 use Rattle.station_portions.specs.Giving.{state_of}
-use Rattle.station_main.specs.Run.{Closing}
-use Rattle.station_main.specs.Sums.{AddsAll}
+use Rattle.station_main.proofs.Common.{Closing, AddsAll}
 use Rattle.station_main.proofs.ReceiverLemmas.{serves_by}
 use Rattle.station_main.proofs.SeatNumberLemmas.{last_numbered}
 use Rattle.station_main.proofs.RunJobLemmas.{leaves}

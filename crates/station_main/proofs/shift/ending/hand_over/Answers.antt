@@ -1,9 +1,6 @@
 use Rattle.std.proofs.Common.{◌∙◌, ℕ, ap, length, map, subst, sym}
 use Rattle.station_portions.specs.Giving.{state_of}
-use Rattle.station_main.specs.Reporter.{not_before}
-use Rattle.station_main.specs.Run.{Closing}
-use Rattle.station_main.specs.Sums.{AddsAll}
-use Rattle.station_main.specs.declared.duties.Duties.{Duties}
+use Rattle.station_main.proofs.Common.{not_before, Closing, AddsAll, Duties}
 use Rattle.station_main.proofs.ReceiverLemmas.{reports_by, serves_by}
 use Rattle.station_main.proofs.shift.ending.hand_over.Goals as goal
 

@@ -1,8 +1,6 @@
-use Rattle.std.proofs.Common.{ap, length, ◌∙◌, arith}
-use Rattle.std.proofs.lemmas.List.{length-take}
+use Rattle.std.proofs.Common.{ap, length, ◌∙◌, arith, length-take}
 use Rattle.rtrb.specs.Ring.{sent}
-use Rattle.station_portions.specs.Batches.{longest_kept}
-use Rattle.station_portions.specs.Backlog.{unsent_bytes}
+use Rattle.station_portions.proofs.Common.{longest_kept, unsent_bytes}
 use Rattle.station_portions.proofs.SendingLemmas.{sends_shorter, none_shorter}
 use Rattle.station_portions.proofs.path_reader.PathReader.send_lines.Goals as goal
 

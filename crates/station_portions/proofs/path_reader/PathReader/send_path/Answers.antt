@@ -1,7 +1,6 @@
 use Rattle.std.proofs.Common.{subst}
 use Rattle.rtrb.specs.Ring.{sent}
-use Rattle.station_portions.specs.Backlog.{unsent_bytes}
-use Rattle.station_portions.specs.Sending.{SendsOn}
+use Rattle.station_portions.proofs.Common.{unsent_bytes, SendsOn}
 use Rattle.station_portions.proofs.SendingLemmas.{path_sent, sent_up_to_failure}
 use Rattle.station_portions.proofs.path_reader.PathReader.send_path.Goals as goal
 

@@ -1,8 +1,6 @@
 use Rattle.std.proofs.Common.{◌≤◌, length}
 use Rattle.rtrb.specs.Ring.{SameProducer, sent}
-use Rattle.station_portions.specs.Batches.{HasNoLineFeed, longest_kept}
-use Rattle.station_portions.specs.Backlog.{unsent_bytes}
-use Rattle.station_portions.specs.Sending.{SentSoFar}
+use Rattle.station_portions.proofs.Common.{HasNoLineFeed, longest_kept, unsent_bytes, SentSoFar}
 use Rattle.station_portions.proofs.path_reader.PathReader.send_up_to_end.Given as goal
 
 abbrev pub invariant-loop : goal.invariant-loop

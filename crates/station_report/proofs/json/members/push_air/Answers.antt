@@ -1,5 +1,4 @@
-use Rattle.std.proofs.Common.{◌≡◌, ◌*◌, ◌/◌, ap, rules}
-use Rattle.std.specs.Fmt.{decimal}
+use Rattle.std.proofs.Common.{◌≡◌, ◌*◌, ◌/◌, ap, rules, decimal}
 use Rattle.station_report.specs.Json.{air, tenths}
 use Rattle.station_report.proofs.MemberLemmas.{two_members, then_text}
 use Rattle.station_report.proofs.json.members.push_air.Goals as goal

@@ -1,5 +1,4 @@
-use Rattle.std.proofs.Common.{◌≡◌, ◌/◌, ◌++◌, refl, ap, ◌∙◌, append_assoc, codes, w16}
-use Rattle.std.specs.Fmt.{decimal}
+use Rattle.std.proofs.Common.{◌≡◌, ◌/◌, ◌++◌, refl, ap, ◌∙◌, append_assoc, codes, w16, decimal}
 use Rattle.std.proofs.lemmas.Int.{to_z-of_z}
 use Rattle.station_report.specs.Motion.{speed_tenths, track}
 use Rattle.station_report.specs.Json.{ground, tenths, if_known, track_member}

@@ -5,10 +5,8 @@ use Rattle.std.proofs.lemmas.List.Sums.{sum_by-cons}
 use mathlib.Core.List.{IsPrefix}
 use Rattle.station_journal.specs.declared.entry.Entry.{Entry}
 use Rattle.station_journal.specs.Log.{Log, IsLegal}
-use Rattle.station_shared.specs.Closing.{Backed, Closes}
-use Rattle.station_desk.specs.Desk.{PublishedState}
-use Rattle.station_desk.specs.Start.{log_of}
-use Rattle.station_shared.specs.Seats.{Seated, Account, account_of, count_of_seat, own_entries}
+use Rattle.station_shared.proofs.Common.{Backed, Closes, Seated, Account, account_of, count_of_seat, own_entries}
+use Rattle.station_desk.proofs.Common.{PublishedState, log_of}
 use Rattle.station_shared.proofs.CountLemmas.{count_own}
 use Rattle.station_shared.proofs.CloseLemmas.{closes}
 use Rattle.station_shared.proofs.counted_desk.CountedDesk.close.Goals as goal

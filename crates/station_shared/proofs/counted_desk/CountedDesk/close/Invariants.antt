@@ -1,7 +1,6 @@
 use Rattle.std.specs.Prelude.{◌≡◌, ◌++◌, List, length, sum_by, vec_len}
 use Rattle.std.specs.List.{AllByRecursion}
-use Rattle.station_shared.specs.Closing.{Backed}
-use Rattle.station_shared.specs.Seats.{Seated}
+use Rattle.station_shared.proofs.Common.{Backed, Seated}
 use Rattle.station_shared.proofs.counted_desk.CountedDesk.close.Given as goal
 
 abbrev pub invariant-loop-seat : goal.invariant-loop-seat

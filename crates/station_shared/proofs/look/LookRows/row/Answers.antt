@@ -1,5 +1,4 @@
-use Rattle.std.proofs.Common.{ap, sym, ◌∙◌, length, arith}
-use Rattle.std.specs.List.{slice_get}
+use Rattle.std.proofs.Common.{ap, sym, ◌∙◌, length, arith, slice_get}
 use Rattle.station_book.specs.State.{rows}
 use Rattle.station_shared.specs.Seats.{Seated}
 use Rattle.station_shared.proofs.LookLemmas.{table_looked}
