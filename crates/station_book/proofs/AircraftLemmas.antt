@@ -1,7 +1,7 @@
 -- One aircraft: its track shows what a search finds, before and after each entry.
-use Rattle.std.proofs.Common.{◌≡◌, ℕ, ◌-◌, ◌<◌, Bool, true, false, List, ◌∷◌, Option, Some, None, refl, ap, ◌∙◌, arith, nat_le, unwrap_or}
+use Rattle.std.proofs.Common.{◌≡◌, ℕ, ◌-◌, ◌<◌, Bool, true, false, List, ◌∷◌, Option, Some, None, refl, ap, ◌∙◌, arith, nat_le, if◌then◌else◌, unwrap_or}
 use Rattle.std.proofs.lemmas.Bool.Decides.{nat_tests}
-use Rattle.station_journal.proofs.Common.{Frame, clock, speaks_for, live, stamp, or_older, newest, newest_fix, fix_by, partner, pair_with, place_of, sighting_of, callsign_of, even_place_of, odd_place_of, altitude_of, squawk_of, velocity_of, vertical_of, IsTimed}
+use Rattle.station_journal.proofs.Common.{Frame, clock, fix_from, fresh, pair_ms, speaks_for, live, stamp, or_older, newest, newest_fix, fix_by, partner, pair_with, place_of, sighting_of, callsign_of, even_place_of, odd_place_of, altitude_of, squawk_of, velocity_of, vertical_of, IsTimed}
 use Rattle.modes_fields.specs.declared.place.Place.{Place}
 use Rattle.modes_fields.specs.Carried.{fields_of}
 use Rattle.station_journal.specs.declared.entry.Entry.{Entry}
@@ -9,7 +9,7 @@ use Rattle.station_journal.specs.declared.entry.Entry.TheVariants.{Tick, Heard}
 use Rattle.station_journal.proofs.FreshLemmas.{fresh_none_below, agree_later, agree_newer, agree_none}
 use Rattle.station_journal.proofs.RecentSoundLemmas.{old_later}
 use Rattle.station_journal.proofs.SearchLemmas.{newest_old, newest_fix_old, heard_by_newest}
-use Rattle.station_book.proofs.Common.{Track, blank, kept_partner, kept_fix, updated_track, AgreeFrom, Tracks, TracksAt}
+use Rattle.station_book.proofs.Common.{Track, blank, updated_track, AgreeFrom, Tracks, TracksAt}
 
 -- the values of a track show what a search finds, now and later
 pub record Serves (base : ℕ) (past : List Entry) (a : ℕ) (track : Track) : Type 0 where
@@ -49,11 +49,11 @@ module _ (base a : ℕ) (past : List Entry) where
   }
 
   -- the kept places give the position that the search finds
-  same_partner : (track : Track) → Serves base past a track → (odd : Bool) → kept_partner (clock base past) track odd ≡ partner odd base a past
+  same_partner : (track : Track) → Serves base past a track → (odd : Bool) → (if odd then fresh pair_ms (clock base past) track.even else fresh pair_ms (clock base past) track.odd) ≡ partner odd base a past
   same_partner track serves true = serves.even (clock base past) (omega arith)
   same_partner track serves false = serves.odd (clock base past) (omega arith)
 
-  same_fix : (track : Track) → Serves base past a track → (place : Option Place) → kept_fix (clock base past) track place ≡ fix_by base a past place
+  same_fix : (track : Track) → Serves base past a track → (place : Option Place) → fix_from (clock base past) track.even track.odd place ≡ fix_by base a past place
   same_fix track serves None = refl
   same_fix track serves (Some place) = ap (pair_with place) (same_partner track serves place.odd)
 

@@ -1,13 +1,13 @@
 -- What a book keeps of an aircraft, and of all live aircraft by rising address.
 use Rattle.std.specs.Prelude.{◌≡◌, ℕ, ◌-◌, ◌<◌, Bool, true, false, ◌==◌, nat_le, nat_lt, if◌then◌else◌, List, [], ◌∷◌, Option, Some, None, Result, Ok, Err, unwrap_or, is_some, filter, length, slice_index_or, ◌≤◌, slice_get, insert, slice_set}
 use Rattle.modes_fields.specs.declared.place.Place.{Place}
-use Rattle.modes_cpr.specs.declared.points.Position.{Position}
 use Rattle.modes_fields.specs.declared.fields.Fields.{Fields}
 use Rattle.modes_fields.specs.Carried.{fields_of}
 use Rattle.modes_frame.specs.declared.claims.Claim.{Claim}
 use Rattle.modes_frame.specs.declared.claims.CheckFault.{CheckFault}
 use Rattle.station_journal.specs.declared.aircraft.Aircraft.{Aircraft}
-use Rattle.station_journal.specs.Past.{Frame, stamp, or_older, fresh, fresh_moment, with_parity, pair_with, life_ms, pair_ms}
+use Rattle.station_journal.specs.Past.{Frame, stamp, or_older, fresh, fresh_moment, with_parity, life_ms}
+use Rattle.station_journal.specs.Found.{fix_from}
 use Rattle.station_book.specs.declared.tracks.Track.{Track}
 
 -- the track of an aircraft of which nothing is known yet
@@ -25,21 +25,12 @@ blank a = record {
   position = None;
 }
 
--- the kept place of the other parity, if it is at most 10,000 ms old
-abbrev pub kept_partner : ℕ → Track → Bool → Option Place
-kept_partner now track odd = if odd then fresh pair_ms now track.even else fresh pair_ms now track.odd
-
--- the position that a place gives with the kept place of the other parity
-abbrev pub kept_fix : ℕ → Track → Option Place → Option Position
-kept_fix now track None = None
-kept_fix now track (Some place) = pair_with place (kept_partner now track place.odd)
-
 -- the track with a place heard at the time now, and the position that it gives
 abbrev pub with_place : ℕ → Place → Track → Track
 with_place now place track = record track {
   even = or_older (stamp now (with_parity false (Some place))) track.even;
   odd = or_older (stamp now (with_parity true (Some place))) track.odd;
-  position = or_older (stamp now (kept_fix now track (Some place))) track.position;
+  position = or_older (stamp now (fix_from now track.even track.odd (Some place))) track.position;
 }
 
 -- the track after a frame with these fields, heard at the time now
@@ -54,7 +45,7 @@ updated_track now fields track = record {
   vertical = or_older (stamp now fields.vertical) track.vertical;
   even = or_older (stamp now (with_parity false fields.place)) track.even;
   odd = or_older (stamp now (with_parity true fields.place)) track.odd;
-  position = or_older (stamp now (kept_fix now track fields.place)) track.position;
+  position = or_older (stamp now (fix_from now track.even track.odd fields.place)) track.position;
 }
 
 -- the row that a track shows at the time now

@@ -4,14 +4,14 @@ ghost use Rattle.std.specs.Prelude.{◌≡◌};
 ghost use Rattle.modes_fields.specs.Carried.{fields_of};
 ghost use Rattle.modes_fields.specs.Kinds.{fields_by};
 ghost use Rattle.station_journal.specs.Past.{stamp, or_older};
-ghost use Rattle.station_book.specs.Tracks.{blank, kept_fix, with_place, updated_track, track_row, track_placed};
+ghost use Rattle.station_book.specs.Tracks.{blank, with_place, updated_track, track_row, track_placed};
 
 use modes_cpr::Position;
 use modes_fields::readers::carried;
 use modes_fields::{Callsign, Carried, Place, Squawk, Velocity};
 use modes_frame::Frame;
-use station_journal::aging::{fresh, fresh_moment, or_older, pair_with, stamp, with_parity};
-use station_journal::{Aircraft, LIFE_MS, PAIR_MS, Stamped};
+use station_journal::aging::{fix_from, fresh, fresh_moment, or_older, stamp, with_parity};
+use station_journal::{Aircraft, LIFE_MS, Stamped};
 
 /// What a book keeps of an aircraft: the newest value of each field, the newest even and odd places, and the newest
 /// position.
@@ -48,22 +48,6 @@ pub fn blank(address: u32) -> Track
     }
 }
 
-// The position that the place gives with the kept one of the other parity, if that is at most 10,000 ms older.
-fn kept_fix(now: u64, track: &Track, place: Option<Place>) -> Option<Position>
-    ensures { result ≡ kept_fix now track.now place }
-{
-    match place {
-        Some(place) => {
-            if place.odd {
-                pair_with(place, fresh(PAIR_MS, now, track.even))
-            } else {
-                pair_with(place, fresh(PAIR_MS, now, track.odd))
-            }
-        }
-        None => None,
-    }
-}
-
 // Keeps the value with its time, if there is one.
 fn keep<T: Copy>(kept: &mut Option<Stamped<T>>, at: u64, value: Option<T>)
     ensures { kept.new ≡ or_older (stamp at value) kept.old }
@@ -78,7 +62,7 @@ fn keep<T: Copy>(kept: &mut Option<Stamped<T>>, at: u64, value: Option<T>)
 fn keep_place(track: &mut Track, now: u64, place: Place)
     ensures { track.new ≡ with_place now place track.old }
 {
-    let position = kept_fix(now, track, Some(place));
+    let position = fix_from(now, track.even, track.odd, Some(place));
     keep(&mut track.even, now, with_parity(false, Some(place)));
     keep(&mut track.odd, now, with_parity(true, Some(place)));
     keep(&mut track.position, now, position);

@@ -2,8 +2,9 @@
 
 ghost use Rattle.std.specs.Prelude.{◌≡◌};
 ghost use Rattle.station_journal.specs.Past.{stamp, fresh, fresh_moment, or_older, with_parity, pair_with};
+ghost use Rattle.station_journal.specs.Found.{fix_from};
 
-use crate::Stamped;
+use crate::{PAIR_MS, Stamped};
 use modes_cpr::{Position, pair};
 use modes_fields::Place;
 
@@ -73,6 +74,28 @@ pub fn pair_with(place: Place, other: Option<Place>) -> Option<Position>
                 pair(other, place, true)
             } else {
                 pair(place, other, false)
+            }
+        }
+        None => None,
+    }
+}
+
+/// The position that a place gives with the newest one of the other parity, if that is at most 10,000 ms older than `now`.
+#[inline(always)]
+pub fn fix_from(
+    now: u64,
+    even: Option<Stamped<Place>>,
+    odd: Option<Stamped<Place>>,
+    place: Option<Place>,
+) -> Option<Position>
+    ensures { result ≡ fix_from now even odd place }
+{
+    match place {
+        Some(place) => {
+            if place.odd {
+                pair_with(place, fresh(PAIR_MS, now, even))
+            } else {
+                pair_with(place, fresh(PAIR_MS, now, odd))
             }
         }
         None => None,
