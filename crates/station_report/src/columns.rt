@@ -4,9 +4,11 @@ ghost use Rattle.std.specs.Prelude.{◌≡◌, ◌+◌, ◌-◌, ◌*◌, ◌/�
 ghost use Rattle.std.specs.Fmt.{decimal, signed_decimal};
 ghost use Rattle.arrayvec.specs.ArrayVec.{array_vec_len};
 ghost use Rattle.modes_cpr.specs.Pair.{IsWhole};
-ghost use Rattle.station_report.specs.Text.{or_dash, hex_digit, address_text, callsign_text, squawk_text, velocity_text, latitude_text, longitude_text, degrees_text, degrees_sign, parts_text};
+ghost use Rattle.station_report.specs.Text.{or_dash, left, hex_digit, address_text, callsign_text, squawk_text, velocity_text, latitude_text, longitude_text, degrees_text, degrees_sign, parts_text};
 
-use crate::decimals::{Field, push_five_digits, push_number, push_short, push_signed};
+use crate::decimals::{
+    Field, push_five_digits, push_number, push_short, push_signed, push_spaces, push_text,
+};
 use arrayvec::ArrayVec;
 use modes_cpr::{Degrees, Position};
 use modes_fields::{Callsign, Squawk, Velocity};
@@ -37,17 +39,17 @@ pub(crate) fn address_field(address: u32) -> Field
     field
 }
 
-/// A callsign, or a dash.
+/// A callsign, or a dash, with spaces after it up to eight bytes.
 pub(crate) fn callsign_field(callsign: Option<Callsign>) -> Field
-    ensures { result.items ≡ or_dash callsign_text callsign }
+    ensures { result.items ≡ left 8 (or_dash callsign_text callsign) }
 {
     let mut field = Field::new();
     match callsign {
         None => field.push(b'-'),
-        Some(callsign) => {
-            let _fits = field.try_extend_from_slice(callsign.bytes());
-        }
+        Some(callsign) => push_text(&mut field, callsign.bytes()),
     }
+    let count = 8usize.saturating_sub(field.len());
+    push_spaces(&mut field, count);
     field
 }
 

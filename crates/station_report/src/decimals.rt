@@ -1,6 +1,6 @@
 //! Numbers as text, appended to a text of fixed size.
 
-ghost use Rattle.std.specs.Prelude.{◌≡◌, ◌+◌, ◌≤◌, ◌++◌, length};
+ghost use Rattle.std.specs.Prelude.{◌≡◌, ◌+◌, ◌≤◌, ◌++◌, length, replicate};
 ghost use Rattle.std.specs.Fmt.{decimal, signed_decimal};
 ghost use Rattle.arrayvec.specs.ArrayVec.{array_vec_len};
 ghost use Rattle.station_report.specs.Text.{five_digits};
@@ -18,6 +18,16 @@ pub(crate) fn push_text<const CAP: usize>(to: &mut ArrayVec<u8, CAP>, text: &[u8
     ensures len { array_vec_len to.new ≡ array_vec_len to.old + length text.now }
 {
     let _fits = to.try_extend_from_slice(text);
+}
+
+/// Appends spaces that there is room for.
+pub(crate) fn push_spaces<const CAP: usize>(to: &mut ArrayVec<u8, CAP>, count: usize)
+    requires { array_vec_len to.old + count ≤ CAP }
+    ensures { to.new.items ≡ to.old.items ++ replicate count 32 }
+{
+    for _ in 0..count {
+        to.push(b' ');
+    }
 }
 
 /// Appends a number in decimal: at most 20 digits.

@@ -1,15 +1,15 @@
 //! The lines of the table.
 
-ghost use Rattle.std.specs.Prelude.{◌≡◌, ◌+◌, ◌≤◌, ◌++◌, ◌∷◌, [], All, replicate};
+ghost use Rattle.std.specs.Prelude.{◌≡◌, ◌+◌, ◌≤◌, ◌++◌, ◌∷◌, [], All};
 ghost use Rattle.arrayvec.specs.ArrayVec.{array_vec_len};
 ghost use Rattle.station_report.specs.Sink.{TakesAll};
-ghost use Rattle.station_report.specs.Text.{IsPrintableRow, right, left, header, first_line, row_text, text};
+ghost use Rattle.station_report.specs.Text.{IsPrintableRow, right, header, first_line, row_text, text};
 
 use crate::columns::{
     address_field, callsign_field, decimal_field, latitude_field, longitude_field, signed_field,
     squawk_field, velocity_field,
 };
-use crate::decimals::{Field, push_number, push_text};
+use crate::decimals::{Field, push_number, push_spaces, push_text};
 use crate::sinks::{Sink, WriteFault, write_all};
 use arrayvec::ArrayVec;
 use station_journal::{Aircraft, Rows};
@@ -54,30 +54,21 @@ fn row_line(now: u64, aircraft: Aircraft) -> Line
     ensures { result.items ≡ row_text now aircraft }
 {
     let mut line = Line::new();
-    push_right(&mut line, 6, &address_field(aircraft.address), b' ');
-    push_left(&mut line, 8, &callsign_field(aircraft.callsign), b' ');
-    push_right(&mut line, 6, &signed_field(aircraft.altitude), b' ');
-    push_right(&mut line, 4, &squawk_field(aircraft.squawk), b' ');
-    push_right(&mut line, 12, &velocity_field(aircraft.velocity), b' ');
-    push_right(&mut line, 6, &signed_field(aircraft.vertical), b' ');
-    push_right(&mut line, 10, &latitude_field(aircraft.position), b' ');
-    push_right(&mut line, 10, &longitude_field(aircraft.position), b' ');
+    push_column(&mut line, 6, &address_field(aircraft.address), b' ');
+    push_column(&mut line, 8, &callsign_field(aircraft.callsign), b' ');
+    push_column(&mut line, 6, &signed_field(aircraft.altitude), b' ');
+    push_column(&mut line, 4, &squawk_field(aircraft.squawk), b' ');
+    push_column(&mut line, 12, &velocity_field(aircraft.velocity), b' ');
+    push_column(&mut line, 6, &signed_field(aircraft.vertical), b' ');
+    push_column(&mut line, 10, &latitude_field(aircraft.position), b' ');
+    push_column(&mut line, 10, &longitude_field(aircraft.position), b' ');
     let age = (now - aircraft.heard) / 1000;
-    push_right(&mut line, 3, &decimal_field(age), b'\n');
+    push_column(&mut line, 3, &decimal_field(age), b'\n');
     line
 }
 
-fn push_spaces(line: &mut Line, count: usize)
-    requires { array_vec_len line.old + count ≤ 320 }
-    ensures { line.new.items ≡ line.old.items ++ replicate count 32 }
-{
-    for _ in 0..count {
-        line.push(b' ');
-    }
-}
-
 // Appends a field with spaces before it up to the width, and the byte that ends its column.
-fn push_right(line: &mut Line, width: usize, field: &Field, end: u8)
+fn push_column(line: &mut Line, width: usize, field: &Field, end: u8)
     requires width { width ≤ 32 }
     requires room { array_vec_len line.old + 33 ≤ 320 }
     ensures items { line.new.items ≡ line.old.items ++ (right width field.now.items ++ end ∷ []) }
@@ -85,17 +76,5 @@ fn push_right(line: &mut Line, width: usize, field: &Field, end: u8)
 {
     push_spaces(line, width.saturating_sub(field.len()));
     push_text(line, field.as_slice());
-    line.push(end);
-}
-
-// The same, with the spaces after the field.
-fn push_left(line: &mut Line, width: usize, field: &Field, end: u8)
-    requires width { width ≤ 32 }
-    requires room { array_vec_len line.old + 33 ≤ 320 }
-    ensures items { line.new.items ≡ line.old.items ++ (left width field.now.items ++ end ∷ []) }
-    ensures len { array_vec_len line.new ≤ array_vec_len line.old + 33 }
-{
-    push_text(line, field.as_slice());
-    push_spaces(line, width.saturating_sub(field.len()));
     line.push(end);
 }
