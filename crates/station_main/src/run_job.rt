@@ -63,6 +63,8 @@ impl<'a> RunOptions<'a> {
           format = format_since arguments.entry.now.format origin;
         } }
         ensures rounds { result.rounds ≡ arguments.entry.now.rounds }
+        ensures reopens { result.reopens ≡ arguments.entry.now.reopens }
+        ensures origin { result.origin ≡ origin }
         ensures file { result.record.now ≡ arguments.entry.now.record }
         ensures displays { result.displays.now ≡ arguments.entry.now.displays }
         ensures paths { result.paths.now ≡ arguments.entry.now.paths }
