@@ -105,6 +105,19 @@ struct Ran {
     limit_alarm: Vec<u8>,
 }
 
+impl Ran {
+    fn nothing(alloc: Global) -> Ran {
+        Ran {
+            status: 0,
+            out: Vec::new(alloc),
+            err: Vec::new(alloc),
+            record_alarm: Vec::new(alloc),
+            display_alarm: Vec::new(alloc),
+            limit_alarm: Vec::new(alloc),
+        }
+    }
+}
+
 // A stream whose first 2,048 bytes take no memory. Where an allocation is refused, it is made once more.
 fn stream(alloc: Global) -> Result<Vec<u8>, AllocError> {
     Vec::with_capacity(alloc, 2_048).or_else(|_| Vec::with_capacity(alloc, 2_048))
@@ -148,23 +161,15 @@ impl<R: System, W: Own> Trials<'_, R, W> {
         let (rt, own, alloc) = (self.rt, self.own, self.alloc);
         let words = words_of(alloc, line, paths).or_else(|_| words_of(alloc, line, paths))?;
         let words = words.as_slice();
-        let (mut record_alarm, mut display_alarm) = (Vec::new(alloc), Vec::new(alloc));
-        let (mut limit_alarm, mut err) = (Vec::new(alloc), stream(alloc)?);
+        let (mut ran, mut err) = (Ran::nothing(alloc), stream(alloc)?);
         let alarms = Alarms {
-            record: &mut record_alarm,
-            displays: &mut display_alarm,
-            limits: &mut limit_alarm,
+            record: &mut ran.record_alarm,
+            displays: &mut ran.display_alarm,
+            limits: &mut ran.limit_alarm,
         };
         let mut told = StandardError::new(&mut err);
         let status = obey(rt, own, alloc, words, ORIGIN, input, out, alarms, &mut told).status;
-        Ok(Ran {
-            status,
-            out: Vec::new(alloc),
-            err,
-            record_alarm,
-            display_alarm,
-            limit_alarm,
-        })
+        Ok(Ran { status, err, ..ran })
     }
 
     // Runs the program on the words of a line and these paths, without input.

@@ -112,6 +112,22 @@ fn worker<const N: usize, S: Source, L: StationName>(
     }
 }
 
+// A receiver whose source ends once its watcher, or another's, has seen the other aircraft.
+fn meeting_worker<'a, W: Watch + Drop, L: StationName>(
+    rt: &impl Abort,
+    seat: Option<Seat<8, L>>,
+    rest: &'static [u8],
+    watcher: &'a mut Option<W>,
+    word: &'a AtomicU64,
+) -> Worker<8, FromRead<Meeting<'a, W>>, L> {
+    let source = Meeting {
+        rest,
+        watcher,
+        word,
+    };
+    worker(seat.expect(rt, "a receiver's seat"), FromRead::new(source))
+}
+
 fn run_both<W: Watch + Send + Drop, L: StationName + Send + Sync, R: Threads + Wait + Sync>(
     rt: &R,
     station: &Station<8, L>,
@@ -222,20 +238,10 @@ fn is_meeting<L: StationName + Send + Sync, R: Threads + Wait + Abort + Sync>(
         station.end(rt);
         return false;
     };
-    let first = seats.pop().expect(rt, "the first receiver's seat");
-    let source = Meeting {
-        rest: IDENTIFICATION,
-        watcher: &mut looking,
-        word: &word,
-    };
-    push(rt, &mut workers, worker(first, FromRead::new(source)));
-    let second = seats.pop().expect(rt, "the second receiver's seat");
-    let source = Meeting {
-        rest: VELOCITY,
-        watcher: &mut waiting,
-        word: &word,
-    };
-    push(rt, &mut workers, worker(second, FromRead::new(source)));
+    let first = meeting_worker(rt, seats.pop(), IDENTIFICATION, &mut looking, &word);
+    push(rt, &mut workers, first);
+    let second = meeting_worker(rt, seats.pop(), VELOCITY, &mut waiting, &word);
+    push(rt, &mut workers, second);
     run_both(rt, &station, workers.as_mut_slice());
     let mut have_ended = true;
     for worker in workers {

@@ -4,7 +4,7 @@ use super::replies::all_call_replies;
 use super::run::IDENTIFICATION;
 use super::sleeps::at;
 use super::staged::Staged;
-use super::{Trials, text};
+use super::{Ran, Trials, text};
 use crate::comparing::{holds, same};
 use station_journal::{Entry, Recent};
 use station_main::{
@@ -147,63 +147,90 @@ fn a_hand_over_that_freed_little_is_followed_by_a_pause(rt: HostRuntime) -> Resu
     Ok(())
 }
 
-// The second path is silent after its first line. The clock passes 71 seconds at each reading, so what was heard before a
-// hand-over is not recent after it.
+// Times that are 71 seconds apart: what was heard before a hand-over is not recent after it.
+fn late_moments(alloc: Global) -> Result<Vec<u64>, AllocError> {
+    let mut moments = Vec::new(alloc);
+    for i in 0..10_000u64 {
+        moments.push(1_000_000 + 71_000 * i)?;
+    }
+    Ok(moments)
+}
+
+impl<R: System, W: Own> Trials<'_, R, W> {
+    // Runs over paths without a table before the last, by stations that hand over, and records it.
+    fn run_by_hand_overs(
+        &self,
+        record: String,
+        first: String,
+        second: String,
+    ) -> Result<Ran, AllocError> {
+        let (rt, own, alloc) = (self.rt, self.own, self.alloc);
+        let record = Some(record);
+        let paths = vec![in alloc; first, second]?;
+        let options = RunOptions {
+            tables: tables_each(3_600_000),
+            rounds: 1,
+            reopens: false,
+            origin: 0,
+            record: &record,
+            displays: &None,
+            paths: &paths,
+            hand_over_at: LIMIT,
+        };
+        let (mut ran, mut out, mut err) = (Ran::nothing(alloc), Vec::new(alloc), Vec::new(alloc));
+        let alarms = Alarms {
+            record: &mut ran.record_alarm,
+            displays: &mut ran.display_alarm,
+            limits: &mut ran.limit_alarm,
+        };
+        let mut told = StandardError::new(&mut err);
+        let run = run_for_displays(rt, own, alloc, options, &mut out, alarms, &mut told);
+        let status = run.status;
+        Ok(Ran {
+            status,
+            out,
+            err,
+            ..ran
+        })
+    }
+}
+
+// The second path is silent after its first line.
 #[test]
 fn hand_overs_lose_no_line_and_print_no_table(rt: HostRuntime) -> Result<(), Fail> {
     let (trials, alloc) = (Trials::on(&rt), rt.alloc());
     let folder = trials.new_folder()?;
     let record = format!(in alloc; "{}/record", folder.as_str())?;
-    let mut moments = Vec::new(alloc);
-    for i in 0..10_000u64 {
-        moments.push(1_000_000 + 71_000 * i)?;
-    }
+    let moments = late_moments(alloc)?;
     let staged = Staged::new(&rt, moments.as_slice());
     let (first, mut second) = (trials.lasting_path()?, trials.lasting_path()?);
     second.lines.write_all(IDENTIFICATION.as_bytes())?;
     let (first_lines, second_lines) = (first.lines, second.lines);
-    let paths = vec![in alloc; first.path, second.path]?;
-    let lines = all_call_replies(alloc, 1, FRAMES * TIMES)?;
+    let (first_path, second_path) = (first.path, second.path);
     let path = format!(in alloc; "{record}")?;
-    let asked_record = Some(record);
-    let asked = RunOptions {
-        tables: tables_each(3_600_000),
-        rounds: 1,
-        reopens: false,
-        origin: 0,
-        record: &asked_record,
-        displays: &None,
-        paths: &paths,
-        hand_over_at: LIMIT,
-    };
-    let (mut out, mut told) = (Vec::new(alloc), Vec::new(alloc));
-    let (mut alarm, mut limit_alarm) = (Vec::new(alloc), Vec::new(alloc));
-    let mut display_alarm = Vec::new(alloc);
-    let alarms = Alarms {
-        record: &mut alarm,
-        displays: &mut display_alarm,
-        limits: &mut limit_alarm,
-    };
-    let mut err = StandardError::new(&mut told);
-    let (were_fed, status) = join(
+    let staged_trials = trials.over(&staged);
+    let lines = all_call_replies(alloc, 1, FRAMES * TIMES)?;
+    let (were_fed, ran) = join(
         &rt,
         || {
             let were_fed = feed(&rt, first_lines, lines.as_str(), path.as_str());
             drop(second_lines);
             were_fed
         },
-        || { run_for_displays(&staged, rt, alloc, asked, &mut out, alarms, &mut err).status },
+        move || staged_trials.run_by_hand_overs(record, first_path, second_path),
     );
     holds(&rt, were_fed?);
-    let are_silent = alarm.is_empty() && limit_alarm.is_empty();
-    holds(&rt, status == 0 && are_silent);
+    let ran = ran?;
+    holds(
+        &rt,
+        ran.record_alarm.is_empty() && ran.limit_alarm.is_empty(),
+    );
     let tallies = concat!(
         "lines 120 frames 120 ticks 0 shows 0 blank 0 modeac 0 faults 0 accepted 120 refused 0\n",
         "lines 1 frames 1 ticks 0 shows 0 blank 0 modeac 0 faults 0 accepted 1 refused 0\n",
     );
-    same(&rt, text(&told), tallies);
     let (recorded, shown) = trials.shown_again(path.as_str())?;
-    same(&rt, text(&shown), text(&out));
+    trials.leaves(&ran, 0, text(&shown), tallies);
     same(&rt, text(&recorded).split('*').count(), 122);
     trials.remove(&folder)
 }

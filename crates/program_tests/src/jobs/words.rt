@@ -1,4 +1,5 @@
 //! Command lines that are refused, and the jobs that others name.
+use super::bounds::*;
 use super::{NO_LINES, Trials, text, words_of};
 use crate::comparing::{holds_at, same_at};
 use station_main::{Job, Pace, RunArguments, TableFormat, WordsFault, program, read_words};
@@ -7,10 +8,23 @@ use std::alloc::{AllocError, Global};
 // `clap` accepts the words, and the program refuses them.
 const BOTH: &str = "error: the argument '--reopen' cannot be used with '--rounds <R>'\n";
 
-// The lines that each refusal begins with. All end in the same way.
+impl<R: Host, W: Own> Trials<'_, R, W> {
+    // Ends the test unless the program refuses each of these lines by this text. All end in the same way.
+    fn refuses(&self, lines: &[(&str, &str)]) -> Result<(), AllocError> {
+        for &(line, told) in lines {
+            let refused = self.ask(line, NO_LINES)?;
+            holds_at(self.rt, refused.status == 2 && refused.out.is_empty(), line);
+            let end = text(&refused.err).strip_prefix(told);
+            let help = Some("\nFor more information, try '--help'.\n");
+            same_at(self.rt, end, help, line);
+        }
+        Ok(())
+    }
+}
+
 #[test]
-fn words_are_refused(rt: HostRuntime) -> Result<(), AllocError> {
-    for (line, told) in [
+fn unknown_words_are_refused(rt: HostRuntime) -> Result<(), AllocError> {
+    let lines = [
         (
             "",
             concat!(
@@ -24,6 +38,18 @@ fn words_are_refused(rt: HostRuntime) -> Result<(), AllocError> {
             "error: unrecognized subcommand 'fly'\n\n\
             Usage: groundstation <COMMAND>\n",
         ),
+        (
+            "replay --reopen",
+            "error: unexpected argument '--reopen' found\n\n\
+            Usage: groundstation replay [OPTIONS]\n",
+        ),
+    ];
+    Trials::on(&rt).refuses(lines.as_slice())
+}
+
+#[test]
+fn bad_values_are_refused(rt: HostRuntime) -> Result<(), AllocError> {
+    let lines = [
         (
             "run --every 0 x",
             "error: invalid value '0' for '--every <MS>': 0 is not in 1..=3600000\n",
@@ -56,6 +82,13 @@ fn words_are_refused(rt: HostRuntime) -> Result<(), AllocError> {
             "run --every 5 --format JSON x",
             "error: invalid value 'JSON' for '--format <FORMAT>'\n  [possible values: text, json]\n",
         ),
+    ];
+    Trials::on(&rt).refuses(lines.as_slice())
+}
+
+#[test]
+fn badly_given_options_are_refused(rt: HostRuntime) -> Result<(), AllocError> {
+    let lines = [
         (
             "run --every 5 --record f --record g x",
             "error: the argument '--record <FILE>' cannot be used multiple times\n\n\
@@ -77,19 +110,8 @@ fn words_are_refused(rt: HostRuntime) -> Result<(), AllocError> {
         ),
         ("run --every 5 --reopen --rounds 2 x", BOTH),
         ("run --rounds=1 --every 5 x --reopen", BOTH),
-        (
-            "replay --reopen",
-            "error: unexpected argument '--reopen' found\n\n\
-            Usage: groundstation replay [OPTIONS]\n",
-        ),
-    ] {
-        let refused = Trials::on(&rt).ask(line, NO_LINES)?;
-        holds_at(&rt, refused.status == 2 && refused.out.is_empty(), line);
-        let end = text(&refused.err).strip_prefix(told);
-        let help = Some("\nFor more information, try '--help'.\n");
-        same_at(&rt, end, help, line);
-    }
-    Ok(())
+    ];
+    Trials::on(&rt).refuses(lines.as_slice())
 }
 
 // The job that a line names.
