@@ -1,6 +1,7 @@
 //! The columns of a row, each as the text of a field.
 
-ghost use Rattle.std.specs.Prelude.{◌≡◌, ◌+◌, ◌-◌, ◌*◌, ◌/◌, ◌%◌, ◌<◌, ◌≤◌, [], ◌∷◌, ◌++◌, IfSome};
+ghost use Rattle.std.specs.Prelude.{◌≡◌, ◌+◌, ◌-◌, ◌*◌, ◌/◌, ◌%◌, ◌<◌, ◌≤◌, [], ◌∷◌, ◌++◌, codes, MatchOption};
+ghost use Rattle.std.specs.Option.{ForSome};
 ghost use Rattle.std.specs.Fmt.{decimal, signed_decimal};
 ghost use Rattle.arrayvec.specs.ArrayVec.{array_vec_len};
 ghost use Rattle.modes_cpr.specs.Pair.{IsWhole};
@@ -39,29 +40,40 @@ pub(crate) fn address_field(address: u32) -> Field
     field
 }
 
+/// The field of a value, or a dash.
+pub(crate) fn or_dash<T, F: FnOnce(T) -> Field>(value: Option<T>, field: F) -> Field
+    requires { ForSome value (F.pre field) }
+    ensures { MatchOption value (result.items ≡ codes "-") (λ x. F.post field x result) }
+{
+    let mut dash = Field::new();
+    dash.push(b'-');
+    value.map_or(dash, field)
+}
+
 /// A callsign, or a dash, with spaces after it up to eight bytes.
 pub(crate) fn callsign_field(callsign: Option<Callsign>) -> Field
     ensures { result.items ≡ left 8 (or_dash callsign_text callsign) }
 {
-    let mut field = Field::new();
-    match callsign {
-        None => field.push(b'-'),
-        Some(callsign) => push_text(&mut field, callsign.bytes()),
-    }
+    let mut field = or_dash(callsign, characters_field);
     let count = 8usize.saturating_sub(field.len());
     push_spaces(&mut field, count);
     field
 }
 
-/// A whole number, or a dash: an altitude in feet, or a vertical rate in feet per minute.
-pub(crate) fn signed_field(n: Option<i32>) -> Field
-    ensures { result.items ≡ or_dash signed_decimal n }
+fn characters_field(callsign: Callsign) -> Field
+    ensures { result.items ≡ callsign_text callsign }
 {
     let mut field = Field::new();
-    match n {
-        None => field.push(b'-'),
-        Some(n) => push_signed(&mut field, n),
-    }
+    push_text(&mut field, callsign.bytes());
+    field
+}
+
+/// A whole number: an altitude in feet, or a vertical rate in feet per minute.
+pub(crate) fn signed_field(n: i32) -> Field
+    ensures { result.items ≡ signed_decimal n }
+{
+    let mut field = Field::new();
+    push_signed(&mut field, n);
     field
 }
 
@@ -74,15 +86,12 @@ pub(crate) fn decimal_field(n: u64) -> Field
     field
 }
 
-/// Four octal digits, or a dash.
-pub(crate) fn squawk_field(squawk: Option<Squawk>) -> Field
-    ensures { result.items ≡ or_dash squawk_text squawk }
+/// Four octal digits.
+pub(crate) fn squawk_field(squawk: Squawk) -> Field
+    ensures { result.items ≡ squawk_text squawk }
 {
     let mut field = Field::new();
-    match squawk {
-        None => field.push(b'-'),
-        Some(squawk) => push_octal(&mut field, squawk),
-    }
+    push_octal(&mut field, squawk);
     field
 }
 
@@ -100,29 +109,17 @@ pub(crate) fn push_octal<const CAP: usize>(to: &mut ArrayVec<u8, CAP>, squawk: S
     to.push(b'0' + (value % 8) as u8);
 }
 
-/// A velocity in knots, or a dash.
-pub(crate) fn velocity_field(velocity: Option<Velocity>) -> Field
-    ensures { result.items ≡ or_dash velocity_text velocity }
+/// A velocity in knots: `east/north`, `Hheading/Tspeed` or `Hheading/Ispeed`.
+#[tactic(auto, unfolding(crate::specs::Text::velocity_text))]
+pub(crate) fn velocity_field(velocity: Velocity) -> Field
+    ensures { result.items ≡ velocity_text velocity }
 {
     let mut field = Field::new();
     match velocity {
-        None => field.push(b'-'),
-        Some(velocity) => push_velocity(&mut field, velocity),
-    }
-    field
-}
-
-// `east/north`, `Hheading/Tspeed` or `Hheading/Ispeed`.
-#[tactic(auto, unfolding(crate::specs::Text::velocity_text))]
-fn push_velocity(field: &mut Field, velocity: Velocity)
-    requires { array_vec_len field.old ≡ 0 }
-    ensures { field.new.items ≡ field.old.items ++ velocity_text velocity }
-{
-    match velocity {
         Velocity::Ground { east, north } => {
-            push_signed(field, i32::from(east));
+            push_signed(&mut field, i32::from(east));
             field.push(b'/');
-            push_signed(field, i32::from(north));
+            push_signed(&mut field, i32::from(north));
         }
         Velocity::Air {
             heading,
@@ -130,37 +127,32 @@ fn push_velocity(field: &mut Field, velocity: Velocity)
             speed,
         } => {
             field.push(b'H');
-            push_short(field, heading);
+            push_short(&mut field, heading);
             field.push(b'/');
             field.push(if is_true { b'T' } else { b'I' });
-            push_short(field, speed);
+            push_short(&mut field, speed);
         }
-    }
-}
-
-/// A latitude in degrees, or a dash.
-pub(crate) fn latitude_field(position: Option<Position>) -> Field
-    requires { IfSome position IsWhole }
-    ensures { result.items ≡ or_dash latitude_text position }
-{
-    let mut field = Field::new();
-    match position {
-        None => field.push(b'-'),
-        Some(position) => push_degrees(&mut field, position.lat),
     }
     field
 }
 
-/// A longitude in degrees, or a dash.
-pub(crate) fn longitude_field(position: Option<Position>) -> Field
-    requires { IfSome position IsWhole }
-    ensures { result.items ≡ or_dash longitude_text position }
+/// A latitude in degrees.
+pub(crate) fn latitude_field(position: Position) -> Field
+    requires { IsWhole position }
+    ensures { result.items ≡ latitude_text position }
 {
     let mut field = Field::new();
-    match position {
-        None => field.push(b'-'),
-        Some(position) => push_degrees(&mut field, position.lon),
-    }
+    push_degrees(&mut field, position.lat);
+    field
+}
+
+/// A longitude in degrees.
+pub(crate) fn longitude_field(position: Position) -> Field
+    requires { IsWhole position }
+    ensures { result.items ≡ longitude_text position }
+{
+    let mut field = Field::new();
+    push_degrees(&mut field, position.lon);
     field
 }
 

@@ -6,8 +6,8 @@ ghost use Rattle.station_report.specs.Sink.{TakesAll};
 ghost use Rattle.station_report.specs.Text.{IsPrintableRow, right, header, first_line, row_text, text};
 
 use crate::columns::{
-    address_field, callsign_field, decimal_field, latitude_field, longitude_field, signed_field,
-    squawk_field, velocity_field,
+    address_field, callsign_field, decimal_field, latitude_field, longitude_field, or_dash,
+    signed_field, squawk_field, velocity_field,
 };
 use crate::decimals::{Field, push_number, push_spaces, push_text};
 use crate::sinks::{Sink, WriteFault, write_all};
@@ -56,12 +56,37 @@ fn row_line(now: u64, aircraft: Aircraft) -> Line
     let mut line = Line::new();
     push_column(&mut line, 6, &address_field(aircraft.address), b' ');
     push_column(&mut line, 8, &callsign_field(aircraft.callsign), b' ');
-    push_column(&mut line, 6, &signed_field(aircraft.altitude), b' ');
-    push_column(&mut line, 4, &squawk_field(aircraft.squawk), b' ');
-    push_column(&mut line, 12, &velocity_field(aircraft.velocity), b' ');
-    push_column(&mut line, 6, &signed_field(aircraft.vertical), b' ');
-    push_column(&mut line, 10, &latitude_field(aircraft.position), b' ');
-    push_column(&mut line, 10, &longitude_field(aircraft.position), b' ');
+    push_column(
+        &mut line,
+        6,
+        &or_dash(aircraft.altitude, signed_field),
+        b' ',
+    );
+    push_column(&mut line, 4, &or_dash(aircraft.squawk, squawk_field), b' ');
+    push_column(
+        &mut line,
+        12,
+        &or_dash(aircraft.velocity, velocity_field),
+        b' ',
+    );
+    push_column(
+        &mut line,
+        6,
+        &or_dash(aircraft.vertical, signed_field),
+        b' ',
+    );
+    push_column(
+        &mut line,
+        10,
+        &or_dash(aircraft.position, latitude_field),
+        b' ',
+    );
+    push_column(
+        &mut line,
+        10,
+        &or_dash(aircraft.position, longitude_field),
+        b' ',
+    );
     let age = (now - aircraft.heard) / 1000;
     push_column(&mut line, 3, &decimal_field(age), b'\n');
     line
