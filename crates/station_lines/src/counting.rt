@@ -10,10 +10,7 @@ impl Tally {
         requires room { self.old.lines + 1 < 2 ^ 64 }
         ensures { CountsCall self.old self.new 1 0 is_accepted }
     {
-        self.lines += 1;
-        self.frames += 1;
-        self.accepted += u64::from(is_accepted);
-        self.refused += u64::from(!is_accepted);
+        self.call(1, 0, is_accepted);
     }
 
     /// Counts a line with a tick, and the answer to it.
@@ -21,8 +18,18 @@ impl Tally {
         requires room { self.old.lines + 1 < 2 ^ 64 }
         ensures { CountsCall self.old self.new 0 1 is_accepted }
     {
+        self.call(0, 1, is_accepted);
+    }
+
+    // Counts a line with one call, a frame or a tick, and the answer to it.
+    fn call(&mut self, frames: u64, ticks: u64, is_accepted: bool)
+        requires room { self.old.lines + 1 < 2 ^ 64 }
+        requires one { frames + ticks ≡ 1 }
+        ensures { CountsCall self.old self.new frames ticks is_accepted }
+    {
         self.lines += 1;
-        self.ticks += 1;
+        self.frames += frames;
+        self.ticks += ticks;
         self.accepted += u64::from(is_accepted);
         self.refused += u64::from(!is_accepted);
     }
