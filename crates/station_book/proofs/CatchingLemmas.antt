@@ -5,10 +5,11 @@ use Rattle.std.proofs.lemmas.Bool.Decides.{nat_tests}
 use Rattle.std.proofs.lemmas.List.{append-nil, drop-append-le, drop_all}
 use Rattle.modes_frame.specs.declared.claims.Claim.{Claim}
 use Rattle.modes_frame.specs.declared.claims.CheckFault.{CheckFault}
-use Rattle.station_book.proofs.Common.{Call, Tick, Heard, Track as Kept, claim_change, change_of, BookState, applied_book, caught_up, claim_fits, fits, with_frame_ahead, find_track, put_track, updated_track, track_or_blank, with_track, has_place}
+use Rattle.station_journal.proofs.Common.{updated_track, Frame, most_looked_at, with_heard}
+use Rattle.station_journal.specs.declared.tracks.Track.{Track as Kept}
+use Rattle.station_book.proofs.Common.{Call, Tick, Heard, claim_change, change_of, BookState, applied_book, caught_up, claim_fits, fits, with_frame_ahead, find_track, put_track, track_or_blank, with_track, has_place}
 use Rattle.station_book.specs.declared.call.Change.{Change}
 use Rattle.station_book.specs.declared.call.Change.TheVariants.{Clock, Track}
-use Rattle.station_journal.proofs.Common.{Frame, most_looked_at, with_heard}
 use Rattle.modes_fields.specs.Carried.{fields_of}
 use Rattle.station_book.proofs.TrackLemmas.{find_put_as, found_address}
 

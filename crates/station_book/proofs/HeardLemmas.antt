@@ -1,7 +1,8 @@
 -- Times before which no track was heard.
 use Rattle.std.proofs.Common.{◌≡◌, ℕ, ◌-◌, ◌≤◌, List, [], ◌∷◌, ◌++◌, refl, arith}
 use Rattle.std.proofs.lemmas.Bool.Decides.{nat_tests}
-use Rattle.station_book.proofs.Common.{Track, put_track, tracks_left, HeardFrom}
+use Rattle.station_journal.specs.declared.tracks.Track.{Track}
+use Rattle.station_book.proofs.Common.{put_track, tracks_left, HeardFrom}
 
 pub heard_earlier : (early late : ℕ) (tracks : List Track) → early ≤ late → HeardFrom late tracks → HeardFrom early tracks
 heard_earlier early late [] le heard = tt

@@ -2,14 +2,15 @@
 use Rattle.std.proofs.Common.{◌≡◌, ℕ, ◌-◌, ◌<◌, Bool, true, false, if◌then◌else◌, List, [], ◌∷◌, ◌++◌, Option, Some, None, Result, Ok, Err, refl, sym, subst, arith, nat_le, ◌==◌, unwrap_or, reverse, eqb-true}
 use Rattle.std.proofs.lemmas.Bool.Decides.{nat_tests}
 use Rattle.std.proofs.lemmas.List.{reverse-append}
-use Rattle.station_journal.proofs.Common.{Frame, clock, speaks_for, IsTimed, ClaimFits, Fits}
+use Rattle.station_journal.proofs.Common.{Frame, clock, speaks_for, IsTimed, ClaimFits, Fits, blank, updated_track}
 use Rattle.modes_frame.specs.declared.claims.Claim.{Claim}
 use Rattle.modes_frame.specs.declared.claims.CheckFault.{CheckFault}
 use Rattle.modes_frame.specs.Claims.{claim_of}
 use Rattle.modes_fields.specs.Carried.{fields_of}
 use Rattle.station_journal.specs.declared.entry.Entry.{Entry}
 use Rattle.station_journal.specs.declared.entry.Entry.TheVariants.{Tick, Heard}
-use Rattle.station_book.proofs.Common.{Track, call_of, blank, updated_track, find_track, with_claimed, BookState, applied_book, starting, Tracks, TracksAt, MatchesPast, Matches}
+use Rattle.station_journal.specs.declared.tracks.Track.{Track}
+use Rattle.station_book.proofs.Common.{call_of, find_track, with_claimed, BookState, applied_book, starting, Tracks, TracksAt, MatchesPast, Matches}
 use Rattle.station_journal.proofs.RepeatLemmas.{first_heard_next}
 use Rattle.station_journal.proofs.SoundLemmas.{timed_sound}
 use Rattle.station_book.proofs.AircraftLemmas.{kept_by_tick, swept_by_tick, absent_after_tick, unchanged_by_other, heard_of_own}

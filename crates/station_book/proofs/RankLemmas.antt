@@ -8,7 +8,9 @@ use Rattle.std.proofs.Math.Seq.{take-append_seam}
 use Rattle.std.proofs.lemmas.Bool.Decides.{nat_tests}
 use Rattle.std.proofs.lemmas.List.{length-map}
 use Rattle.station_journal.specs.Rising.{AllOver, IsRising}
-use Rattle.station_book.proofs.Common.{Track, blank, updated_track, find_track, put_track, track_or_blank, address_of, Rising, IsRank, StandsAt, with_track}
+use Rattle.station_journal.proofs.Common.{blank, updated_track}
+use Rattle.station_journal.specs.declared.tracks.Track.{Track}
+use Rattle.station_book.proofs.Common.{find_track, put_track, track_or_blank, address_of, Rising, IsRank, StandsAt, with_track}
 use Rattle.station_book.proofs.TrackLemmas.{find_below, found_address}
 
 -- a slice that is written back whole

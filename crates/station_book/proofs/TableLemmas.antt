@@ -4,10 +4,11 @@ use Rattle.std.proofs.lemmas.Bool.Decides.{nat_tests}
 use Rattle.std.proofs.lemmas.List.{length-map}
 use Rattle.station_journal.specs.declared.entry.Entry.{Entry}
 use Rattle.station_journal.specs.declared.aircraft.Aircraft.{Aircraft}
-use Rattle.station_journal.proofs.Common.{clock, live, newest_fix, row, table, placed, placed_table, live_addresses, find_row, AllOver, IsRising}
+use Rattle.station_journal.proofs.Common.{clock, live, newest_fix, row, table, placed, placed_table, live_addresses, find_row, AllOver, IsRising, track_row, track_placed}
 use Rattle.station_journal.proofs.FreshLemmas.{moments_agree}
 use Rattle.station_journal.proofs.RisingLemmas.{is_in, same_rising, rising_live, in_live}
-use Rattle.station_book.proofs.Common.{Track, address_of, find_track, track_row, track_placed, AllAbove, Rising, BookState, rows, placed_rows, Tracks, TracksAt, MatchesPast}
+use Rattle.station_journal.specs.declared.tracks.Track.{Track}
+use Rattle.station_book.proofs.Common.{address_of, find_track, AllAbove, Rising, BookState, rows, placed_rows, Tracks, TracksAt, MatchesPast}
 use Rattle.station_book.proofs.TrackLemmas.{find_below}
 
 over_from_above : (a : ℕ) (tracks : List Track) → AllAbove a tracks → AllOver a (map address_of tracks)

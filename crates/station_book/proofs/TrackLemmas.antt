@@ -1,7 +1,9 @@
 -- The tracks by rising address: what is found once one is put in its place or some are swept.
 use Rattle.std.proofs.Common.{◌≡◌, ℕ, ◌<◌, ◌≤◌, Bool, true, false, if◌then◌else◌, List, [], ◌∷◌, Option, Some, None, refl, subst, arith, ◌==◌, filter, unwrap_or, eqb-true}
 use Rattle.std.proofs.lemmas.Bool.Decides.{nat_tests}
-use Rattle.station_book.proofs.Common.{Track, blank, find_track, put_track, track_or_blank, AllAbove, Rising}
+use Rattle.station_journal.proofs.Common.{blank}
+use Rattle.station_journal.specs.declared.tracks.Track.{Track}
+use Rattle.station_book.proofs.Common.{find_track, put_track, track_or_blank, AllAbove, Rising}
 
 -- the track, if it passes the test
 abbrev pub keep_if : (Track → Bool) → Option Track → Option Track

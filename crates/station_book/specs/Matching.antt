@@ -7,7 +7,7 @@ use Rattle.station_journal.specs.Table.{altitude_of, squawk_of, velocity_of, ver
 use Rattle.station_journal.specs.Repeats.{first_heard}
 use Rattle.station_journal.specs.Resume.{Sound}
 use Rattle.station_journal.specs.Verdict.{tick_refusal, refusal}
-use Rattle.station_book.specs.declared.tracks.Track.{Track}
+use Rattle.station_journal.specs.declared.tracks.Track.{Track}
 use Rattle.station_book.specs.Call.{call_of}
 use Rattle.station_book.specs.Tracks.{find_track, Rising}
 use Rattle.station_book.specs.State.{BookState, rows, placed_rows, starting, applied_book, book_tick_refusal, book_refusal}

@@ -12,10 +12,11 @@ use Rattle.station_journal.specs.Repeats.{is_one_of, with_heard}
 use Rattle.station_journal.specs.Verdict.{refuse_if, fault_refusal}
 use Rattle.station_book.specs.declared.call.Call.{Call}
 use Rattle.station_book.specs.declared.call.Call.TheVariants.{Tick, Heard}
-use Rattle.station_book.specs.declared.tracks.Track.{Track}
+use Rattle.station_journal.specs.declared.tracks.Track.{Track}
 use Rattle.station_book.specs.declared.call.Change.{Change}
 use Rattle.station_book.specs.declared.call.Change.TheVariants as change
-use Rattle.station_book.specs.Tracks.{find_track, tracks_left, with_claimed, has_place, with_track, track_row, track_placed}
+use Rattle.station_journal.specs.Track.{track_row, track_placed}
+use Rattle.station_book.specs.Tracks.{find_track, tracks_left, with_claimed, has_place, with_track}
 
 -- the clock, the number of entries taken, the track of each live aircraft, and the first frames since the newest tick
 pub record BookState : Type 0 where

@@ -8,7 +8,6 @@ mod copying;
 mod first_frames;
 pub mod laws;
 mod table;
-mod tracks;
 
 pub use book::Book;
 pub use call::{Call, Change};

@@ -3,14 +3,15 @@
 ghost use Rattle.std.specs.Prelude.{◌≡◌, IsTrue, Ok, ◌<◌, ◌≤◌, ◌==◌, List, [], length, map, slice_get, None, Some};
 ghost use Rattle.station_journal.specs.Rising.{IsRising};
 ghost use Rattle.modes_fields.specs.Carried.{fields_of};
-ghost use Rattle.station_book.specs.Tracks.{updated_track, find_track, put_track, with_track, tracks_left, track_or_blank};
+ghost use Rattle.station_journal.specs.Track.{updated_track};
+ghost use Rattle.station_book.specs.Tracks.{find_track, put_track, with_track, tracks_left, track_or_blank};
 ghost use Rattle.station_book.specs.Tracks.{address_of, IsRank, StandsAt, HeardFrom};
 
 use crate::copying::copy_list;
-use crate::tracks::{Track, blank, update};
 use arrayvec::ArrayVec;
 use modes_frame::Frame;
 use station_journal::LIFE_MS;
+use station_journal::tracks::{Track, blank, update};
 use std::marker::Model;
 
 // The number of hints: one for each value of an address's low bits.
@@ -31,7 +32,7 @@ pub struct Table<const N: usize> {
 
 impl<const N: usize> Model for Table<N> {
     ghost use Rattle.std.specs.Prelude.{◌≡◌, List, map};
-    ghost use Rattle.station_book.specs.declared.tracks.Track.{Track};
+    ghost use Rattle.station_journal.specs.declared.tracks.Track.{Track};
     ghost use Rattle.station_book.specs.Tracks.{Rising, HeardFrom, address_of};
 
     ghost Value = { List Track };

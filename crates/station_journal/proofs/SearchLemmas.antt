@@ -1,7 +1,7 @@
 -- The time of what a search of the past finds. It is old where the aircraft isn't live.
-use Rattle.std.proofs.Common.{◌≡◌, ℕ, ◌-◌, ◌≤◌, Bool, true, false, ◌&&◌, ◌||◌, if◌then◌else◌, List, [], ◌∷◌, Option, Some, None, IfSome, is_some, refl, arith, nat_le}
+use Rattle.std.proofs.Common.{◌≡◌, ℕ, ◌-◌, ◌≤◌, Bool, true, false, ◌&&◌, ◌||◌, if◌then◌else◌, List, [], ◌∷◌, Option, Some, None, IfSome, is_some, refl, sym, ◌∙◌, arith, nat_le}
 use Rattle.std.proofs.lemmas.Bool.Decides.{nat_tests}
-use Rattle.station_journal.proofs.Common.{Frame, Entry, Tick, Heard, Stamped, clock, speaks_for, heard_within, stamp, or_older, fresh, read_for, newest, newest_fix, fix_by, place_of, sighting_of, IsTimed}
+use Rattle.station_journal.proofs.Common.{Frame, Entry, Tick, Heard, Stamped, clock, speaks_for, heard_within, live, stamp, or_older, fresh, read_for, newest, newest_fix, fix_by, place_of, sighting_of, moment_of, found_in, is_recent, IsTimed}
 use Rattle.modes_cpr.specs.declared.points.Position.{Position}
 
 module _ {V : Type 0} where
@@ -55,3 +55,11 @@ heard_by_newest now base a [] timed = refl
 heard_by_newest now base a (Tick seat at ∷ past) timed = heard_by_newest now base a past timed.1
 heard_by_newest now base a (Heard seat frame ∷ past) timed =
     live_step now (clock base past) (speaks_for a frame) (heard_within now base a past) (newest sighting_of base a past) (heard_by_newest now base a past timed) (newest_moment sighting_of base a past timed)
+
+recent_step : (now : ℕ) (s : Option (Stamped ℕ)) → is_some s && nat_le (now - moment_of s) 60000 ≡ is_some (fresh 60000 now s)
+recent_step now None = refl
+recent_step now (Some s) = grind (arith, nat_tests)
+
+-- an aircraft is live exactly where its newest frame is recent
+pub live_if_recent : (base a : ℕ) (past : List Entry) → IsTimed base past → is_recent (found_in base past a) ≡ live base past a
+live_if_recent base a past timed = recent_step (clock base past) (newest sighting_of base a past) ∙ sym (heard_by_newest (clock base past) base a past timed)

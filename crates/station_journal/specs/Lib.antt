@@ -4,6 +4,7 @@ pub mod Repeats
 pub mod Verdict
 pub mod Log
 pub mod Follow
+pub mod Track
 pub mod Found
 pub mod Looked
 pub mod Newest

@@ -1,22 +1,12 @@
 //! Values with their times in milliseconds, and how they age.
 
 ghost use Rattle.std.specs.Prelude.{◌≡◌};
-ghost use Rattle.station_journal.specs.Past.{stamp, fresh, fresh_moment, or_older, with_parity, pair_with};
-ghost use Rattle.station_journal.specs.Found.{fix_from};
+ghost use Rattle.station_journal.specs.Past.{fresh, fresh_moment, with_parity, pair_with};
+ghost use Rattle.station_journal.specs.Track.{fix_from};
 
 use crate::{PAIR_MS, Stamped};
 use modes_cpr::{Position, pair};
 use modes_fields::Place;
-
-/// The value with its time, if there is one.
-pub fn stamp<T: Copy>(at: u64, value: Option<T>) -> Option<Stamped<T>>
-    ensures { result ≡ stamp at value }
-{
-    match value {
-        Some(value) => Some(Stamped { value, at }),
-        None => None,
-    }
-}
 
 /// The value, unless it is more than `limit` older than `now`.
 pub fn fresh<T: Copy>(limit: u64, now: u64, kept: Option<Stamped<T>>) -> Option<T>
@@ -41,16 +31,6 @@ pub fn fresh_moment<T: Copy>(limit: u64, now: u64, kept: Option<Stamped<T>>) -> 
     match kept {
         Some(Stamped { value: _, at }) if now.saturating_sub(at) <= limit => Some(at),
         _ => None,
-    }
-}
-
-/// The newer value, or the older where there is none.
-pub fn or_older<T: Copy>(newer: Option<T>, older: Option<T>) -> Option<T>
-    ensures { result ≡ or_older newer older }
-{
-    match newer {
-        Some(newer) => Some(newer),
-        None => older,
     }
 }
 

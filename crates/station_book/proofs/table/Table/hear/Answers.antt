@@ -1,7 +1,8 @@
 use Rattle.std.proofs.Common.{◌≡◌, ◌≤◌, Ok, Err, refl, ap, sym, ◌∙◌, set, get_or, length, arith, length-set}
 use Rattle.std.specs.List.{insert, refill}
 use Rattle.modes_fields.specs.Carried.{fields_of}
-use Rattle.station_book.specs.Tracks.{blank, updated_track, StandsAt}
+use Rattle.station_journal.specs.Track.{blank, updated_track}
+use Rattle.station_book.specs.Tracks.{StandsAt}
 use Rattle.station_book.proofs.TrackLemmas.{rising_put}
 use Rattle.station_book.proofs.RankLemmas.{refill_same, map_set, map_insert, update_there}
 use Rattle.station_book.proofs.HeardLemmas.{heard_earlier, heard_put}

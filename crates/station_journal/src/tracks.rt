@@ -1,19 +1,19 @@
-//! What a book keeps of an aircraft. Times are in milliseconds.
+//! What is known of an aircraft. Times are in milliseconds.
 
 ghost use Rattle.std.specs.Prelude.{◌≡◌};
 ghost use Rattle.modes_fields.specs.Carried.{fields_of};
 ghost use Rattle.modes_fields.specs.Kinds.{fields_by};
 ghost use Rattle.station_journal.specs.Past.{stamp, or_older};
-ghost use Rattle.station_book.specs.Tracks.{blank, with_place, updated_track, track_row, track_placed};
+ghost use Rattle.station_journal.specs.Track.{blank, with_place, updated_track, track_row, track_placed};
 
+use crate::aging::{fix_from, fresh, fresh_moment, with_parity};
+use crate::{Aircraft, LIFE_MS, Stamped};
 use modes_cpr::Position;
 use modes_fields::readers::carried;
 use modes_fields::{Callsign, Carried, Place, Squawk, Velocity};
 use modes_frame::Frame;
-use station_journal::aging::{fix_from, fresh, fresh_moment, or_older, stamp, with_parity};
-use station_journal::{Aircraft, LIFE_MS, Stamped};
 
-/// What a book keeps of an aircraft: the newest value of each field, the newest even and odd places, and the newest
+/// What is known of an aircraft: the newest value of each field, the newest even and odd places, and the newest
 /// position.
 #[derive(Clone, Copy, Default)]
 pub struct Track {
