@@ -1,9 +1,9 @@
 -- The words that proofs of this crate and of those above it cite most, passed on from one place. Declares nothing.
-pub use Rattle.modes_frame.specs.Frames.{IsFrame, bits_of, brought_down, generator, number_of, reduced_rest, remainder_of}
-unfoldable pub use Rattle.modes_frame.specs.Frames.{bit_of, byte_bits, df_of, divide, parity_of}
+pub use Rattle.modes_frame.specs.Frames.{IsFrame, bits_of, number_of, remainder_of}
+unfoldable pub use Rattle.modes_frame.specs.Frames.{byte_bits, df_of, divide, parity_of}
 pub use Rattle.modes_frame.specs.LineRules.{Carries, HasLength, IsBlank, IsDigit, IsEnclosed, IsFirstBad, IsStart, IsTrimmed, Reads, Says, Writes}
 pub use Rattle.modes_frame.specs.Lines.{Pieces, cut_after, cut_ended_by, cut_of, cuts, ended_cuts, grown_cut, last_line, lengthened_cut, onto, pending, pieces}
-pub use Rattle.modes_frame.specs.Reading.{Decoded, body_of, counter_len, digits_of, fits_length, from_digits, is_blank, is_start, line_reading, reading_of, said_by, trimmed_line}
+pub use Rattle.modes_frame.specs.Reading.{body_of, counter_len, digits_of, fits_length, from_digits, is_blank, is_start, line_reading, reading_of, said_by, trimmed_line}
 unfoldable pub use Rattle.modes_frame.specs.Reading.{back_trimmed, front_trimmed}
 pub use Rattle.modes_frame.specs.declared.cutter.Cut.{Cut}
 pub use Rattle.modes_frame.specs.declared.cutter.Cut.TheVariants.{Whole}

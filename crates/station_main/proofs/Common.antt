@@ -10,7 +10,7 @@ pub use Rattle.station_main.specs.ShownAgain.{HasPrinted, HasRecorded, HasRoom, 
 pub use Rattle.station_main.specs.Status.{fault_status, record_status, status_of}
 pub use Rattle.station_main.specs.Sums.{AddsAll, AddsAnswer, AddsEach}
 pub use Rattle.station_main.specs.Tables.{text_of, PassesOver, Prints, TakesTexts, failures_after, look_text, texts}
-pub use Rattle.station_main.specs.Telling.{Tells, Told, cannot_record, fault_line, pump_lines, reopens_rounds_text, replay_lines, telling_line, told_of}
+pub use Rattle.station_main.specs.Telling.{Tells, Told, cannot_record, fault_line, pump_lines, replay_lines, telling_line, told_of}
 pub use Rattle.station_main.specs.declared.duties.Duties.{Duties}
 pub use Rattle.station_main.specs.declared.schedule.Due.{Due}
 pub use Rattle.station_main.specs.declared.schedule.Tables.{Tables}
