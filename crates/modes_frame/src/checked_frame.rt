@@ -10,8 +10,9 @@ use std::marker::Model;
 /// A frame, and its claim. Contracts see the frame alone, as its bytes.
 #[derive(Clone, Copy, Debug)]
 pub struct CheckedFrame {
-    frame: Frame,
+    // First, so that the frame is in one piece where a call has a tick's time in its place.
     claim: Result<Claim, CheckFault>,
+    frame: Frame,
 }
 
 impl Model for CheckedFrame {
@@ -38,8 +39,8 @@ impl CheckedFrame {
         ensures { result ≡ frame }
     {
         CheckedFrame {
-            frame,
             claim: claim(&frame),
+            frame,
         }
     }
 

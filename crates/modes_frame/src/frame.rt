@@ -9,9 +9,9 @@ use std::marker::Model;
 /// its bytes.
 #[derive(Clone, Copy, Debug, PartialEq, Eq)]
 pub struct Frame {
-    count: u8,
     // The bytes, and zeros before them: 16 bytes are copied in one move, and the last is always at one place.
     padded: [u8; 16],
+    count: u8,
 }
 
 impl Model for Frame {
