@@ -10,7 +10,7 @@ use Rattle.std.proofs.lemmas.Slice.Eq.{bytes_eq-Decides}
 use Rattle.clap.specs.Walk.{Held, Names, Outcome, Step, Waiting, Walk, after_flag, after_step, arg_by_index, arg_by_long, bundle, done, idle, long_met, long_or_other, next, option, plain, plain_word, positional, refused, short_or_plain, subcommand, subcommand_met, subcommand_or_other, to_positional, trailing, value, waits, walked, walked_from, word_met, Row, Rule, Text, answers_to, finished, settled, walk, walk_from, nothing_held}
 use Rattle.clap.specs.Words.{subcommand_of}
 use Rattle.station_main.specs.Command.{FormatNames, station}
-use Rattle.station_main.proofs.WalkedLemmas.{both_none, not_none}
+use Rattle.station_main.proofs.WalkedLemmas.{both_empty, not_none}
 use Rattle.station_main.proofs.FoundLemmas.{Among, among, none_some, some_same}
 use Rattle.station_main.proofs.RunLineLemmas.{replay_shape, run_shape, shapes_are}
 
@@ -83,7 +83,7 @@ module _ (s : Shape) (with_help : s.disable_help_subcommand ≡ false) where
   turn_stop (Some p) names w word e at n = at
   turn_stop None names w word e at n =
       let met = word_met s.rules names w.is_trailing w.waiting w.position word w.held in
-      let parts = both_none (word_fault s names w.is_trailing w.waiting word w.held) (step_fault s w.position met.0 met.1) e in
+      let parts = both_empty (word_fault s names w.is_trailing w.waiting word w.held) (step_fault s w.position met.0 met.1) e in
       step_stop met.1 word w met.0 (word_step w.is_trailing names w.waiting w.position word w.held parts.0) n
 
   turned_stop : (names : Names) (w : Walk) (word : Text) → turn_fault s names w word ≡ [] → NoHelp w.stopped → NoHelp (walked s.rules names w word).stopped
@@ -94,7 +94,7 @@ module _ (s : Shape) (with_help : s.disable_help_subcommand ≡ false) where
   unfolding walk_fault
   walk_stop names w [] e n = n
   walk_stop names w (word ∷ rest) e n =
-      let parts = both_none (turn_fault s names w word) (walk_fault s names (walked s.rules names w word) rest) e in
+      let parts = both_empty (turn_fault s names w word) (walk_fault s names (walked s.rules names w word) rest) e in
       walk_stop names (walked s.rules names w word) rest parts.1 (turned_stop names w word parts.0 n)
 
 found_step : {X : Type 0} (b : Bool) (x : X) (rest : Option X) (a : X) (test : X → Bool) → test x ≡ b → cond b (Some x) rest ≡ Some a → (rest ≡ Some a → test a ≡ true) → test a ≡ true
@@ -149,12 +149,12 @@ pub names_job : (names : FormatNames) (words : List Text) → fault_of (station 
 names_job names words passes =
     let a = built (station names) in
     let given = argument_words (station names) words in
-    let walked_all = both_none (walk_fault a.top (names_of a) (walk_from nothing_held) given) _ passes in
+    let walked_all = both_empty (walk_fault a.top (names_of a) (walk_from nothing_held) given) _ passes in
     let end = (walk a.top.rules (names_of a) nothing_held given).held in
     let stop = (walk a.top.rules (names_of a) nothing_held given).stopped in
-    let below = both_none (entered_fault a stop) _ walked_all.1 in
-    let settled_all = both_none (settle_fault a.top.rules a.top.args_override_self end) _ below.1 in
-    let checked = both_none (defaults_fault (settled a.top.rules end).rows a.top.rules) _ settled_all.1 in
+    let below = both_empty (entered_fault a stop) _ walked_all.1 in
+    let settled_all = both_empty (settle_fault a.top.rules a.top.args_override_self end) _ below.1 in
+    let checked = both_empty (defaults_fault (settled a.top.rules end).rows a.top.rules) _ settled_all.1 in
     let met = some_of (entered a stop) (has_subcommand names (is_some (entered a stop)) (finished a.top.rules end) checked.1) in
     let unhelped = walk_stop a.top refl (names_of a) (walk_from nothing_held) given walked_all.0 tt in
     (met.0.0, met.0.1, met.1, job_entered names stop met.0.0 met.0.1 met.1 unhelped)

@@ -14,7 +14,7 @@ use Rattle.clap.specs.declared.builder.value_parser.Reading.TheVariants.{AsWritt
 use Rattle.clap.specs.declared.parser.matches.ValueSource.TheVariants.{DefaultValue}
 use Rattle.clap.proofs.OnLiterals.{clap_on_literals}
 use Rattle.station_main.specs.Command.{FormatNames, format, json_folder, path, record_file, reopen, replay, rounds, run, station, tick}
-use Rattle.station_main.proofs.WalkedLemmas.{Keeps, both_none, not_none, settles, walks}
+use Rattle.station_main.proofs.WalkedLemmas.{Keeps, both_empty, not_none, settles, walks}
 use Rattle.station_main.proofs.FoundLemmas.{Among, among, none_some, some_same}
 use Rattle.station_main.proofs.RunRowLemmas.{Fine, absent, fine_snoc, row_for}
 use Rattle.station_main.proofs.RunUseLemmas.{help_flag, keeps_among, option, run_rules}
@@ -84,9 +84,9 @@ HasAll rows = Fine rows × (is_given (codes "every") rows ≡ true) × (has_row 
 run_level : (names : FormatNames) (words : List Text) → level_fault (run_shape names) [] nothing_held words false [] ≡ [] → HasAll (rows_after (run_shape names).rules [] words)
 run_level names words e =
     let end = (walk (run_shape names).rules [] nothing_held words).held in
-    let walked_on = both_none (walk_fault (run_shape names) [] (walk_from nothing_held) words) (or_else (settle_fault (run_shape names).rules false end) (or_else (defaults_fault (settled (run_shape names).rules end).rows (run_shape names).rules) (check_fault (run_shape names) (finished (run_shape names).rules end) false))) e in
-    let ended = both_none (settle_fault (run_shape names).rules false end) (or_else (defaults_fault (settled (run_shape names).rules end).rows (run_shape names).rules) (check_fault (run_shape names) (finished (run_shape names).rules end) false)) walked_on.1 in
-    let checked = both_none (defaults_fault (settled (run_shape names).rules end).rows (run_shape names).rules) (check_fault (run_shape names) (finished (run_shape names).rules end) false) ended.1 in
+    let walked_on = both_empty (walk_fault (run_shape names) [] (walk_from nothing_held) words) (or_else (settle_fault (run_shape names).rules false end) (or_else (defaults_fault (settled (run_shape names).rules end).rows (run_shape names).rules) (check_fault (run_shape names) (finished (run_shape names).rules end) false))) e in
+    let ended = both_empty (settle_fault (run_shape names).rules false end) (or_else (defaults_fault (settled (run_shape names).rules end).rows (run_shape names).rules) (check_fault (run_shape names) (finished (run_shape names).rules end) false)) walked_on.1 in
+    let checked = both_empty (defaults_fault (settled (run_shape names).rules end).rows (run_shape names).rules) (check_fault (run_shape names) (finished (run_shape names).rules end) false) ended.1 in
     let fine_end = walks (run_shape names) Fine (keeps_run names) [] (walk_from nothing_held) words walked_on.0 tt in
     let fine_settled = settles (run_shape names) Fine (keeps_run names) end ended.0 fine_end in
     let settled_is = (settled (run_shape names).rules end).rows in
@@ -137,6 +137,6 @@ pub has_all : (names : FormatNames) (words : List Text) (rows : List Row) → su
 has_all names words rows named passes =
     let a = built (station names) in
     let stop = (walk a.top.rules (names_of a) nothing_held (argument_words (station names) words)).stopped in
-    let below = (both_none (entered_fault a stop) _ (both_none (walk_fault a.top (names_of a) (walk_from nothing_held) (argument_words (station names) words)) _ passes).1).0 in
+    let below = (both_empty (entered_fault a stop) _ (both_empty (walk_fault a.top (names_of a) (walk_from nothing_held) (argument_words (station names) words)) _ passes).1).0 in
     let level = level_down a stop (codes "run") rows named below in
     run_among names level.shape level.words rows (subst (Among level.shape) (shapes_are names) level.is_among) level.name_is level.passes level.rows_are

@@ -12,7 +12,7 @@ use Rattle.clap.specs.declared.builder.value_parser.Reading.TheVariants.{Without
 use Rattle.clap.specs.declared.builder.value_parser.ValueParser.TheVariants.{Signed}
 use Rattle.clap.specs.declared.parser.matches.ValueSource.TheVariants.{CommandLine}
 use Rattle.station_main.specs.Command.{FormatNames, every, format, json_folder, path, record_file, reopen, rounds, tick}
-use Rattle.station_main.proofs.WalkedLemmas.{both_none, not_none}
+use Rattle.station_main.proofs.WalkedLemmas.{both_empty, not_none}
 use Rattle.station_main.proofs.FoundLemmas.{Among}
 use Rattle.station_main.proofs.RunRowLemmas.{Fine, Good, IsNumber, fine_snoc, row_for, set_adds}
 
@@ -49,12 +49,12 @@ keeps_number : (id : Text) (most : ℕ) → ((r : Row) → IsNumber id most r �
     → Fine rows → Fine (used_as Set id WithoutMinus (v ∷ vs) rows)
 unfolding row_for
 keeps_number id most good v [] rows e f =
-    let parts = both_none (repeat_fault false id rows) (values_kinds false (Signed (pos 1) (pos most)) (v ∷ [])) e in
+    let parts = both_empty (repeat_fault false id rows) (values_kinds false (Signed (pos 1) (pos most)) (v ∷ [])) e in
     let none = not_repeated (has_row id rows) parts.0 in
-    let passes = accepted (is_signed_in (pos 1) (pos most) v) _ (both_none (value_kinds false (Signed (pos 1) (pos most)) v) [] parts.1).0 in
+    let passes = accepted (is_signed_in (pos 1) (pos most) v) _ (both_empty (value_kinds false (Signed (pos 1) (pos most)) v) [] parts.1).0 in
     subst Fine (sym (set_adds id WithoutMinus (v ∷ []) rows none)) (fine_snoc rows (row_for CommandLine id WithoutMinus (v ∷ [])) f (good (row_for CommandLine id WithoutMinus (v ∷ [])) (refl, refl, (v, refl, passes))))
 keeps_number id most good v (w ∷ vs) rows e f =
-    let counted = both_none (range_kinds 1 1 (length (v ∷ w ∷ vs))) (or_else (repeat_fault false id rows) (values_kinds false (Signed (pos 1) (pos most)) (v ∷ w ∷ vs))) e in
+    let counted = both_empty (range_kinds 1 1 (length (v ∷ w ∷ vs))) (or_else (repeat_fault false id rows) (values_kinds false (Signed (pos 1) (pos most)) (v ∷ w ∷ vs))) e in
     let one = exactly_one (length (v ∷ w ∷ vs)) counted.0 in
     absurd (omega (arith, one))
 
@@ -92,45 +92,45 @@ keeps_path : (values : List Text) (rows : List Row) → use_fault false (option 
 unfolding row_for
 keeps_path [] rows e f = absurd (not_none _ _ e)
 keeps_path (v ∷ vs) rows e f =
-    let counted = both_none (range_kinds 1 8 (length (v ∷ vs))) (set_fault false (option path) (v ∷ vs) rows) e in
+    let counted = both_empty (range_kinds 1 8 (length (v ∷ vs))) (set_fault false (option path) (v ∷ vs) rows) e in
     let few = at_most_eight (length (v ∷ vs)) counted.0 in
-    let parts = both_none (repeat_fault false (codes "path") rows) (values_fault (option path) (v ∷ vs)) counted.1 in
+    let parts = both_empty (repeat_fault false (codes "path") rows) (values_fault (option path) (v ∷ vs)) counted.1 in
     adds (codes "path") (v ∷ vs) rows parts.0 (inr (inr (inr (inl (refl, omega arith, few))))) f
 
 keeps_record : (values : List Text) (rows : List Row) → use_fault false (option record_file) values rows ≡ [] → Fine rows → Fine (used (option record_file) values rows)
 unfolding row_for
 keeps_record [] rows e f = absurd (not_none _ _ e)
 keeps_record (v ∷ vs) rows e f =
-    let counted = both_none (range_kinds 1 1 (length (v ∷ vs))) (set_fault false (option record_file) (v ∷ vs) rows) e in
-    let parts = both_none (repeat_fault false (codes "record") rows) (values_fault (option record_file) (v ∷ vs)) counted.1 in
+    let counted = both_empty (range_kinds 1 1 (length (v ∷ vs))) (set_fault false (option record_file) (v ∷ vs) rows) e in
+    let parts = both_empty (repeat_fault false (codes "record") rows) (values_fault (option record_file) (v ∷ vs)) counted.1 in
     adds (codes "record") (v ∷ vs) rows parts.0 (inr (inr (inr (inr (inl refl))))) f
 
 keeps_format : (names : FormatNames) (values : List Text) (rows : List Row) → use_fault false (option (format names)) values rows ≡ [] → Fine rows → Fine (used (option (format names)) values rows)
 unfolding row_for
 keeps_format names [] rows e f = absurd (not_none _ _ e)
 keeps_format names (v ∷ vs) rows e f =
-    let counted = both_none (range_kinds 1 1 (length (v ∷ vs))) (set_fault false (option (format names)) (v ∷ vs) rows) e in
-    let parts = both_none (repeat_fault false (codes "format") rows) (values_fault (option (format names)) (v ∷ vs)) counted.1 in
+    let counted = both_empty (range_kinds 1 1 (length (v ∷ vs))) (set_fault false (option (format names)) (v ∷ vs) rows) e in
+    let parts = both_empty (repeat_fault false (codes "format") rows) (values_fault (option (format names)) (v ∷ vs)) counted.1 in
     adds (codes "format") (v ∷ vs) rows parts.0 (inr (inr (inr (inr (inr (inl refl)))))) f
 
 keeps_json : (values : List Text) (rows : List Row) → use_fault false (option json_folder) values rows ≡ [] → Fine rows → Fine (used (option json_folder) values rows)
 unfolding row_for
 keeps_json [] rows e f = absurd (not_none _ _ e)
 keeps_json (v ∷ vs) rows e f =
-    let counted = both_none (range_kinds 1 1 (length (v ∷ vs))) (set_fault false (option json_folder) (v ∷ vs) rows) e in
-    let parts = both_none (repeat_fault false (codes "json") rows) (values_fault (option json_folder) (v ∷ vs)) counted.1 in
+    let counted = both_empty (range_kinds 1 1 (length (v ∷ vs))) (set_fault false (option json_folder) (v ∷ vs) rows) e in
+    let parts = both_empty (repeat_fault false (codes "json") rows) (values_fault (option json_folder) (v ∷ vs)) counted.1 in
     adds (codes "json") (v ∷ vs) rows parts.0 (inr (inr (inr (inr (inr (inr (inl refl))))))) f
 
 keeps_reopen : (values : List Text) (rows : List Row) → use_fault false (option reopen) values rows ≡ [] → Fine rows → Fine (used (option reopen) values rows)
 unfolding row_for
 keeps_reopen [] rows e f =
-    adds (codes "reopen") (codes "true" ∷ []) rows (both_none (repeat_fault false (codes "reopen") rows) (values_fault (option reopen) (codes "true" ∷ [])) e).0 (inr (inr (inr (inr (inr (inr (inr (refl, refl, inl refl)))))))) f
+    adds (codes "reopen") (codes "true" ∷ []) rows (both_empty (repeat_fault false (codes "reopen") rows) (values_fault (option reopen) (codes "true" ∷ [])) e).0 (inr (inr (inr (inr (inr (inr (inr (refl, refl, inl refl)))))))) f
 keeps_reopen (v ∷ vs) rows e f =
-    let none = no_value (length (v ∷ vs)) (both_none (range_kinds 0 0 (length (v ∷ vs))) (set_fault false (option reopen) (v ∷ vs) rows) e).0 in
+    let none = no_value (length (v ∷ vs)) (both_empty (range_kinds 0 0 (length (v ∷ vs))) (set_fault false (option reopen) (v ∷ vs) rows) e).0 in
     absurd (omega (arith, none))
 
 keeps_help : (values : List Text) (rows : List Row) → use_fault false help_flag values rows ≡ [] → Fine rows → Fine (used help_flag values rows)
-keeps_help values rows e f = absurd (not_none _ _ (both_none (range_kinds 0 0 (length values)) (kind.DisplayHelp ∷ []) e).1)
+keeps_help values rows e f = absurd (not_none _ _ (both_empty (range_kinds 0 0 (length values)) (kind.DisplayHelp ∷ []) e).1)
 
 abbrev pub run_rules : FormatNames → List Rule
 run_rules names = (option every) ∷ (option tick) ∷ option (format names) ∷ (option json_folder) ∷ (option rounds) ∷ (option reopen) ∷ (option record_file) ∷ (option path) ∷ help_flag ∷ []

@@ -12,9 +12,9 @@ use Rattle.clap.specs.declared.error.kind.ErrorKind.TheVariants as kind
 pub not_none : (k : ErrorKind) (ks : Kinds) → k ∷ ks ≡ [] → ⊥
 not_none k ks e = let bad : suc (length ks) ≡ 0 = ap length e in absurd (omega arith)
 
-pub both_none : (a b : Kinds) → or_else a b ≡ [] → (a ≡ []) × (b ≡ [])
-both_none [] b e = (refl, e)
-both_none (k ∷ ks) b e = absurd (not_none k ks e)
+pub both_empty : (a b : Kinds) → or_else a b ≡ [] → (a ≡ []) × (b ≡ [])
+both_empty [] b e = (refl, e)
+both_empty (k ∷ ks) b e = absurd (not_none k ks e)
 
 -- the rule is one that a search in the list finds
 abbrev pub Found : List Rule → Rule → Type 0
@@ -40,7 +40,7 @@ module _ (s : Shape) (P : List Row → Type 0) (keeps : Keeps s.rules s.args_ove
 
   reacts : (a : Rule) → Found s.rules a → (values : List Text) (h : Held) → react_fault s.rules s.args_override_self a values h ≡ [] → P h.rows → P (reacted s.rules a values h).rows
   reacts a found values h e p =
-      let parts = both_none (settle_fault s.rules s.args_override_self h) (use_fault s.args_override_self a values (settled s.rules h).rows) e in
+      let parts = both_empty (settle_fault s.rules s.args_override_self h) (use_fault s.args_override_self a values (settled s.rules h).rows) e in
       keeps a values (settled s.rules h).rows found parts.1 (settles h parts.0 p)
 
   options : (a : Rule) → Found s.rules a → (v : Option Text) (h : Held) → option_fault s.rules s.args_override_self a v h ≡ [] → P h.rows → P (option_met s.rules a v h).0.rows
@@ -65,7 +65,7 @@ module _ (s : Shape) (P : List Row → Type 0) (keeps : Keeps s.rules s.args_ove
       → P h.rows → P (if b then option_met s.rules a (attached_value rest) h else bundle_met s.rules k rest 0 done (reacted s.rules a [] h)).0.rows
   short_or_option true k rest a found h others e p = options a found (attached_value rest) h e p
   short_or_option false k rest a found h others e p =
-      let parts = both_none (react_fault s.rules s.args_override_self a [] h) (flags_fault s.rules s.args_override_self k rest 0 (reacted s.rules a [] h)) e in
+      let parts = both_empty (react_fault s.rules s.args_override_self a [] h) (flags_fault s.rules s.args_override_self k rest 0 (reacted s.rules a [] h)) e in
       others done (reacted s.rules a [] h) parts.1 (reacts a found [] h parts.0 p)
 
   shorts : (o : Option Rule) (k : ℕ) (rest : Text) (test : Rule → Bool) → find test s.rules ≡ o → (h : Held)
@@ -156,7 +156,7 @@ module _ (s : Shape) (P : List Row → Type 0) (keeps : Keeps s.rules s.args_ove
   turns_from (Some q) names w word e p = p
   turns_from None names w word e p =
       let met = word_met s.rules names w.is_trailing w.waiting w.position word w.held in
-      let parts = both_none (word_fault s names w.is_trailing w.waiting word w.held) (step_fault s w.position met.0 met.1) e in
+      let parts = both_empty (word_fault s names w.is_trailing w.waiting word w.held) (step_fault s w.position met.0 met.1) e in
       after_steps met.1 word w met.0 parts.1 (words_met w.is_trailing names w.waiting w.position word w.held parts.0 p)
 
   turns : (names : Names) (w : Walk) (word : Text) → turn_fault s names w word ≡ [] → P w.held.rows → P (walked s.rules names w word).held.rows
@@ -167,5 +167,5 @@ module _ (s : Shape) (P : List Row → Type 0) (keeps : Keeps s.rules s.args_ove
   unfolding walk_fault
   walks names w [] e p = p
   walks names w (word ∷ rest) e p =
-      let parts = both_none (turn_fault s names w word) (walk_fault s names (walked s.rules names w word) rest) e in
+      let parts = both_empty (turn_fault s names w word) (walk_fault s names (walked s.rules names w word) rest) e in
       walks names (walked s.rules names w word) rest parts.1 (turns names w word parts.0 p)
