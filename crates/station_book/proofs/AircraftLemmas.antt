@@ -1,7 +1,7 @@
 -- One aircraft: its track shows what a search finds, before and after each entry.
 use Rattle.std.proofs.Common.{◌≡◌, ℕ, ◌-◌, ◌<◌, Bool, true, false, List, ◌∷◌, Option, Some, None, refl, ap, ◌∙◌, arith, nat_le, if◌then◌else◌, unwrap_or}
 use Rattle.std.proofs.lemmas.Bool.Decides.{nat_tests}
-use Rattle.station_journal.proofs.Common.{Frame, clock, fix_from, fresh, pair_ms, speaks_for, live, stamp, or_older, newest, newest_fix, fix_by, partner, pair_with, place_of, sighting_of, callsign_of, even_place_of, odd_place_of, altitude_of, squawk_of, velocity_of, vertical_of, IsTimed, blank, updated_track}
+use Rattle.station_journal.proofs.Common.{AgreeFrom, Frame, clock, fix_from, fresh, pair_ms, speaks_for, live, stamp, or_older, newest, newest_fix, fix_by, partner, pair_with, place_of, sighting_of, callsign_of, even_place_of, odd_place_of, altitude_of, squawk_of, velocity_of, vertical_of, IsTimed, blank, updated_track}
 use Rattle.modes_fields.specs.declared.place.Place.{Place}
 use Rattle.modes_fields.specs.Carried.{fields_of}
 use Rattle.station_journal.specs.declared.entry.Entry.{Entry}
@@ -10,7 +10,7 @@ use Rattle.station_journal.proofs.FreshLemmas.{fresh_none_below, agree_later, ag
 use Rattle.station_journal.proofs.RecentSoundLemmas.{old_later}
 use Rattle.station_journal.proofs.SearchLemmas.{newest_old, newest_fix_old, heard_by_newest}
 use Rattle.station_journal.specs.declared.tracks.Track.{Track}
-use Rattle.station_book.proofs.Common.{AgreeFrom, Tracks, TracksAt}
+use Rattle.station_book.proofs.Common.{Tracks, TracksAt}
 
 -- the values of a track show what a search finds, now and later
 pub record Serves (base : ℕ) (past : List Entry) (a : ℕ) (track : Track) : Type 0 where

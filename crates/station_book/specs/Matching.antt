@@ -1,8 +1,7 @@
 -- When a book and a list of entries match: first of each aircraft, and then of the whole.
-use Rattle.std.specs.Prelude.{◌≡◌, ℕ, ◌≤◌, true, false, List, [], ◌∷◌, Option, Some, None, length, reverse}
+use Rattle.std.specs.Prelude.{◌≡◌, ℕ, true, false, List, [], ◌∷◌, Option, Some, None, length, reverse}
 use Rattle.station_journal.specs.declared.entry.Entry.{Entry}
-use Rattle.station_journal.specs.declared.aircraft.Stamped.{Stamped}
-use Rattle.station_journal.specs.Past.{clock, live, fresh, newest, newest_fix, sighting_of, callsign_of, even_place_of, odd_place_of, life_ms, pair_ms}
+use Rattle.station_journal.specs.Past.{AgreeFrom, clock, live, newest, newest_fix, sighting_of, callsign_of, even_place_of, odd_place_of, life_ms, pair_ms}
 use Rattle.station_journal.specs.Table.{altitude_of, squawk_of, velocity_of, vertical_of, table, placed_table}
 use Rattle.station_journal.specs.Repeats.{first_heard}
 use Rattle.station_journal.specs.Resume.{Sound}
@@ -11,10 +10,6 @@ use Rattle.station_journal.specs.declared.tracks.Track.{Track}
 use Rattle.station_book.specs.Call.{call_of}
 use Rattle.station_book.specs.Tracks.{find_track, Rising}
 use Rattle.station_book.specs.State.{BookState, rows, placed_rows, starting, applied_book, book_tick_refusal, book_refusal}
-
--- both values show the same at each time from now on, by this limit of age
-abbrev pub AgreeFrom : {V : Type 0} → ℕ → ℕ → Option (Stamped V) → Option (Stamped V) → Type 0
-AgreeFrom limit now kept found = (later : ℕ) → now ≤ later → fresh limit later kept ≡ fresh limit later found
 
 -- the track shows of an aircraft what a search finds, now and later
 pub record Tracks (base : ℕ) (past : List Entry) (a : ℕ) (track : Track) : Type 0 where

@@ -4,7 +4,7 @@ pub use Rattle.station_journal.specs.Forgetting.{ForgetsOld, recent_log}
 pub use Rattle.station_journal.specs.Found.{best_after, best_claim, first, found_in, from_on, is_live_from, is_recent, live_from, lower_of}
 pub use Rattle.station_journal.specs.Log.{IsLegal, Log, clock_of, empty_log, most_entries, past_of, placed_of, refusal_of, table_of, with_entry}
 pub use Rattle.station_journal.specs.Newest.{FindsNewest, FindsNewestPosition, GivesPosition, IsNewest, IsNewestPosition, IsPlacedAt, NonePairs, NoneReads, other_place_of}
-pub use Rattle.station_journal.specs.Past.{Frame, IsTimed, callsign_of, clock, even_place_of, fix_by, fresh, fresh_moment, heard_within, is_claim_of, live, newest, newest_fix, odd_place_of, or_older, pair_with, pair_ms, partner, place_of, read_for, sighting_of, speaks_for, stamp}
+pub use Rattle.station_journal.specs.Past.{AgreeFrom, Frame, IsTimed, callsign_of, clock, even_place_of, fix_by, fresh, fresh_moment, heard_within, is_claim_of, live, newest, newest_fix, odd_place_of, or_older, pair_with, pair_ms, partner, place_of, read_for, sighting_of, speaks_for, stamp}
 pub use Rattle.station_journal.specs.Repeats.{first_heard, heard_since_tick, is_one_of, is_repeated, most_looked_at, same_frame, with_heard}
 pub use Rattle.station_journal.specs.Resume.{ClaimFits, Enters, Fits, IsAssigned, IsOther, IsPlain, IsSound, IsUnsoundAt, LegalFrom, NoneFull, Refuses, Sound, StandsFor, left_at, left_of, moment, past_after, recent_at, recent_base, recent_of, replies}
 pub use Rattle.station_journal.specs.Rising.{AllOver, IsRising}

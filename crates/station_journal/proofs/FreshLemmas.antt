@@ -1,11 +1,7 @@
 -- Values with their times: how they age, and when two show the same from some time on.
 use Rattle.std.proofs.Common.{◌≡◌, ℕ, ◌+◌, ◌-◌, ◌≤◌, Option, Some, None, refl, sym, arith}
 use Rattle.std.proofs.lemmas.Bool.Decides.{nat_tests}
-use Rattle.station_journal.proofs.Common.{Stamped, or_older, fresh, fresh_moment}
-
--- both show the same at each time from now on
-abbrev pub AgreeFrom : {V : Type 0} → ℕ → ℕ → Option (Stamped V) → Option (Stamped V) → Type 0
-AgreeFrom limit now kept found = (later : ℕ) → now ≤ later → fresh limit later kept ≡ fresh limit later found
+use Rattle.station_journal.proofs.Common.{Stamped, or_older, fresh, fresh_moment, AgreeFrom}
 
 module _ {V : Type 0} where
   -- a value that is too old stays too old
