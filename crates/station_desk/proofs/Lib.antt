@@ -1,5 +1,6 @@
 pub mod Common
 pub mod HistoryLemmas
+pub mod PenLemmas
 pub mod DeskLemmas
 pub mod EndingLemmas
 pub mod FrontLemmas
