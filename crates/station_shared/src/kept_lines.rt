@@ -5,9 +5,9 @@ use station_lines::ParsedLine;
 use std::marker::Model;
 
 // The most lines that are kept.
-const MAX_LINES: usize = 4096;
+const MAX_LINES: usize = 6144;
 
-/// Up to 4,096 lines of a receiver, with the claims of their frames. Contracts see the lines.
+/// Up to 6,144 lines of a receiver, with the claims of their frames. Contracts see the lines.
 #[derive(Drop)]
 pub(crate) struct KeptLines {
     lines: [ParsedLine; MAX_LINES],
@@ -22,7 +22,7 @@ impl Model for KeptLines {
 
     ghost view = { λ k. take k.count k.lines };
 
-    ghost invariant = { λ k. (k.count ≤ 4096) × (length k.lines ≡ 4096) };
+    ghost invariant = { λ k. (k.count ≤ 6144) × (length k.lines ≡ 6144) };
 }
 
 impl KeptLines {
@@ -47,14 +47,14 @@ impl KeptLines {
     /// How many lines it has.
     pub(crate) fn count(&self) -> usize
         ensures value { result ≡ length self.now }
-        ensures most { result ≤ 4096 }
+        ensures most { result ≤ 6144 }
     {
         self.count
     }
 
     /// Whether it can't have another line.
     pub(crate) fn is_full(&self) -> bool
-        ensures { IsTrue result ↔ (4096 ≤ length self.now) }
+        ensures { IsTrue result ↔ (6144 ≤ length self.now) }
     {
         self.count == MAX_LINES
     }
@@ -62,7 +62,7 @@ impl KeptLines {
     /// Appends a line.
     #[inline(always)]
     pub(crate) fn push(&mut self, line: &ParsedLine)
-        requires { length self.old < 4096 }
+        requires { length self.old < 6144 }
         ensures { self.new ≡ self.old ++ line.now ∷ [] }
     {
         self.lines[self.count] = *line;

@@ -20,7 +20,7 @@ impl StationName for Brand {
     ghost seats = { 0 };
 
     ghost start = { record {
-      history = record { book = record { number = 0; log_name = 0; cells_name = 0 }; root = [] };
+      history = record { book = record { number = 0; log_name = 0; cells_name = 0 }; names = [] };
       limits = record { entries = 0; aircraft = 0 };
       resumed = 0;
     } };
