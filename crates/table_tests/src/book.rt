@@ -2,6 +2,7 @@
 
 ghost use Rattle.std.specs.Prelude.{◌≡◌};
 
+mod copies;
 mod lists;
 mod positions;
 mod repeats;
