@@ -49,6 +49,7 @@ where
     ghost small: { N ≤ most_aircraft },
     ghost front: { publisher.desk.shown.value.front ≡ history },
     ghost spare: { publisher.desk.spare.value.book ≡ publisher.desk.shown.value.book },
+    ghost origin: { publisher.desk.spare.value.origin ≡ publisher.desk.shown.value.origin },
     ghost idle: { drop publisher.behind publisher.log.items ≡ [] },
 }
 

@@ -63,12 +63,12 @@ fn renew<const N: usize>(
     call: &Call,
     next: NextCopy,
 )
+    requires { copy.old.origin ≡ shown.now.origin }
     ensures { sheet_of copy.new ≡ next_sheet shown.now copy.old call.now next }
 {
     bring_up(&mut copy.book, &shown.book, next.missing_change);
     copy.book.offer_call(call);
     copy.front = next.front;
-    copy.origin = shown.origin;
 }
 
 /// Brings the spare copy up to date, applies the call to it, and shows it. It waits for those that still read the copy,
@@ -79,8 +79,9 @@ pub(crate) fn turn_in_place<const N: usize, R: Wait>(
     call: &Call,
     next: NextCopy,
 )
-    requires { Follows N (sheet_of publisher.old.desk.shown.value)
+    requires follows { Follows N (sheet_of publisher.old.desk.shown.value)
         (next_sheet publisher.old.desk.shown.value publisher.old.desk.spare.value call.now next) }
+    requires origin { publisher.old.desk.spare.value.origin ≡ publisher.old.desk.shown.value.origin }
     ensures shown { sheet_of publisher.new.desk.shown.value
         ≡ next_sheet publisher.old.desk.shown.value publisher.old.desk.spare.value call.now next }
     ensures spare { publisher.new.desk.spare.value ≡ publisher.old.desk.shown.value }
@@ -93,8 +94,9 @@ pub(crate) fn turn_in_place<const N: usize, R: Wait>(
         &mut publisher.desk,
         (rt, call, next),
         |desk, parts: (&R, &Call, NextCopy)| -> (_, ())
-            requires { Follows N (sheet_of desk.shown.value)
+            requires follows { Follows N (sheet_of desk.shown.value)
                 (next_sheet desk.shown.value desk.spare.value parts.1.now parts.2) }
+            requires origin { desk.spare.value.origin ≡ desk.shown.value.origin }
             ensures shown { sheet_of result.0.shown.value
                 ≡ next_sheet desk.entry.shown.value desk.entry.spare.value parts.entry.1.now parts.entry.2 }
             ensures spare { result.0.spare.value ≡ desk.entry.shown.value }
@@ -174,16 +176,19 @@ fn show_spare<const N: usize, R: Wait>(rt: &R, publisher: Publisher<N>) -> Publi
     publisher
 }
 
-// Makes the spare copy's book that of the shown one, once nobody reads it.
+// Makes the spare copy's book and origin those of the shown one, once nobody reads it.
 fn copy_shown<const N: usize, R: Wait>(rt: &R, publisher: Publisher<N>) -> Publisher<N>
     ensures shown { result.desk.shown ≡ publisher.entry.desk.shown }
     ensures view { view result.desk.place ≡ view publisher.entry.desk.place }
-    ensures spare { result.desk.spare.value.book ≡ publisher.entry.desk.shown.value.book }
+    ensures spare { (result.desk.spare.value.book ≡ publisher.entry.desk.shown.value.book)
+        × (result.desk.spare.value.origin ≡ publisher.entry.desk.shown.value.origin) }
     ensures pending { drop result.behind result.log.items ≡ drop publisher.entry.behind publisher.entry.log.items }
 {
     let mut publisher = publisher;
     let (open, mut spare) = publisher.desk.open(rt);
-    spare.book.copy_from(&open.shown.get().book);
+    let shown = open.shown.get();
+    spare.book.copy_from(&shown.book);
+    spare.origin = shown.origin;
     publisher.desk = open.shelve(spare);
     publisher
 }
@@ -205,7 +210,8 @@ pub(crate) fn begin<const N: usize, R: Wait>(
     ensures shown { IfOk result (λ p. sheet_of p.desk.shown.value
         ≡ sheet (book_after base entries.now) front (Some origin)) }
     ensures matched { IfOk result (λ p. Matches N base p.desk.shown.value.book entries.now) }
-    ensures spare { IfOk result (λ p. p.desk.spare.value.book ≡ p.desk.shown.value.book) }
+    ensures spare { IfOk result (λ p. (p.desk.spare.value.book ≡ p.desk.shown.value.book)
+        × (p.desk.spare.value.origin ≡ p.desk.shown.value.origin)) }
     ensures view { IfOk result (λ p. view p.desk.place
         ≡ Some (record { front = front; origin = origin })) }
     ensures pending { IfOk result (λ p. drop p.behind p.log.items ≡ drop publisher.entry.behind publisher.entry.log.items) }
