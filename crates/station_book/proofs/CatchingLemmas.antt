@@ -1,18 +1,17 @@
 -- A book that copies what a call changed equals the one that applied the call.
-use Rattle.std.proofs.Common.{◌≡◌, ℕ, ℤ, Bool, true, false, if◌then◌else◌, List, [], ◌∷◌, ◌++◌, length, Option, Some, Result, Ok, Err, is_some, refl, ap, ◌∙◌, subst, arith, nat_lt, not, ◌&&◌}
-use Rattle.modes_frame.specs.Claims.{claim_of, is_unassigned, is_squitter_frame}
+use Rattle.std.proofs.Common.{◌≡◌, ℕ, Bool, true, false, if◌then◌else◌, List, [], ◌∷◌, ◌++◌, length, Option, Some, Result, Ok, Err, refl, ◌∙◌, subst, arith, nat_lt, not, ◌&&◌}
+use Rattle.modes_frame.specs.Claims.{claim_of, is_unassigned}
 use Rattle.std.proofs.lemmas.Bool.Decides.{nat_tests}
 use Rattle.std.proofs.lemmas.List.{append-nil, drop-append-le, drop_all}
 use Rattle.modes_frame.specs.declared.claims.Claim.{Claim}
 use Rattle.modes_frame.specs.declared.claims.CheckFault.{CheckFault}
 use Rattle.station_journal.proofs.Common.{updated_track, Frame, most_looked_at, with_heard}
 use Rattle.station_journal.specs.declared.tracks.Track.{Track as Kept}
-use Rattle.station_book.proofs.Common.{Call, Tick, Heard, claim_change, change_of, BookState, applied_book, caught_up, claim_fits, fits, with_frame_ahead, find_track, put_track, surveyed, track_or_blank, with_surveillance, with_track, has_place}
+use Rattle.station_book.proofs.Common.{Call, Tick, Heard, claim_change, change_of, BookState, applied_book, caught_up, claim_fits, fits, with_frame_ahead, find_track, put_track, track_or_blank, with_track, has_place}
 use Rattle.station_book.specs.declared.call.Change.{Change}
-use Rattle.station_book.specs.declared.call.Change.TheVariants.{Clock, Track, Surveillance}
-use Rattle.modes_fields.specs.Carried.{fields_of, no_fields, has_ac, has_id}
-use Rattle.modes_fields.specs.declared.fields.Fields.{Fields}
-use Rattle.station_book.proofs.TrackLemmas.{find_put, find_put_as, found_address}
+use Rattle.station_book.specs.declared.call.Change.TheVariants.{Clock, Track}
+use Rattle.modes_fields.specs.Carried.{fields_of}
+use Rattle.station_book.proofs.TrackLemmas.{find_put_as, found_address}
 
 place_from_fit : (unassigned place : Bool) → not unassigned && place ≡ true → place ≡ true
 place_from_fit true place fit = cc
@@ -24,42 +23,6 @@ copied : (n a : ℕ) (track : Kept) (tracks : List Kept) → track.address ≡ a
 copied n a track tracks named place =
     let found : find_track a (put_track track tracks) ≡ Some track = find_put_as a a track tracks named ∙ grind (arith, nat_tests) in
     rw (found, named, place) refl
-
--- no more than an altitude and a squawk
-abbrev SurveillanceAlone : Fields → Type 0
-SurveillanceAlone fields = fields ≡ record no_fields { altitude = fields.altitude; squawk = fields.squawk }
-
--- a frame that is no squitter carries no more than these
-alone : (frame : Frame) → is_squitter_frame frame ≡ false → SurveillanceAlone (fields_of frame)
-unfolding fields_of
-alone frame other = rw other (by_format (has_ac frame) (has_id frame) _ _)
-  where
-    by_format : (ac id : Bool) (altitude : Option ℤ) (squawk : Option ℕ) →
-        SurveillanceAlone (if ac then record no_fields { altitude = altitude } else if id then record no_fields { squawk = squawk } else no_fields)
-    by_format true id altitude squawk = refl
-    by_format false true altitude squawk = refl
-    by_format false false altitude squawk = refl
-
--- such a frame changes no more than the time, the altitude and the squawk
-updated_alone : (now : ℕ) (fields : Fields) (track : Kept) → SurveillanceAlone fields → surveyed (updated_track now fields track) track ≡ updated_track now fields track
-updated_alone now fields track is = rw is refl
-
--- a copy of the time, the altitude and the squawk of the track that was put gives the same tracks
-surveyed_own : (n : ℕ) (track : Kept) (tracks : List Kept) → surveyed track (track_or_blank track.address tracks) ≡ track → has_place n track.address tracks ≡ true →
-    with_surveillance n (find_track track.address (put_track track tracks)) tracks ≡ put_track track tracks
-surveyed_own n track tracks same place =
-    let found : find_track track.address (put_track track tracks) ≡ Some track = find_put track.address track tracks ∙ grind (arith, nat_tests) in
-    rw found (by_known (is_some (find_track track.address tracks)) (with_track n (Some track) tracks) (rw place refl))
-  where
-    by_known : (known : Bool) (put : List Kept) → put ≡ put_track track tracks →
-        (if known then put_track (surveyed track (track_or_blank track.address tracks)) tracks else put) ≡ put_track track tracks
-    by_known true put is = ap (λ t. put_track t tracks) same
-    by_known false put is = is
-
-surveyed_copy : (n a : ℕ) (track : Kept) (tracks : List Kept) → track.address ≡ a → surveyed track (track_or_blank a tracks) ≡ track → has_place n a tracks ≡ true →
-    with_surveillance n (find_track a (put_track track tracks)) tracks ≡ put_track track tracks
-surveyed_copy n a track tracks named = subst (λ x. surveyed track (track_or_blank x tracks) ≡ track → has_place n x tracks ≡ true →
-    with_surveillance n (find_track x (put_track track tracks)) tracks ≡ put_track track tracks) named (surveyed_own n track tracks)
 
 -- a copy of the frame that was added gives the same frames, and of none where there were 256
 frame_copied : (frame : Frame) (frames : List Frame) → with_frame_ahead (with_heard frame frames) frames ≡ with_heard frame frames
@@ -73,27 +36,21 @@ frame_copied frame frames = by_room (nat_lt (length frames) most_looked_at) refl
 Brings : ℕ → BookState → Call → Option Change → Type 0
 Brings n book call found = (change : Change) × (found ≡ Some change) × (caught_up n (applied_book book call) change book ≡ applied_book book call)
 
-by_claim : (n : ℕ) (book : BookState) (frame : Frame) (squitter : Bool) (claim : Result Claim CheckFault) → is_squitter_frame frame ≡ squitter → claim_of frame ≡ claim → claim_fits n book claim ≡ true →
-    Brings n book (Heard frame) (claim_change squitter claim)
+by_claim : (n : ℕ) (book : BookState) (frame : Frame) (claim : Result Claim CheckFault) → claim_of frame ≡ claim → claim_fits n book claim ≡ true →
+    Brings n book (Heard frame) (claim_change claim)
 unfolding Brings
-by_claim n book frame squitter (Err fault) kind is fit = cc
-by_claim n book frame true (Ok claim) kind is fit =
+by_claim n book frame (Err fault) is fit = cc
+by_claim n book frame (Ok claim) is fit =
     let a = claim.address in
     let place = place_from_fit (is_unassigned a) _ fit in
     let tracks = copied n a (updated_track book.moment (fields_of frame) (track_or_blank a book.tracks)) book.tracks (found_address a book.tracks) place in
     (Track a, refl, rw (is, tracks, frame_copied frame book.first_frames) refl)
-by_claim n book frame false (Ok claim) kind is fit =
-    let a = claim.address in
-    let place = place_from_fit (is_unassigned a) _ fit in
-    let own = track_or_blank a book.tracks in
-    let tracks = surveyed_copy n a (updated_track book.moment (fields_of frame) own) book.tracks (found_address a book.tracks) (updated_alone book.moment (fields_of frame) own (alone frame kind)) place in
-    (Surveillance a, refl, rw (is, tracks, frame_copied frame book.first_frames) refl)
 
 pub brings : (n : ℕ) (book : BookState) (call : Call) → fits n book call ≡ true →
     (change : Change) × (change_of call ≡ Some change) × (caught_up n (applied_book book call) change book ≡ applied_book book call)
 unfolding Brings
 brings n book (Tick at) fit = (Clock, refl, refl)
-brings n book (Heard frame) fit = by_claim n book frame (is_squitter_frame frame) (claim_of frame) refl refl fit
+brings n book (Heard frame) fit = by_claim n book frame (claim_of frame) refl fit
 
 -- the book that copies a change equals the one that applied the call
 pub catches_up : (n : ℕ) (book : BookState) (call : Call) (change : Change) → fits n book call ≡ true → change_of call ≡ Some change →

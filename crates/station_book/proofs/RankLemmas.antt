@@ -10,7 +10,7 @@ use Rattle.std.proofs.lemmas.List.{length-map}
 use Rattle.station_journal.specs.Rising.{AllOver, IsRising}
 use Rattle.station_journal.proofs.Common.{blank, updated_track}
 use Rattle.station_journal.specs.declared.tracks.Track.{Track}
-use Rattle.station_book.proofs.Common.{find_track, put_track, surveyed, track_or_blank, address_of, Rising, IsRank, StandsAt, with_track}
+use Rattle.station_book.proofs.Common.{find_track, put_track, track_or_blank, address_of, Rising, IsRank, StandsAt, with_track}
 use Rattle.station_book.proofs.TrackLemmas.{find_below, found_address}
 
 -- a slice that is written back whole
@@ -120,13 +120,6 @@ update_there a i now fields xs d place =
     let stood : get_or xs i d ≡ track_or_blank a xs = ap (λ o. unwrap_or o (blank a)) (sym (slice_get-get_or xs i d place.0) ∙ place.1) in
     let address : (updated_track now fields (get_or xs i d)).address ≡ a = ap address_of stood ∙ found_address a xs in
     place.2 (updated_track now fields (get_or xs i d)) address ∙ ap (λ t. put_track (updated_track now fields t) xs) stood
-
--- a copy of the time, the altitude and the squawk to the track at its place is a put
-pub survey_there : (i : ℕ) (ahead : Track) (xs : List Track) (d : Track) → StandsAt xs ahead.address (Ok i) → set xs i (surveyed ahead (get_or xs i d)) ≡ put_track (surveyed ahead (track_or_blank ahead.address xs)) xs
-survey_there i ahead xs d place =
-    let stood : get_or xs i d ≡ track_or_blank ahead.address xs = ap (λ o. unwrap_or o (blank ahead.address)) (sym (slice_get-get_or xs i d place.0) ∙ place.1) in
-    let address : (surveyed ahead (get_or xs i d)).address ≡ ahead.address = ap address_of stood ∙ found_address ahead.address xs in
-    place.2 (surveyed ahead (get_or xs i d)) address ∙ ap (λ t. put_track (surveyed ahead t) xs) stood
 
 -- the track at the place of an address has that address
 pub stands_there : (a i : ℕ) (xs : List Track) (d : Track) → StandsAt xs a (Ok i) → (get_or xs i d).address ≡ a

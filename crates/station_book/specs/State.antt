@@ -16,7 +16,7 @@ use Rattle.station_journal.specs.declared.tracks.Track.{Track}
 use Rattle.station_book.specs.declared.call.Change.{Change}
 use Rattle.station_book.specs.declared.call.Change.TheVariants as change
 use Rattle.station_journal.specs.Track.{track_row, track_placed}
-use Rattle.station_book.specs.Tracks.{find_track, tracks_left, with_claimed, has_place, with_track, with_surveillance}
+use Rattle.station_book.specs.Tracks.{find_track, tracks_left, with_claimed, has_place, with_track}
 
 -- the clock, the number of entries taken, the track of each live aircraft, and the first frames since the newest tick
 pub record BookState : Type 0 where
@@ -97,11 +97,5 @@ caught_up n ahead (change.Track a) book = record {
   moment = ahead.moment;
   entries = ahead.entries;
   tracks = with_track n (find_track a ahead.tracks) book.tracks;
-  first_frames = with_frame_ahead ahead.first_frames book.first_frames;
-}
-caught_up n ahead (change.Surveillance a) book = record {
-  moment = ahead.moment;
-  entries = ahead.entries;
-  tracks = with_surveillance n (find_track a ahead.tracks) book.tracks;
   first_frames = with_frame_ahead ahead.first_frames book.first_frames;
 }

@@ -41,18 +41,6 @@ abbrev pub with_track : ℕ → Option Track → List Track → List Track
 with_track n None tracks = tracks
 with_track n (Some track) tracks = if has_place n track.address tracks then put_track track tracks else tracks
 
--- the track with the time, the altitude and the squawk of another
-abbrev pub surveyed : Track → Track → Track
-surveyed ahead track = record track { heard = ahead.heard; altitude = ahead.altitude; squawk = ahead.squawk }
-
--- the tracks, at most n, with the time, the altitude and the squawk of this one in the track of its address. Where there
--- is none, with this one in its place, if there is one for it
-abbrev pub with_surveillance : ℕ → Option Track → List Track → List Track
-with_surveillance n None tracks = tracks
-with_surveillance n (Some track) tracks =
-    if is_some (find_track track.address tracks) then put_track (surveyed track (track_or_blank track.address tracks)) tracks
-    else with_track n (Some track) tracks
-
 -- all addresses are greater than a
 abbrev pub AllAbove : ℕ → List Track → Type 0
 AllAbove a [] = Unit {0}

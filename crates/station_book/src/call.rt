@@ -4,7 +4,6 @@ ghost use Rattle.std.specs.Prelude.{◌≡◌};
 ghost use Rattle.station_book.specs.Call.{call_of, entry_of, change_of};
 
 use modes_frame::CheckedFrame;
-use modes_frame::readers::is_squitter;
 use station_journal::Entry;
 
 /// An entry without its seat.
@@ -23,8 +22,6 @@ pub enum Change {
     Clock,
     /// The track of this address.
     Track(u32),
-    /// The time, the altitude and the squawk in the track of this address.
-    Surveillance(u32),
 }
 
 impl Call {
@@ -52,16 +49,14 @@ impl Call {
         }
     }
 
-    /// What the call changes in a book that takes it. A frame without a claim changes nothing. Only a squitter carries
-    /// more than an altitude or a squawk.
+    /// What the call changes in a book that takes it. A frame without a claim changes nothing.
     pub fn change(&self) -> Option<Change>
         ensures { result ≡ change_of self.now }
     {
         match self {
             Call::Tick(_) => Some(Change::Clock),
             Call::Heard(heard) => match heard.claim() {
-                Ok(claim) if is_squitter(heard.frame()) => Some(Change::Track(claim.address)),
-                Ok(claim) => Some(Change::Surveillance(claim.address)),
+                Ok(claim) => Some(Change::Track(claim.address)),
                 Err(_) => None,
             },
         }

@@ -4,7 +4,7 @@ ghost use Rattle.std.specs.Prelude.{◌≡◌, IsTrue, Ok, ◌<◌, ◌≤◌, �
 ghost use Rattle.station_journal.specs.Rising.{IsRising};
 ghost use Rattle.modes_fields.specs.Carried.{fields_of};
 ghost use Rattle.station_journal.specs.Track.{updated_track};
-ghost use Rattle.station_book.specs.Tracks.{find_track, put_track, surveyed, with_track, with_surveillance, tracks_left, track_or_blank};
+ghost use Rattle.station_book.specs.Tracks.{find_track, put_track, with_track, tracks_left, track_or_blank};
 ghost use Rattle.station_book.specs.Tracks.{address_of, IsRank, StandsAt, HeardFrom};
 
 use crate::copying::copy_list;
@@ -152,30 +152,6 @@ impl<const N: usize> Table<N> {
         }
     }
 
-    /// Copies the time, the altitude and the squawk of the address from another table, if it has the address. Where there
-    /// is no track of it here, copies the whole track, if there is a place for it.
-    pub fn copy_surveillance(&mut self, others: &Table<N>, address: u32)
-        ensures { self.new ≡ with_surveillance N (find_track address others.now) self.old }
-    {
-        if let Ok(rank) = others.locate(address) {
-            let ahead = others.track(rank);
-            match self.locate(ahead.address) {
-                Ok(place) => self.renew(place, ahead),
-                Err(_) => self.put(ahead),
-            }
-        }
-    }
-
-    // Copies the time, the altitude and the squawk to the track at this place, which is of the same address.
-    fn renew(&mut self, place: usize, ahead: &Track)
-        requires { StandsAt self.old ahead.now.address (Ok place) }
-        ensures { self.new ≡ put_track (surveyed ahead.now (track_or_blank ahead.now.address self.old)) self.old }
-    {
-        self.oldest = self.oldest.min(ahead.heard);
-        self.hints[ahead.address as usize % HINTS] = u16::try_from(place).unwrap_or(0);
-        survey(&mut self.tracks[place], ahead);
-    }
-
     /// Becomes a copy of another table.
     pub fn copy_from(&mut self, other: &Table<N>)
         ensures { self.new ≡ other.now }
@@ -217,15 +193,6 @@ impl<const N: usize> Table<N> {
             self.oldest = oldest_of(self.tracks.as_slice());
         }
     }
-}
-
-// Copies the time, the altitude and the squawk of a track that is ahead.
-fn survey(track: &mut Track, ahead: &Track)
-    ensures { track.new ≡ surveyed ahead.now track.old }
-{
-    track.heard = ahead.heard;
-    track.altitude = ahead.altitude;
-    track.squawk = ahead.squawk;
 }
 
 // The number of the rising addresses below this one.

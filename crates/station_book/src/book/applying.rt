@@ -102,11 +102,12 @@ impl<const N: usize> Book<N> {
         self.clock = ahead.clock;
         self.count = ahead.count;
         match change {
-            Change::Clock => return self.sweep(ahead.clock),
-            Change::Track(address) => self.table.copy_track(&ahead.table, address),
-            Change::Surveillance(address) => self.table.copy_surveillance(&ahead.table, address),
+            Change::Clock => self.sweep(ahead.clock),
+            Change::Track(address) => {
+                self.table.copy_track(&ahead.table, address);
+                self.first_frames.catch_up(&ahead.first_frames);
+            }
         }
-        self.first_frames.catch_up(&ahead.first_frames);
     }
 
     /// Becomes a copy of another book.

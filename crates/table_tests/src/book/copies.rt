@@ -5,7 +5,7 @@ use crate::calls::Call::{Hear, Tick};
 use crate::calls::entry;
 use crate::comparing::{same, same_at};
 use crate::known::{ALL_CALL, EVEN, IDENTIFICATION, IDENTITY, LOW, ODD, SHORT_AIR, SPEED};
-use station_book::{Book, Call, Change};
+use station_book::Book;
 use station_journal::{PlacedRows, Rows};
 use std::process::Abort;
 use std::test::Fail;
@@ -50,25 +50,5 @@ fn a_copy_catches_up_with_each_kind_of_frame(rt: HostRuntime) -> Result<(), Fail
     );
     let low = copy.get(0x510AF9).ok_or("no aircraft")?;
     same(&rt, low.altitude, None);
-    Ok(())
-}
-
-// A frame that is no squitter changes no more than the time, the altitude and the squawk.
-#[test]
-fn what_a_frame_changes_is_by_its_kind(rt: HostRuntime) -> Result<(), Fail> {
-    for (bytes, change) in [
-        (IDENTIFICATION, Change::Track(0x4840D6)),
-        (SPEED, Change::Track(0x485020)),
-        (SHORT_AIR, Change::Surveillance(0x4840D6)),
-        (ALL_CALL, Change::Surveillance(0x510AF9)),
-        (IDENTITY, Change::Surveillance(0x510AF9)),
-    ] {
-        same(&rt, Call::of(&entry(Hear(bytes))?).change(), Some(change));
-    }
-    same(
-        &rt,
-        Call::of(&entry(Tick(1))?).change(),
-        Some(Change::Clock),
-    );
     Ok(())
 }
