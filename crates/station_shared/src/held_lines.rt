@@ -20,7 +20,7 @@ use station_lines::pumping::stop_after;
 use station_lines::{ParsedLine, Tally};
 use std::sync::{MutexGuard, Wait};
 
-// Feeds a frame. PassesView the limit that it meets.
+// Feeds a frame, and notes the limit that it meets.
 fn feed<const N: usize, L: StationName, R: Wait>(
     rt: &R,
     flags: &LimitFlags,

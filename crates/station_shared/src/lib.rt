@@ -5,7 +5,6 @@ pub mod close;
 mod counted_desk;
 mod held_lines;
 mod held_pump;
-mod kept_lines;
 pub mod limits_met;
 pub mod look;
 mod receipt;

@@ -31,7 +31,7 @@ impl LimitFlags {
         }
     }
 
-    // PassesView the limit for which a call was refused so, if it was for one.
+    // Notes the limit for which a call was refused so, if it was for one.
     pub(crate) fn note(&self, refusal: Refusal) {
         match FullLimit::of(refusal) {
             Some(FullLimit::Journal) => self.journal.store(true, SeqCst),
