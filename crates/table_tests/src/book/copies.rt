@@ -2,16 +2,17 @@
 
 use crate::book::repeats::give_change;
 use crate::calls::Call::{Hear, Tick};
-use crate::calls::entry;
+use crate::calls::{entry, frame};
 use crate::comparing::{same, same_at};
 use crate::known::{ALL_CALL, EVEN, IDENTIFICATION, IDENTITY, LOW, ODD, SHORT_AIR, SPEED};
+use modes_frame::remainder;
 use station_book::Book;
-use station_journal::{PlacedRows, Rows};
+use station_journal::{Entry, PlacedRows, Rows};
 use std::process::Abort;
 use std::test::Fail;
 
 // Both books show the same rows, with the same times of their positions.
-fn same_table(rt: &impl Abort, shown: &Book<4>, copy: &Book<4>, place: usize) {
+fn same_table<const N: usize>(rt: &impl Abort, shown: &Book<N>, copy: &Book<N>, place: usize) {
     same_at(rt, copy.len(), shown.len(), place);
     for i in 0..shown.len().min(copy.len()) {
         same_at(rt, copy.row(i), shown.row(i), place);
@@ -50,5 +51,42 @@ fn a_copy_catches_up_with_each_kind_of_frame(rt: HostRuntime) -> Result<(), Fail
     );
     let low = copy.get(0x510AF9).ok_or("no aircraft")?;
     same(&rt, low.altitude, None);
+    Ok(())
+}
+
+// A short frame that begins with these four bytes. Its parity has the address overlaid.
+fn short_frame(first: [u8; 4], address: u32) -> Result<Entry, Fail> {
+    let [format, high, middle, low] = first;
+    let unaddressed = frame(&[format, high, middle, low, 0, 0, 0])?;
+    let [_, first, second, third] = (remainder(&unaddressed) ^ address).to_be_bytes();
+    let frame = frame(&[format, high, middle, low, first, second, third])?;
+    Ok(Entry::Heard { seat: 0, frame })
+}
+
+// The `i`th address, of 512 that come in no order and have the same low 15 bits.
+fn address_of(i: u16) -> u32 {
+    u32::from(i) * 37 % 512 * 0x8000 + 5
+}
+
+#[test]
+fn a_copy_of_a_full_table_catches_up(rt: HostRuntime) -> Result<(), Fail> {
+    let mut shown = Book::<512>::new();
+    let mut copy = Book::<512>::new();
+    for i in 0..512 {
+        let [_, high, middle, low] = address_of(i).to_be_bytes();
+        let all_call = short_frame([0x5D, high, middle, low], 0)?;
+        give_change(&mut shown, &mut copy, &all_call);
+    }
+    same_table(&rt, &shown, &copy, 512);
+    for i in 0..512 {
+        let identity = short_frame([0x28, 0, 0x1F, (i % 256) as u8], address_of(i))?;
+        give_change(&mut shown, &mut copy, &identity);
+    }
+    same_table(&rt, &shown, &copy, 1024);
+    same(&rt, (copy.len(), copy.entries()), (512, 1024));
+    for i in 0..512 {
+        let row = copy.get(address_of(i)).ok_or("no aircraft")?;
+        same(&rt, row.squawk.is_some(), true);
+    }
     Ok(())
 }

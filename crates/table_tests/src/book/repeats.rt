@@ -74,7 +74,7 @@ fn frames_with_the_same_last_bits_are_told_apart(rt: HostRuntime) -> Result<(), 
 }
 
 // Gives the entry to the first, and what it changed to the second.
-pub fn give_change(shown: &mut Book<4>, spare: &mut Book<4>, entry: &Entry) {
+pub fn give_change<const N: usize>(shown: &mut Book<N>, spare: &mut Book<N>, entry: &Entry) {
     let before = shown.entries();
     shown.offer(entry);
     if let Some(change) = Call::of(entry).change() {
