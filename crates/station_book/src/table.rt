@@ -131,7 +131,7 @@ impl<const N: usize> Table<N> {
         self.oldest = self.oldest.min(now);
         match place {
             Ok(rank) => {
-                self.hints[address as usize % HINTS] = u16::try_from(rank).unwrap_or(0);
+                note_place(&mut self.hints, address, rank);
                 update(&mut self.tracks[rank], now, frame);
             }
             Err(rank) => {
@@ -173,7 +173,7 @@ impl<const N: usize> Table<N> {
         self.oldest = self.oldest.min(track.heard);
         match place {
             Ok(rank) => {
-                self.hints[track.address as usize % HINTS] = u16::try_from(rank).unwrap_or(0);
+                note_place(&mut self.hints, track.address, rank);
                 self.tracks[rank] = *track;
             }
             Err(rank) => {
@@ -192,6 +192,15 @@ impl<const N: usize> Table<N> {
             set_addresses(&mut self.addresses, self.tracks.as_slice());
             self.oldest = oldest_of(self.tracks.as_slice());
         }
+    }
+}
+
+// Notes the place of an address. What stays the same isn't written, so other processors keep it near.
+fn note_place(hints: &mut [u16; HINTS], address: u32, rank: usize) {
+    let place = u16::try_from(rank).unwrap_or(0);
+    let hint = &mut hints[address as usize % HINTS];
+    if *hint != place {
+        *hint = place;
     }
 }
 

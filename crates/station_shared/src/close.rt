@@ -39,7 +39,9 @@ impl<const N: usize, L: StationName> Station<N, L> {
     /// Drops a station that isn't closed, with its journal.
     pub fn end<R: Wait>(self, rt: &R) {
         let Station {
+            alloc: _,
             locked,
+            turns: _,
             seats: _count,
             flags: _,
         } = self;
@@ -73,7 +75,9 @@ impl<const N: usize, L: StationName> Station<N, L> {
         }
         let accepted = by_number(seats.as_slice(), self.seats);
         let Station {
+            alloc: _,
             locked,
+            turns: _,
             seats: _count,
             flags: _,
         } = self;

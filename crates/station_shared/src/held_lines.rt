@@ -15,10 +15,10 @@ use crate::station::Station;
 use crate::station_name::StationName;
 use modes_frame::CheckedFrame;
 use station_book::Call;
-use station_journal::{NoMemory, Refusal};
+use station_journal::{Entry, NoMemory, Refusal};
 use station_lines::pumping::stop_after;
 use station_lines::{ParsedLine, Tally};
-use std::sync::{MutexGuard, Wait};
+use std::sync::Wait;
 
 // Feeds a frame, and notes the limit that it meets.
 fn feed<const N: usize, L: StationName, R: Wait>(
@@ -109,13 +109,15 @@ fn take_parsed<const N: usize, L: StationName, R: Wait>(
     Ok(())
 }
 
-// Takes lines one after another, and keeps the lock meanwhile. Without lines it doesn't take the lock.
+// Takes lines one after another, and keeps the lock meanwhile. Without lines it doesn't take the lock. The page is used
+// where the journal has no room for an entry of each line.
 pub(crate) fn take_held<const N: usize, L: StationName, R: Wait>(
     rt: &R,
     station: &Station<N, L>,
     seat: &mut Seat<N, L>,
     tally: &mut Tally,
     ahead: &[ParsedLine],
+    page: &mut Option<Vec<Entry>>,
 ) -> Result<(), NoMemory>
     requires room { tally.old.lines + length ahead.now < 2 ^ 64 }
     ensures lines { tally.new.lines ≤ tally.old.lines + length ahead.now }
@@ -127,9 +129,10 @@ pub(crate) fn take_held<const N: usize, L: StationName, R: Wait>(
     if ahead.is_empty() {
         return Ok(());
     }
-    let mut desk = station.locked.lock(rt);
+    let mut desk = station.turns.lock(rt, &station.locked);
+    desk.take_page(page, ahead.len());
     desk.confirm_prefix(seat);
     let taken = take_parsed(rt, &station.flags, &mut *desk, seat, tally, ahead);
-    MutexGuard::unlock(desk);
+    station.turns.free(desk);
     taken
 }

@@ -13,6 +13,7 @@ mod seat_account;
 pub mod seat_feed;
 pub mod station;
 pub mod station_name;
+mod turns;
 pub mod worker;
 
 pub use close::{Closed, Missing};
