@@ -65,9 +65,11 @@ long syscall(long number, ...)
     for (int i = 0; i < 6; i++) a[i] = va_arg(list, long);
     va_end(list);
     int is_sleep = number == SYS_futex && (a[1] & FUTEX_CMD_MASK) != FUTEX_WAKE;
-    /* The reporter alone pauses, for at most 50 ms at a time. A wait for the lock has no end time. */
+    /* The reporter pauses for at most 50 ms at a time. Its wait for the lock has no end time. Receivers sleep for the lock for
+     * 0.1 ms at a time, which is not counted. */
     const struct timespec *longest = (const struct timespec *)a[3];
-    int is_pause = is_sleep && longest && longest->tv_sec == 0, is_wait = is_sleep && !is_pause;
+    int has_end = is_sleep && longest && longest->tv_sec == 0, is_wait = is_sleep && !has_end;
+    int is_pause = has_end && longest->tv_nsec != 100000;
     is_reporter |= is_pause;
     if (is_pause) step();
     int64_t begun = is_wait ? now() : 0;
