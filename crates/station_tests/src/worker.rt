@@ -1,6 +1,7 @@
 //! Receivers that feed their lines at the same time.
 ghost use Rattle.std.specs.Prelude.{◌≡◌};
 
+mod eight;
 mod long;
 mod refused;
 mod torn;
@@ -24,7 +25,7 @@ const IDENTIFICATION: &'static [u8] = b"*8D4840D6202CC371C32CE0576098;\n";
 const VELOCITY: &'static [u8] = b"*8D485020994409940838175B284F;\n";
 
 // The tally of blank lines, and of lines with frames by their answers.
-fn tally(blank: u16, accepted: u8, refused: u8) -> Tally {
+fn tally(blank: u16, accepted: u16, refused: u8) -> Tally {
     let (accepted, refused) = (u64::from(accepted), u64::from(refused));
     Tally {
         lines: u64::from(blank) + accepted + refused,

@@ -1,5 +1,6 @@
 //! Worked examples of a journal, with the values that are known for them.
 
+mod paged;
 mod resumed;
 mod stories;
 
