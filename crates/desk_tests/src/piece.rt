@@ -11,7 +11,9 @@ use std::test::*;
 
 const BYTES: [u8; 3000] = [b'\n'; 3000];
 
-// Counts the lines of each piece, of up to 8, and of the end.
+const MORE: [u8; 200_000] = [b'\n'; 200_000];
+
+// Counts the lines before each time that it settles, of up to 8.
 #[derive(Drop)]
 struct Lengths {
     count: usize,
@@ -51,7 +53,7 @@ impl LineTaker for Lengths {
     ghost then = { λ _ _ _ _ _ _ _ _. tt };
 }
 
-// The source ends so in this many turns, and its pieces and its end have so many lines.
+// The source ends so in this many turns, with so many lines before each settling.
 fn gathers<S: Source>(rt: &impl Abort, from: &mut S, turns: u32, end: Ended<()>, pieces: &[usize]) {
     let mut taker = Lengths {
         count: 0,
@@ -73,6 +75,21 @@ fn reads_go_on_while_bytes_are_at_hand(rt: HostRuntime) -> Result<(), Fail> {
     ] {
         let reader = BufReader::with_capacity(rt.alloc(), 2048, BYTES.as_slice())?;
         gathers(&rt, &mut FromBuffer::new(reader), turns, end, pieces);
+    }
+    Ok(())
+}
+
+// More than one piece is at hand. They end with the turns.
+#[test]
+fn lines_are_kept_while_bytes_are_at_hand(rt: HostRuntime) -> Result<(), Fail> {
+    for (turns, end, lines) in [
+        (256, Ended::TurnsOver, [131_072].as_slice()),
+        (300, Ended::TurnsOver, &[153_600]),
+        (391, Ended::TurnsOver, &[200_000]),
+        (999, Ended::AtEnd, &[200_000, 0, 0]),
+    ] {
+        let reader = BufReader::with_capacity(rt.alloc(), 300_000, MORE.as_slice())?;
+        gathers(&rt, &mut FromBuffer::new(reader), turns, end, lines);
     }
     Ok(())
 }

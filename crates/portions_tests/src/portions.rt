@@ -82,6 +82,29 @@ fn a_line_begun_before_a_hand_over_is_given_after_it(rt: HostRuntime) -> Result<
 }
 
 #[test]
+fn lines_that_were_sent_meanwhile_are_at_hand(rt: HostRuntime) -> Result<(), Fail> {
+    let alloc = rt.alloc();
+    let (reader, mut portions, _) = connect(&rt, alloc)?;
+    let script = Script {
+        rt,
+        parts: &[b"*one;\n", b"*two;\n"],
+        next: 0,
+        is_released: Arc::new(alloc, AtomicBool::new(true))?,
+    };
+    reader.start(&rt, rt, script)?.join(&rt);
+    let mut line = [0u8; 6];
+    holds(&rt, !portions.is_at_hand());
+    holds(&rt, portions.read(&mut line) == Ok(6));
+    same(&rt, &line, b"*one;\n");
+    holds(&rt, portions.is_at_hand());
+    holds(&rt, portions.read(&mut line) == Ok(6));
+    same(&rt, &line, b"*two;\n");
+    holds(&rt, !portions.is_at_hand());
+    holds(&rt, portions.end() == Some(PathEnd::AtEnd));
+    Ok(())
+}
+
+#[test]
 fn a_hand_over_doesn_t_wait_for_a_silent_path(rt: HostRuntime) -> Result<(), Fail> {
     let alloc = rt.alloc();
     let is_released = Arc::new(alloc, AtomicBool::new(false))?;

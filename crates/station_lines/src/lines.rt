@@ -1,5 +1,5 @@
 //! What takes lines one after another, and the loops that give it the lines of a source.
-ghost use Rattle.std.specs.Prelude.{◌≡◌, ℕ, ◌+◌, ◌^◌, ◌<◌, ◌≤◌, List, length, take, OnOk};
+ghost use Rattle.std.specs.Prelude.{◌≡◌, ℕ, ◌+◌, ◌^◌, ◌<◌, ◌≤◌, ◌⊎◌, List, length, take, true, OnOk};
 ghost use Rattle.std.specs.Option.{option_to_list};
 ghost use Rattle.modes_frame.specs.Lines.{pending};
 ghost use Rattle.station_lines.specs.Drawing.{TakesBytes, TakesEach, TakesLast, Taken, ended_by, ending_as, stopped_as};
@@ -140,15 +140,22 @@ fn take_each<T: LineTaker>(taker: &mut T, cutter: &mut Cutter, bytes: &[u8]) -> 
     Ok(())
 }
 
-// Takes the lines that end in `bytes`, and those that it kept.
-fn take_piece<T: LineTaker>(taker: &mut T, cutter: &mut Cutter, bytes: &[u8]) -> Result<(), T::Stop>
+// Takes the lines that end in `bytes`, and those that it kept, unless further bytes are at hand and `left` turns for them.
+fn take_piece<T: LineTaker, S: Source>(
+    taker: &mut T,
+    cutter: &mut Cutter,
+    bytes: &[u8],
+    from: &S,
+    left: u32,
+) -> Result<(), T::Stop>
     requires room { T.counted taker.old + length bytes.now < 2 ^ 64 }
     ensures counted { T.counted taker.new ≤ T.counted taker.old + length bytes.now }
-    ensures settled { OnOk result (T.is_settled taker.new) }
+    ensures settled { OnOk result (T.is_settled taker.new ⊎ ((0 < left) × ((S.state from.now).at_hand ≡ true))) }
     ensures taken { (before : List ℕ) → cutter.old ≡ pending before →
         TakesBytes T.took before bytes.now cutter.new taker.old taker.new result }
 {
     match take_each(taker, cutter, bytes) {
+        Ok(()) if left > 0 && from.is_at_hand() => Ok(()),
         Ok(()) => taker.settle(),
         Err(stop) => Err(stop),
     }
@@ -180,8 +187,8 @@ fn after_the_last<E>(stopped: Result<(), E>) -> Ended<E>
 /// Takes the lines of a source, in order, by at most `turns` reads of up to 512 bytes each. It ends at the end of the
 /// source, whose last line may lack its line feed. Where it ends before that, a line that hasn't ended is dropped.
 ///
-/// The bytes of several reads are one piece where they are at hand. It settles after each piece and at the end, so no line is
-/// kept while a read waits.
+/// The bytes of several reads are one piece where they are at hand. It settles at the end, and before a read for which no
+/// bytes are at hand, so no line is kept while a read waits.
 pub fn take_lines<T: LineTaker, S: Source>(
     taker: &mut T,
     from: &mut S,
@@ -202,7 +209,7 @@ pub fn take_lines<T: LineTaker, S: Source>(
             Err(_) => return Ended::ReadFailed,
         };
         left -= read.reads;
-        match take_piece(taker, &mut cutter, piece.as_slice()) {
+        match take_piece(taker, &mut cutter, piece.as_slice(), from, left) {
             Ok(()) => {}
             Err(stop) => return Ended::Stopped(stop),
         }

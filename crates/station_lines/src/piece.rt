@@ -75,6 +75,7 @@ impl Piece {
         ensures ok { IfOk result (λ g.
             Gathers (S.state from.old) (S.state from.new) turns (piece_bytes self.new) g.reads g.is_over) }
         ensures err { OnErr result (FailsOnce (S.state from.old) (S.state from.new)) }
+        ensures at_hand { (S.state from.old).at_hand ≡ true → is_ok result ≡ true }
     {
         self.count = 0;
         let mut count = self.read_more(from)?;

@@ -50,11 +50,12 @@ fn give(batch: &Option<Batch>, at: &mut usize, buffer: &mut [u8]) -> usize
     count
 }
 
-// Waits for the next message. `None` where a hand-over is requested.
+// The next message, for which it may wait. `None` where there is none yet, or a hand-over is requested.
 fn next_message<R: Wait>(
     rt: &R,
     hand_over: &HandOver,
     messages: &mut Consumer<Message>,
+    may_wait: bool,
 ) -> Option<Message>
     ensures ring { SameConsumer messages.old messages.new }
     ensures some { IfSome result (λ m. received messages.new ≡ received messages.old ++ m ∷ []) }
@@ -66,6 +67,9 @@ fn next_message<R: Wait>(
         }
         if let Ok(message) = messages.pop() {
             return Some(message);
+        }
+        if !may_wait {
+            return None;
         }
         hand_over.await_message(rt);
     }
@@ -87,8 +91,8 @@ impl<R: Wait> Portions<'_, R> {
     ghost use Rattle.rtrb.specs.Ring.{SameConsumer};
     ghost use Rattle.station_portions.specs.Giving.{given_bytes, state_of, taken_messages, ungiven_bytes};
 
-    // Takes the next message, unless a hand-over is requested.
-    fn refill(&mut self)
+    // Takes the next message, unless a hand-over is requested. Where there is none yet, it may wait for one.
+    fn refill(&mut self, may_wait: bool)
         requires { ungiven_bytes self.old ≡ [] }
         ensures given { given_bytes self.new ≡ given_bytes self.old }
         ensures ring { SameConsumer self.old.messages self.new.messages }
@@ -103,7 +107,7 @@ impl<R: Wait> Portions<'_, R> {
         }
         let emptied = self.batch.take();
         give_back(&self.hand_over, &mut self.emptied, emptied);
-        match next_message(self.rt, &self.hand_over, &mut self.messages) {
+        match next_message(self.rt, &self.hand_over, &mut self.messages, may_wait) {
             None => {}
             Some(Message::Lines(batch)) => {
                 self.batch = Some(batch);
@@ -240,7 +244,7 @@ impl<R: Wait> Source for Portions<'_, R> {
     {
         self.reads = self.reads.saturating_add(1);
         if !self.has_bytes() && !buffer.is_empty() {
-            self.refill();
+            self.refill(true);
         }
         if !self.has_bytes() && self.end == Some(PathEnd::ReadFailed) {
             self.failures = self.failures.saturating_add(1);
@@ -249,6 +253,10 @@ impl<R: Wait> Source for Portions<'_, R> {
         let count = self.give_some(buffer);
         if count == 0 && !buffer.is_empty() {
             self.ends = self.ends.saturating_add(1);
+        }
+        if count > 0 && !self.has_bytes() {
+            // What was received since is at hand then.
+            self.refill(false);
         }
         Ok(count)
     }

@@ -1,4 +1,4 @@
-use Rattle.std.proofs.Common.{◌≡◌, ◌+◌, ◌≤◌, ◌-◌, refl, sym, arith}
+use Rattle.std.proofs.Common.{◌≡◌, ◌+◌, ◌≤◌, ◌-◌, inl, refl, sym, arith}
 use Rattle.station_lines.proofs.DrawingLemmas.{GivenSoFar-none, GivenSoFar-piece, Taken-read, Taken-turns, Taken-stop, Taken-end, ended-settled}
 use Rattle.station_lines.proofs.lines.take_lines.Goals as goal
 
@@ -6,7 +6,7 @@ pub loop-left-init : goal.loop-left-init
 loop-left-init g c = record {
   within = omega arith;
   room = omega (arith, c.requires.new);
-  settled = c.requires.settled;
+  settled = inl c.requires.settled;
   so_far = GivenSoFar-none g.T.LineTaker.took _ _ _ _ (omega arith) (g.met.T.LineTaker.none _) c.new-cutter.ensures;
 }
 

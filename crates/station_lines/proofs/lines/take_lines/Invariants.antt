@@ -1,9 +1,9 @@
-use Rattle.std.proofs.Common.{◌*◌, ◌-◌, ◌≤◌, false}
+use Rattle.std.proofs.Common.{◌≡◌, ◌*◌, ◌-◌, ◌<◌, ◌≤◌, ◌⊎◌, false, true}
 use Rattle.station_lines.specs.Source.{longest_piece}
 use Rattle.station_lines.proofs.DrawingLemmas.{GivenSoFar}
 use Rattle.station_lines.proofs.lines.take_lines.Given as goal
 
--- the lines that the bytes so far ended were taken, none is kept, and no read failed or found the end
+-- the lines that the bytes so far ended were taken, none is kept where a read may wait, and no read failed or found the end
 abbrev pub invariant-loop-left : goal.invariant-loop-left
 invariant-loop-left g l =
     let S = g.S.Source in
@@ -11,7 +11,7 @@ invariant-loop-left g l =
     record {
       within : l.left ≤ l.fn.turns;
       room : T.counted l.taker ≤ longest_piece * (l.fn.turns - l.left);
-      settled : T.is_settled l.taker;
+      settled : T.is_settled l.taker ⊎ ((0 < l.left) × ((S.state l.from).at_hand ≡ true));
       so_far : GivenSoFar T.took (S.state l.fn.from) (S.state l.from) (l.fn.turns - l.left) false l.cutter l.fn.taker l.taker;
     }
 
