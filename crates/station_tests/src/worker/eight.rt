@@ -17,14 +17,17 @@ use std::process::Abort;
 use std::sync::Wait;
 use std::thread::Threads;
 
-// How many lines each receiver reads.
-const LINES: u16 = 6_000;
+// How many lines each receiver reads: more than are kept at once.
+const LINES: u16 = 10_000;
 
 // As many frames are compared for repeats after a tick.
 const COMPARED: u16 = 256;
 
 // The bytes of a line with a long frame, with its line feed.
 const WIDTH: usize = 31;
+
+// The bytes that a receiver has at hand at once: more than all its lines, and so more than a piece.
+const AT_HAND: usize = 3 * PIECE;
 
 // The lines of the receivers, by the numbers of their seats.
 const LINES_OF: [&'static str; 8] = [
@@ -62,7 +65,7 @@ fn source(rt: &impl Abort, alloc: Global, line: &'static str) -> FromBuffer<Repe
         line: line.as_bytes(),
         left: usize::from(LINES),
     };
-    let buffered = BufReader::with_capacity(alloc, PIECE, repeated);
+    let buffered = BufReader::with_capacity(alloc, AT_HAND, repeated);
     FromBuffer::new(buffered.expect(rt, "memory"))
 }
 
@@ -126,7 +129,7 @@ fn has_all<R: Abort>(rt: &R, alloc: Global, journal: &Journal) {
         push(rt, &mut frames, read_frame(rt, line));
     }
     let entries = journal.entries();
-    same(rt, entries.len(), 48_256);
+    same(rt, entries.len(), 80_256);
     for place in usize::from(COMPARED)..entries.len() {
         same_at(
             rt,
@@ -149,7 +152,9 @@ fn fill_pages<L: StationName + Send + Sync, R: Threads + Wait + Abort + Sync>(rt
     push(rt, &mut seats, last);
     match station.close(rt, seats) {
         Ok(closed) => {
-            let counts = [6_000, 6_000, 6_000, 6_000, 6_000, 6_000, 6_000, 6_000, 256];
+            let counts = [
+                10_000, 10_000, 10_000, 10_000, 10_000, 10_000, 10_000, 10_000, 256,
+            ];
             same(rt, closed.accepted.as_slice(), counts.as_slice());
             has_all(rt, alloc, &closed.journal);
         }
@@ -159,5 +164,5 @@ fn fill_pages<L: StationName + Send + Sync, R: Threads + Wait + Abort + Sync>(rt
 
 #[test]
 fn eight_receivers_fill_several_pages(rt: HostRuntime) {
-    fill_pages::<Brand, _>(&rt, Site::new(&rt, rt.alloc(), 50_000, 9, 1));
+    fill_pages::<Brand, _>(&rt, Site::new(&rt, rt.alloc(), 90_000, 9, 1));
 }
