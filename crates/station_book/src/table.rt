@@ -1,9 +1,9 @@
 //! The tracks of the live aircraft, by rising address.
 
-ghost use Rattle.std.specs.Prelude.{◌≡◌, IsTrue, Ok, ◌<◌, ◌≤◌, ◌==◌, List, [], length, map, slice_get, None, Some};
+ghost use Rattle.std.specs.Prelude.{◌≡◌, IsTrue, Err, Ok, ◌<◌, ◌≤◌, ◌==◌, List, [], length, map, slice_get, None, Some};
 ghost use Rattle.station_journal.specs.Rising.{IsRising};
 ghost use Rattle.modes_fields.specs.Carried.{fields_of};
-ghost use Rattle.station_journal.specs.Track.{updated_track};
+ghost use Rattle.station_journal.specs.Track.{blank, updated_track};
 ghost use Rattle.station_book.specs.Tracks.{find_track, put_track, with_track, tracks_left, track_or_blank};
 ghost use Rattle.station_book.specs.Tracks.{address_of, IsRank, StandsAt, HeardFrom};
 
@@ -94,6 +94,18 @@ impl<const N: usize> Table<N> {
         }
     }
 
+    // As `locate`, where the track is looked for at this place first.
+    #[inline(always)]
+    fn locate_near(&self, near: usize, address: u32) -> Result<usize, usize>
+        ensures { StandsAt self.now address result }
+    {
+        if self.stands_at(near, address) {
+            Ok(near)
+        } else {
+            self.locate(address)
+        }
+    }
+
     // Whether the track of the address is at the place.
     fn stands_at(&self, place: usize, address: u32) -> bool
         ensures { IsTrue result → StandsAt self.now address (Ok place) }
@@ -128,19 +140,38 @@ impl<const N: usize> Table<N> {
         requires room { find_track address self.old ≡ None → length self.old < N }
         ensures { self.new ≡ put_track (updated_track now (fields_of frame.now) (track_or_blank address self.old)) self.old }
     {
-        self.oldest = self.oldest.min(now);
         match place {
             Ok(rank) => {
+                self.oldest = self.oldest.min(now);
                 note_place(&mut self.hints, address, rank);
                 update(&mut self.tracks[rank], now, frame);
             }
-            Err(rank) => {
-                let mut track = blank(address);
-                update(&mut track, now, frame);
-                self.addresses.insert(rank, address);
-                self.tracks.insert(rank, track);
-            }
+            Err(rank) => self.hear_first(rank, now, address, frame),
         }
+    }
+
+    // Inserts a track of the address, which has none and would have this place, with what a frame carries.
+    #[inline(never)]
+    fn hear_first(&mut self, rank: usize, now: u64, address: u32, frame: &Frame)
+        requires place { StandsAt self.old address (Err rank) }
+        requires room { length self.old < N }
+        ensures { self.new ≡ put_track (updated_track now (fields_of frame.now) (blank address)) self.old }
+    {
+        let mut track = blank(address);
+        update(&mut track, now, frame);
+        self.insert(rank, &track);
+    }
+
+    // Inserts a track, whose address has none yet and would have this place.
+    #[inline(never)]
+    fn insert(&mut self, rank: usize, track: &Track)
+        requires place { StandsAt self.old track.now.address (Err rank) }
+        requires room { length self.old < N }
+        ensures { self.new ≡ put_track track.now self.old }
+    {
+        self.oldest = self.oldest.min(track.heard);
+        self.addresses.insert(rank, track.address);
+        self.tracks.insert(rank, *track);
     }
 
     /// Copies the track of the address from another table, if it has one and there is a place for it here.
@@ -148,7 +179,7 @@ impl<const N: usize> Table<N> {
         ensures { self.new ≡ with_track N (find_track address others.now) self.old }
     {
         if let Ok(rank) = others.locate(address) {
-            self.put(others.track(rank));
+            self.put(others.track(rank), rank);
         }
     }
 
@@ -162,24 +193,20 @@ impl<const N: usize> Table<N> {
         self.hints = other.hints;
     }
 
-    // Puts the track in its place, if there is one for it.
-    fn put(&mut self, track: &Track)
+    // Puts the track in its place, if there is one for it. It is looked for at the place `near` first.
+    fn put(&mut self, track: &Track, near: usize)
         ensures { self.new ≡ with_track N (Some track.now) self.old }
     {
-        let place = self.locate(track.address);
+        let place = self.locate_near(near, track.address);
         if place.is_err() && self.is_full() {
             return;
         }
-        self.oldest = self.oldest.min(track.heard);
         match place {
             Ok(rank) => {
-                note_place(&mut self.hints, track.address, rank);
+                self.oldest = self.oldest.min(track.heard);
                 self.tracks[rank] = *track;
             }
-            Err(rank) => {
-                self.addresses.insert(rank, track.address);
-                self.tracks.insert(rank, *track);
-            }
+            Err(rank) => self.insert(rank, track),
         }
     }
 

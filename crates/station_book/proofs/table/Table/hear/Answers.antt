@@ -1,10 +1,10 @@
-use Rattle.std.proofs.Common.{◌≡◌, ◌≤◌, Ok, Err, refl, ap, sym, ◌∙◌, set, get_or, length, arith, length-set}
-use Rattle.std.specs.List.{insert, refill}
+use Rattle.std.proofs.Common.{◌≡◌, ◌≤◌, Ok, refl, sym, ◌∙◌, set, get_or, length, arith, length-set}
+use Rattle.std.specs.List.{refill}
 use Rattle.modes_fields.specs.Carried.{fields_of}
-use Rattle.station_journal.specs.Track.{blank, updated_track}
+use Rattle.station_journal.specs.Track.{updated_track}
 use Rattle.station_book.specs.Tracks.{StandsAt}
 use Rattle.station_book.proofs.TrackLemmas.{rising_put}
-use Rattle.station_book.proofs.RankLemmas.{refill_same, map_set, map_insert, update_there}
+use Rattle.station_book.proofs.RankLemmas.{refill_same, map_set, update_there}
 use Rattle.station_book.proofs.HeardLemmas.{heard_earlier, heard_put}
 use Rattle.station_book.proofs.table.Table.hear.Goals as goal
 
@@ -24,23 +24,6 @@ invariant_of-self g c =
       rising = rw put (rising_put _ tracks c.self.invariant.rising);
       addresses = c.self.invariant.addresses ∙ sym (map_set t tracks i stood place.0 refl);
       oldest = rw put (heard_put c.min-self-inside.result _ tracks now (heard_earlier c.min-self-inside.result c.self.inside.oldest tracks before c.self.invariant.oldest));
-    })
-
-pub invariant_of-self-in-Err : goal.invariant_of-self-in-Err
-invariant_of-self-in-Err g c =
-    let tracks = c.self.inside.tracks.items in
-    let i = c.in-Err.rank in
-    let place : StandsAt tracks c.args.address (Err i) = rw (c.in-Err.is, ← c.self.view_is) at c.requires.place in
-    let t = updated_track c.args.now (fields_of c.args.frame.now) (blank c.args.address) in
-    let is : c.update-in-Err.new.track ≡ t = c.update-in-Err.ensures ∙ ap (updated_track c.args.now (fields_of c.args.frame.now)) c.blank-track.ensures in
-    let whole : c.insert-in-Err.new.self.items ≡ insert tracks i t = c.insert-in-Err.ensures.items ∙ ap (insert tracks i) is in
-    let put = place.2 t refl in
-    let before : c.min-self-inside.result ≤ c.self.inside.oldest = grind (arith, c.min-self-inside.ensures) in
-    let now : c.min-self-inside.result ≤ c.args.now = grind (arith, c.min-self-inside.ensures) in
-    rw whole (record {
-      rising = rw put (rising_put t tracks c.self.invariant.rising);
-      addresses = c.insert.ensures.items ∙ ap (λ addresses. insert addresses i c.args.address) c.self.invariant.addresses ∙ sym (map_insert t tracks i);
-      oldest = rw put (heard_put c.min-self-inside.result t tracks now (heard_earlier c.min-self-inside.result c.self.inside.oldest tracks before c.self.invariant.oldest));
     })
 
 pub returns-in-Ok : goal.returns-in-Ok

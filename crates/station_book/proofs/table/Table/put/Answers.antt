@@ -1,8 +1,8 @@
-use Rattle.std.proofs.Common.{◌≡◌, ◌≤◌, Ok, Err, refl, ap, sym, ◌∙◌, set, length, arith, length-set}
-use Rattle.std.specs.List.{insert, refill}
+use Rattle.std.proofs.Common.{◌≡◌, ◌≤◌, Ok, refl, sym, ◌∙◌, set, length, arith, length-set}
+use Rattle.std.specs.List.{refill}
 use Rattle.station_book.specs.Tracks.{StandsAt}
 use Rattle.station_book.proofs.TrackLemmas.{rising_put}
-use Rattle.station_book.proofs.RankLemmas.{refill_same, map_set, map_insert, stands_there, copy_there}
+use Rattle.station_book.proofs.RankLemmas.{refill_same, map_set, stands_there, copy_there}
 use Rattle.station_book.proofs.HeardLemmas.{heard_earlier, heard_put}
 use Rattle.station_book.proofs.table.Table.put.Goals as goal
 
@@ -11,7 +11,7 @@ invariant_of-self g c =
     let tracks = c.self.inside.tracks.items in
     let i = c.in-Ok.rank in
     let t = c.args.track.now in
-    let place : StandsAt tracks t.address (Ok i) = rw (c.in-Ok.is, ← c.self.view_is) at c.locate-place.ensures in
+    let place : StandsAt tracks t.address (Ok i) = rw (c.in-Ok.is, ← c.self.view_is) at c.locate_near-place.ensures in
     let put = place.2 t refl in
     let whole : refill (length tracks) tracks (set c.deref_mut.result.now i t) ≡ set tracks i t = rw c.deref_mut.ensures.value (refill_same tracks (set tracks i t) (length-set tracks i t)) in
     let before : c.min-self-inside.result ≤ c.self.inside.oldest = grind (arith, c.min-self-inside.ensures) in
@@ -22,32 +22,17 @@ invariant_of-self g c =
       oldest = rw put (heard_put c.min-self-inside.result t tracks now (heard_earlier c.min-self-inside.result c.self.inside.oldest tracks before c.self.invariant.oldest));
     })
 
-pub invariant_of-self-in-Err : goal.invariant_of-self-in-Err
-invariant_of-self-in-Err g c =
-    let tracks = c.self.inside.tracks.items in
-    let i = c.in-Err.rank in
-    let t = c.args.track.now in
-    let place : StandsAt tracks t.address (Err i) = rw (c.in-Err.is, ← c.self.view_is) at c.locate-place.ensures in
-    let put = place.2 t refl in
-    let before : c.min-self-inside.result ≤ c.self.inside.oldest = grind (arith, c.min-self-inside.ensures) in
-    let now : c.min-self-inside.result ≤ t.heard = grind (arith, c.min-self-inside.ensures) in
-    rw c.insert-in-Err.ensures.items (record {
-      rising = rw put (rising_put t tracks c.self.invariant.rising);
-      addresses = c.insert.ensures.items ∙ ap (λ addresses. insert addresses i t.address) c.self.invariant.addresses ∙ sym (map_insert t tracks i);
-      oldest = rw put (heard_put c.min-self-inside.result t tracks now (heard_earlier c.min-self-inside.result c.self.inside.oldest tracks before c.self.invariant.oldest));
-    })
-
 pub returns-in-Ok : goal.returns-in-Ok
 returns-in-Ok g c =
     let tracks = c.self.inside.tracks.items in
     let i = c.in-Ok.rank in
     let t = c.args.track.now in
-    let place : StandsAt tracks t.address (Ok i) = rw (c.in-Ok.is, ← c.self.view_is) at c.locate-place.ensures in
+    let place : StandsAt tracks t.address (Ok i) = rw (c.in-Ok.is, ← c.self.view_is) at c.locate_near-place.ensures in
     let whole : refill (length tracks) tracks (set c.deref_mut.result.now i t) ≡ set tracks i t = rw c.deref_mut.ensures.value (refill_same tracks (set tracks i t) (length-set tracks i t)) in
     rw (← c.self.view_is) (whole ∙ copy_there g.row.N i t tracks place)
 
-pub locate-place-requires : goal.locate-place-requires
-locate-place-requires g c = search
+pub locate_near-place-requires : goal.locate_near-place-requires
+locate_near-place-requires g c = search
 
 pub is_full-requires : goal.is_full-requires
 is_full-requires g c = search
