@@ -1,4 +1,5 @@
 pub mod Past
+pub mod Latest
 pub mod Table
 pub mod Repeats
 pub mod Verdict

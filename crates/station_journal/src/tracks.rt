@@ -3,15 +3,15 @@
 ghost use Rattle.std.specs.Prelude.{◌≡◌};
 ghost use Rattle.modes_fields.specs.Carried.{fields_of};
 ghost use Rattle.modes_fields.specs.Kinds.{fields_by};
-ghost use Rattle.station_journal.specs.Past.{stamp, or_older};
 ghost use Rattle.station_journal.specs.Track.{blank, with_place, updated_track, track_row, track_placed};
 
 use crate::aging::{fix_from, fresh, fresh_moment, with_parity};
-use crate::{Aircraft, LIFE_MS, Stamped};
+use crate::{Aircraft, LIFE_MS, Latest};
 use modes_cpr::Position;
 use modes_fields::readers::carried;
 use modes_fields::{Callsign, Carried, Place, Squawk, Velocity};
 use modes_frame::Frame;
+use std::mem::size_of;
 
 /// What is known of an aircraft: the newest value of each field, the newest even and odd places, and the newest
 /// position.
@@ -20,15 +20,18 @@ pub struct Track {
     pub address: u32,
     /// The time of its newest frame.
     pub heard: u64,
-    pub callsign: Option<Stamped<Callsign>>,
-    pub altitude: Option<Stamped<i32>>,
-    pub squawk: Option<Stamped<Squawk>>,
-    pub velocity: Option<Stamped<Velocity>>,
-    pub vertical: Option<Stamped<i32>>,
-    pub even: Option<Stamped<Place>>,
-    pub odd: Option<Stamped<Place>>,
-    pub position: Option<Stamped<Position>>,
+    pub callsign: Latest<Callsign>,
+    pub altitude: Latest<i32>,
+    pub squawk: Latest<Squawk>,
+    pub velocity: Latest<Velocity>,
+    pub vertical: Latest<i32>,
+    pub even: Latest<Place>,
+    pub odd: Latest<Place>,
+    pub position: Latest<Position>,
 }
+
+// A copy of a table gets a whole track after each frame.
+const _: () = prove!(size_of::<Track>() <= 208);
 
 /// A track of which nothing is known yet.
 pub fn blank(address: u32) -> Track
@@ -37,23 +40,14 @@ pub fn blank(address: u32) -> Track
     Track {
         address,
         heard: 0,
-        callsign: None,
-        altitude: None,
-        squawk: None,
-        velocity: None,
-        vertical: None,
-        even: None,
-        odd: None,
-        position: None,
-    }
-}
-
-// Keeps the value with its time, if there is one.
-fn keep<T: Copy>(kept: &mut Option<Stamped<T>>, at: u64, value: Option<T>)
-    ensures { kept.new ≡ or_older (stamp at value) kept.old }
-{
-    if let Some(value) = value {
-        *kept = Some(Stamped { value, at });
+        callsign: Latest::nothing(),
+        altitude: Latest::nothing(),
+        squawk: Latest::nothing(),
+        velocity: Latest::nothing(),
+        vertical: Latest::nothing(),
+        even: Latest::nothing(),
+        odd: Latest::nothing(),
+        position: Latest::nothing(),
     }
 }
 
@@ -62,10 +56,10 @@ fn keep<T: Copy>(kept: &mut Option<Stamped<T>>, at: u64, value: Option<T>)
 fn keep_place(track: &mut Track, now: u64, place: Place)
     ensures { track.new ≡ with_place now place track.old }
 {
-    let position = fix_from(now, track.even, track.odd, Some(place));
-    keep(&mut track.even, now, with_parity(false, Some(place)));
-    keep(&mut track.odd, now, with_parity(true, Some(place)));
-    keep(&mut track.position, now, position);
+    let position = fix_from(now, track.even.stamped(), track.odd.stamped(), Some(place));
+    track.even.keep(now, with_parity(false, Some(place)));
+    track.odd.keep(now, with_parity(true, Some(place)));
+    track.position.keep(now, position);
 }
 
 /// Updates the track by a frame of the aircraft, heard at the time `now`.
@@ -83,17 +77,17 @@ fn take(track: &mut Track, now: u64, carried: Carried)
     track.heard = now;
     match carried {
         Carried::Nothing => {}
-        Carried::Altitude(altitude) => keep(&mut track.altitude, now, altitude),
-        Carried::Squawk(squawk) => keep(&mut track.squawk, now, Some(squawk)),
-        Carried::Callsign(callsign) => keep(&mut track.callsign, now, callsign),
+        Carried::Altitude(altitude) => track.altitude.keep(now, altitude),
+        Carried::Squawk(squawk) => track.squawk.keep(now, Some(squawk)),
+        Carried::Callsign(callsign) => track.callsign.keep(now, callsign),
         Carried::AirbornePosition { altitude, place } => {
-            keep(&mut track.altitude, now, altitude);
+            track.altitude.keep(now, altitude);
             keep_place(track, now, place);
         }
         Carried::GnssPosition(place) => keep_place(track, now, place),
         Carried::AirborneVelocity { velocity, vertical } => {
-            keep(&mut track.velocity, now, velocity);
-            keep(&mut track.vertical, now, vertical);
+            track.velocity.keep(now, velocity);
+            track.vertical.keep(now, vertical);
         }
     }
 }
@@ -102,7 +96,7 @@ fn take(track: &mut Track, now: u64, carried: Carried)
 pub fn track_placed(now: u64, track: &Track) -> Option<u64>
     ensures { result ≡ track_placed now track.now }
 {
-    fresh_moment(LIFE_MS, now, track.position)
+    fresh_moment(LIFE_MS, now, track.position.stamped())
 }
 
 /// The row that the track shows.
@@ -111,12 +105,12 @@ pub fn track_row(now: u64, track: &Track) -> Aircraft
 {
     Aircraft {
         address: track.address,
-        callsign: fresh(LIFE_MS, now, track.callsign),
-        altitude: fresh(LIFE_MS, now, track.altitude),
-        squawk: fresh(LIFE_MS, now, track.squawk),
-        velocity: fresh(LIFE_MS, now, track.velocity),
-        vertical: fresh(LIFE_MS, now, track.vertical),
-        position: fresh(LIFE_MS, now, track.position),
+        callsign: fresh(LIFE_MS, now, track.callsign.stamped()),
+        altitude: fresh(LIFE_MS, now, track.altitude.stamped()),
+        squawk: fresh(LIFE_MS, now, track.squawk.stamped()),
+        velocity: fresh(LIFE_MS, now, track.velocity.stamped()),
+        vertical: fresh(LIFE_MS, now, track.vertical.stamped()),
+        position: fresh(LIFE_MS, now, track.position.stamped()),
         heard: track.heard,
     }
 }
