@@ -92,7 +92,7 @@ pub(crate) fn enclosed_frame(line: &[u8], longer: usize) -> Option<Frame>
     if !are_digits(front, back) {
         return None;
     }
-    Some(Frame::from_padded(7 + 7 * longer as u8, paired(front, back, longer)))
+    Some(Frame::from_padded(7 + 7 * longer as u32, paired(front, back, longer)))
 }
 
 // The frame that these digits write, if all are digits, and as many as the first says.

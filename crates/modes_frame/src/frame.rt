@@ -11,7 +11,8 @@ use std::marker::Model;
 pub struct Frame {
     // The bytes, and zeros before them: 16 bytes are copied in one move, and the last is always at one place.
     padded: [u8; 16],
-    count: u8,
+    // Four bytes, so that an entry has its frame in whole words.
+    count: u32,
 }
 
 impl Model for Frame {
@@ -45,12 +46,12 @@ impl Frame {
         }
         let mut padded = [0; 16];
         padded[16 - bytes.len()..].copy_from_slice(bytes);
-        Some(Frame::from_padded(bytes.len() as u8, padded))
+        Some(Frame::from_padded(bytes.len() as u32, padded))
     }
 
     // The frame of the last `count` of 16 bytes, with zeros before them.
     #[inline(always)]
-    pub(crate) fn from_padded(count: u8, padded: [u8; 16]) -> Frame
+    pub(crate) fn from_padded(count: u32, padded: [u8; 16]) -> Frame
         requires few { count ≤ 14 }
         requires zeros { padded ≡ with_zeros (bytes_in count padded) }
         requires frame { IsFrame (bytes_in count padded) }
@@ -64,7 +65,7 @@ impl Frame {
         ensures bytes { result.now ≡ self.now }
         ensures frame { IsFrame self.now }
     {
-        &self.padded[16 - usize::from(self.count)..]
+        &self.padded[16 - self.count as usize..]
     }
 
     /// The bytes with zeros before them, 16 in all.
