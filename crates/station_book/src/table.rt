@@ -1,6 +1,6 @@
 //! The tracks of the live aircraft, by rising address.
 
-ghost use Rattle.std.specs.Prelude.{◌≡◌, IsTrue, Err, Ok, ◌<◌, ◌≤◌, ◌==◌, List, [], length, map, slice_get, None, Some};
+ghost use Rattle.std.specs.Prelude.{◌≡◌, min, IsTrue, Err, Ok, ◌<◌, ◌≤◌, ◌==◌, List, [], length, map, slice_get, None, Some};
 ghost use Rattle.station_journal.specs.Rising.{IsRising};
 ghost use Rattle.modes_fields.specs.Carried.{fields_of};
 ghost use Rattle.station_journal.specs.Track.{blank, updated_track};
@@ -142,7 +142,7 @@ impl<const N: usize> Table<N> {
     {
         match place {
             Ok(rank) => {
-                self.oldest = self.oldest.min(now);
+                lower(&mut self.oldest, now);
                 note_place(&mut self.hints, address, rank);
                 update(&mut self.tracks[rank], now, frame);
             }
@@ -169,7 +169,7 @@ impl<const N: usize> Table<N> {
         requires room { length self.old < N }
         ensures { self.new ≡ put_track track.now self.old }
     {
-        self.oldest = self.oldest.min(track.heard);
+        lower(&mut self.oldest, track.heard);
         self.addresses.insert(rank, track.address);
         self.tracks.insert(rank, *track);
     }
@@ -203,7 +203,7 @@ impl<const N: usize> Table<N> {
         }
         match place {
             Ok(rank) => {
-                self.oldest = self.oldest.min(track.heard);
+                lower(&mut self.oldest, track.heard);
                 self.tracks[rank] = *track;
             }
             Err(rank) => self.insert(rank, track),
@@ -222,9 +222,18 @@ impl<const N: usize> Table<N> {
     }
 }
 
+// Lowers the time to an earlier one. Most times are later, and then nothing is written.
+fn lower(time: &mut u64, other: u64)
+    ensures { time.new ≡ min time.old other }
+{
+    if other < *time {
+        *time = other;
+    }
+}
+
 // Notes the place of an address. What stays the same isn't written, so other processors keep it near.
 fn note_place(hints: &mut [u16; HINTS], address: u32, rank: usize) {
-    let place = u16::try_from(rank).unwrap_or(0);
+    let place = (rank % 0x1_0000) as u16;
     let hint = &mut hints[address as usize % HINTS];
     if *hint != place {
         *hint = place;

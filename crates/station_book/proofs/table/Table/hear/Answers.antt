@@ -18,12 +18,12 @@ invariant_of-self g c =
     let is : c.update.new.track ≡ t = rw c.deref_mut.ensures.value at c.update.ensures in
     let put = update_there c.args.address i c.args.now (fields_of c.args.frame.now) tracks stood place in
     let whole : refill (length tracks) tracks (set c.deref_mut.result.now i c.update.new.track) ≡ set tracks i t = rw (c.deref_mut.ensures.value, is) (refill_same tracks (set tracks i t) (length-set tracks i t)) in
-    let before : c.min-self-inside.result ≤ c.self.inside.oldest = grind (arith, c.min-self-inside.ensures) in
-    let now : c.min-self-inside.result ≤ c.args.now = grind (arith, c.min-self-inside.ensures) in
+    let before : c.lower.new.time ≤ c.self.inside.oldest = grind (arith, c.lower.ensures) in
+    let now : c.lower.new.time ≤ c.args.now = grind (arith, c.lower.ensures) in
     rw whole (record {
       rising = rw put (rising_put _ tracks c.self.invariant.rising);
       addresses = c.self.invariant.addresses ∙ sym (map_set t tracks i stood place.0 refl);
-      oldest = rw put (heard_put c.min-self-inside.result _ tracks now (heard_earlier c.min-self-inside.result c.self.inside.oldest tracks before c.self.invariant.oldest));
+      oldest = rw put (heard_put c.lower.new.time _ tracks now (heard_earlier c.lower.new.time c.self.inside.oldest tracks before c.self.invariant.oldest));
     })
 
 pub returns-in-Ok : goal.returns-in-Ok

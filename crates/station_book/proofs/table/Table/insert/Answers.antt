@@ -13,10 +13,10 @@ invariant_of-self g c =
     let t = c.args.track.now in
     let place : StandsAt tracks t.address (Err i) = rw (← c.self.view_is) at c.requires.place in
     let put = place.2 t refl in
-    let before : c.min-self-inside.result ≤ c.self.inside.oldest = grind (arith, c.min-self-inside.ensures) in
-    let now : c.min-self-inside.result ≤ t.heard = grind (arith, c.min-self-inside.ensures) in
+    let before : c.lower.new.time ≤ c.self.inside.oldest = grind (arith, c.lower.ensures) in
+    let now : c.lower.new.time ≤ t.heard = grind (arith, c.lower.ensures) in
     rw c.insert-2.ensures.items (record {
       rising = rw put (rising_put t tracks c.self.invariant.rising);
       addresses = c.insert.ensures.items ∙ ap (λ addresses. insert addresses i t.address) c.self.invariant.addresses ∙ sym (map_insert t tracks i);
-      oldest = rw put (heard_put c.min-self-inside.result t tracks now (heard_earlier c.min-self-inside.result c.self.inside.oldest tracks before c.self.invariant.oldest));
+      oldest = rw put (heard_put c.lower.new.time t tracks now (heard_earlier c.lower.new.time c.self.inside.oldest tracks before c.self.invariant.oldest));
     })

@@ -14,12 +14,12 @@ invariant_of-self g c =
     let place : StandsAt tracks t.address (Ok i) = rw (c.in-Ok.is, ← c.self.view_is) at c.locate_near-place.ensures in
     let put = place.2 t refl in
     let whole : refill (length tracks) tracks (set c.deref_mut.result.now i t) ≡ set tracks i t = rw c.deref_mut.ensures.value (refill_same tracks (set tracks i t) (length-set tracks i t)) in
-    let before : c.min-self-inside.result ≤ c.self.inside.oldest = grind (arith, c.min-self-inside.ensures) in
-    let now : c.min-self-inside.result ≤ t.heard = grind (arith, c.min-self-inside.ensures) in
+    let before : c.lower.new.time ≤ c.self.inside.oldest = grind (arith, c.lower.ensures) in
+    let now : c.lower.new.time ≤ t.heard = grind (arith, c.lower.ensures) in
     rw whole (record {
       rising = rw put (rising_put t tracks c.self.invariant.rising);
       addresses = c.self.invariant.addresses ∙ sym (map_set t tracks i t place.0 (stands_there t.address i tracks t place));
-      oldest = rw put (heard_put c.min-self-inside.result t tracks now (heard_earlier c.min-self-inside.result c.self.inside.oldest tracks before c.self.invariant.oldest));
+      oldest = rw put (heard_put c.lower.new.time t tracks now (heard_earlier c.lower.new.time c.self.inside.oldest tracks before c.self.invariant.oldest));
     })
 
 pub returns-in-Ok : goal.returns-in-Ok
