@@ -1,4 +1,4 @@
-/* stages.c - what the parts of a line cost `baseline.c`, and so what any such program has to do at least.
+/* stages.c - what the parts of a line cost `baseline.c`.
  *
  *   cc -O2 -o stages stages.c -lm
  *   stages FILE [ROUNDS]     ns of a line of FILE, in memory, up to each stage, and beside all of it:
