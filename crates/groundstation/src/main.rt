@@ -3,7 +3,9 @@
 
 use station_main::{Alarms, exit_code, own_words};
 use std::fs::File;
+use std::io::LineWriter;
 use std::process::ExitCode;
+use std::rt::Stderr;
 
 fn main(rt: HostRuntime) -> ExitCode {
     // A file that is opened gets the lowest free number, also that of a standard stream which is closed. Then what is written
@@ -16,9 +18,27 @@ fn main(rt: HostRuntime) -> ExitCode {
     let owned = own_words(&rt);
     let (input, out) = (rt.stdin(), rt.stdout());
     let alarms = Alarms {
-        record: rt.stderr(),
-        displays: rt.stderr(),
-        limits: rt.stderr(),
+        record: error_lines(&rt),
+        displays: error_lines(&rt),
+        limits: error_lines(&rt),
     };
-    exit_code(&rt, rt, rt.alloc(), owned, input, out, alarms, rt.stderr())
+    exit_code(
+        &rt,
+        rt,
+        rt.alloc(),
+        owned,
+        input,
+        out,
+        alarms,
+        error_lines(&rt),
+    )
+}
+
+// Standard error, a line at a time: no other thread's line comes into the middle of one. Without memory for a line it takes
+// the parts of a line as they come.
+fn error_lines(rt: &HostRuntime) -> LineWriter<Stderr> {
+    match LineWriter::new(rt.alloc(), rt.stderr()) {
+        Ok(lines) => lines,
+        Err(_) => LineWriter::with_capacity(rt.alloc(), 0, rt.stderr()).unwrap(),
+    }
 }
