@@ -34,8 +34,8 @@ fn main(rt: HostRuntime) -> ExitCode {
     )
 }
 
-// Standard error, a line at a time: no other thread's line comes into the middle of one. Without memory for a line it takes
-// the parts of a line as they come.
+// Standard error, a line at a time: no other thread's line comes into the middle of one. The parts of a line are written as
+// they come where it is longer than 1,024 bytes, or where there is no memory for it.
 fn error_lines(rt: &HostRuntime) -> LineWriter<Stderr> {
     match LineWriter::new(rt.alloc(), rt.stderr()) {
         Ok(lines) => lines,

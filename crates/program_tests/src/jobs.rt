@@ -248,7 +248,7 @@ impl<R: Host, W: Own> Trials<'_, R, W> {
     fn a_word_that_is_not_utf8_is_refused(self) {
         let (code, out, err) = self.code_of(own_words(&(NotText, self.alloc)));
         holds(self.rt, code == ExitCode::from(2) && out.is_empty());
-        let refused = "error: a word of the command line is not UTF-8\n";
+        let refused = "error: an argument is not UTF-8\n";
         same(self.rt, text(&err), refused);
     }
 }

@@ -1,26 +1,30 @@
 //! What the threads that read paths have of the system.
 
+use crate::faults::Fault;
 use crate::opened::Opened;
 use std::fmt::{self, Display, Formatter};
 use std::io::Write;
 
 /// What happens to a path that is opened again each time that it ends.
 #[derive(Clone, Copy, Debug, PartialEq, Eq)]
-pub enum PathEvent {
-    /// It ended.
-    Ended,
-    /// A read of it failed.
-    Failed,
-    /// It is open again.
-    Opened,
+pub enum PathEvent<'a> {
+    /// This path, as it was given, ended.
+    Ended(&'a str),
+    /// A read of this path failed.
+    Failed(&'a str),
+    /// This path can't be opened for now.
+    CannotOpen(&'a str),
+    /// This path is open again, or at last.
+    Opened(&'a str),
 }
 
-impl Display for PathEvent {
+impl Display for PathEvent<'_> {
     fn fmt<W: fmt::Write>(&self, f: &mut Formatter<W>) -> fmt::Result {
         match self {
-            PathEvent::Ended => f.write_str("ended"),
-            PathEvent::Failed => f.write_str("failed"),
-            PathEvent::Opened => f.write_str("opened"),
+            PathEvent::Ended(path) => write!(f, "{path} ended"),
+            PathEvent::Failed(path) => write!(f, "{path} failed"),
+            PathEvent::CannotOpen(path) => Fault::CannotOpen(path).fmt(f),
+            PathEvent::Opened(path) => write!(f, "{path} opened"),
         }
     }
 }
@@ -30,8 +34,8 @@ pub trait PathHost {
     /// Opens the file or pipe at this path, and may wait for that. `None` where it can't be opened.
     fn open(&self, path: &String) -> Option<Opened>;
 
-    /// Reports an event of this path, as one line.
-    fn report(&self, path: &String, event: PathEvent);
+    /// Reports an event of a path, as one line.
+    fn report(&self, event: PathEvent<'_>);
 }
 
 impl PathHost for HostRuntime {
@@ -39,9 +43,9 @@ impl PathHost for HostRuntime {
         Opened::open(self, path).ok()
     }
 
-    fn report(&self, path: &String, event: PathEvent) {
+    fn report(&self, event: PathEvent<'_>) {
         let mut err = self.stderr();
-        if let Ok(line) = format!(in self.alloc(); "groundstation: {path} {event}\n") {
+        if let Ok(line) = format!(in self.alloc(); "groundstation: {event}\n") {
             let _ = err.write_all(line.as_bytes());
         }
     }

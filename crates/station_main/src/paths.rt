@@ -174,7 +174,7 @@ fn start_reader<R: Threads, W: Wait + Clock + PathHost + Copy + Send + 'static>(
     let again = Reopening {
         own,
         path,
-        was_open: file.is_open(),
+        is_first: !file.is_open(),
     };
     reader.start_again(rt, own, file, again)
 }

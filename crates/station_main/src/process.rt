@@ -61,7 +61,7 @@ pub fn exit_code<
 fn not_text<E: Write>(err: &mut StandardError<E>) -> u8
     ensures { result ≡ 2 }
 {
-    err.text(format_args!("error: a word of the command line is not UTF-8\n"));
+    err.text(format_args!("error: an argument is not UTF-8\n"));
     2
 }
 

@@ -10,33 +10,40 @@ use std::time::{Clock, Duration};
 // How many seconds a path stays closed before it is opened again.
 const PAUSE: u64 = 1;
 
-/// Opens a path again one second after it ended, and reports both.
+/// Opens a path again one second after it ended, and reports both. While a path can't be opened, that is reported once, and
+/// tried each second.
 #[derive(Drop)]
 pub struct Reopening<W> {
     pub own: W,
     pub path: String,
-    /// Whether the path was open. A first opening is made at once, and not reported.
-    pub was_open: bool,
+    /// Whether this opening is the path's first. That is made at once, and reported only if it fails.
+    pub is_first: bool,
 }
 
 impl<W: Wait + Clock + PathHost> Reopening<W> {
     // Reports how an opening ended, and waits before the next.
     fn pause_after(&self, end: PathEnd) {
-        let event = match end {
-            PathEnd::AtEnd => PathEvent::Ended,
-            PathEnd::ReadFailed => PathEvent::Failed,
-        };
-        self.own.report(&self.path, event);
+        let path = self.path.as_str();
+        self.own.report(match end {
+            PathEnd::AtEnd => PathEvent::Ended(path),
+            PathEnd::ReadFailed => PathEvent::Failed(path),
+        });
+        self.pause();
+    }
+
+    fn pause(&self) {
         thread::sleep(&self.own, Duration::from_secs(PAUSE));
     }
 
-    // Opens the path, as soon as that can be done.
-    fn open(&self) -> Opened {
+    // Opens a path that couldn't be opened, as soon as that can be done, and reports both.
+    fn open_later(&self) -> Opened {
+        self.own.report(PathEvent::CannotOpen(self.path.as_str()));
         for _ in self.own.forever() {
+            self.pause();
             if let Some(opened) = self.own.open(&self.path) {
+                self.own.report(PathEvent::Opened(self.path.as_str()));
                 return opened;
             }
-            thread::sleep(&self.own, Duration::from_secs(PAUSE));
         }
         unreachable!()
     }
@@ -44,14 +51,17 @@ impl<W: Wait + Clock + PathHost> Reopening<W> {
 
 impl<W: Wait + Clock + PathHost> Reopen<Opened> for Reopening<W> {
     fn reopen(&mut self, end: PathEnd) -> Opened {
-        if self.was_open {
+        let is_first = self.is_first;
+        self.is_first = false;
+        if !is_first {
             self.pause_after(end);
         }
-        let opened = self.open();
-        if self.was_open {
-            self.own.report(&self.path, PathEvent::Opened);
+        let Some(opened) = self.own.open(&self.path) else {
+            return self.open_later();
+        };
+        if !is_first {
+            self.own.report(PathEvent::Opened(self.path.as_str()));
         }
-        self.was_open = true;
         opened
     }
 }

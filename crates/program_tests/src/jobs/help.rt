@@ -20,9 +20,9 @@ const HELP: &str = concat!(
     "  -V, --version  Print version\n\n",
     "Examples:\n",
     "  groundstation replay < examples/klm1023.avr\n",
-    "  groundstation run --every 1000 <(nc 127.0.0.1 30002 < /dev/null)\n\n",
-    "'groundstation help run' says more of that word. The formats of lines and tables\n",
-    "are in docs/FORMATS.md; columns, counts and faults in docs/USING.md.\n",
+    "  groundstation run --every 1000 <(nc -w 130 127.0.0.1 30002 < /dev/null)\n\n",
+    "'groundstation help run' says more. The formats of lines and tables are in\n",
+    "docs/FORMATS.md; columns, counts and faults in docs/USING.md.\n",
 );
 
 const RUN_HELP: &str = concat!(
