@@ -245,7 +245,7 @@ impl<R: Host, W: Own> Trials<'_, R, W> {
         same(self.rt, ran.status, status);
     }
 
-    fn a_word_that_is_not_utf8_is_refused(self) {
+    fn an_argument_that_is_not_utf8_is_refused(self) {
         let (code, out, err) = self.code_of(own_words(&(NotText, self.alloc)));
         holds(self.rt, code == ExitCode::from(2) && out.is_empty());
         let refused = "error: an argument is not UTF-8\n";
@@ -254,6 +254,6 @@ impl<R: Host, W: Own> Trials<'_, R, W> {
 }
 
 #[test]
-fn a_word_that_is_not_utf8_is_refused(rt: HostRuntime) {
-    Trials::on(&rt).a_word_that_is_not_utf8_is_refused()
+fn an_argument_that_is_not_utf8_is_refused(rt: HostRuntime) {
+    Trials::on(&rt).an_argument_that_is_not_utf8_is_refused()
 }

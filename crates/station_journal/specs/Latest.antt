@@ -5,20 +5,25 @@ use Rattle.station_journal.specs.declared.latest.Dated.{Dated}
 use Rattle.station_journal.specs.declared.latest.Dated.TheVariants.{Never, Last}
 use Rattle.station_journal.specs.declared.latest.Latest.TheInside.{Inside}
 
+-- a kept value with its time, or none
 abbrev pub stamped_by : {V : Type 0} → Dated V → Option (Stamped V)
 stamped_by Never = None
 stamped_by (Last value at) = Some (record { value = value; at = at })
 
+-- how a value with its time is kept
 abbrev pub dated_as : {V : Type 0} → Option (Stamped V) → Dated V
 dated_as None = Never
 dated_as (Some s) = Last s.value s.at
 
+-- what contracts see of a field
 abbrev pub stamped_in : {V : Type 0} → Inside V → Option (Stamped V)
 stamped_in latest = stamped_by latest.value
 
+-- a field that shows this
 abbrev pub latest_as : {V : Type 0} → Option (Stamped V) → Inside V
 latest_as stamped = record { value = dated_as stamped }
 
+-- what is kept is all that is seen
 pub dated_as-stamped_by : {V : Type 0} (value : Dated V) → dated_as (stamped_by value) ≡ value
 dated_as-stamped_by Never = refl
 dated_as-stamped_by (Last value at) = refl

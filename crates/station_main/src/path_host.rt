@@ -14,7 +14,7 @@ pub enum PathEvent<'a> {
     Failed(&'a str),
     /// This path can't be opened for now.
     CannotOpen(&'a str),
-    /// This path is open again, or at last.
+    /// This path is open: again, or for the first time.
     Opened(&'a str),
 }
 

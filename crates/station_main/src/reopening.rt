@@ -31,6 +31,7 @@ impl<W: Wait + Clock + PathHost> Reopening<W> {
         self.pause();
     }
 
+    // Waits for as long as a path stays closed.
     fn pause(&self) {
         thread::sleep(&self.own, Duration::from_secs(PAUSE));
     }
