@@ -3,6 +3,7 @@ ghost use Rattle.std.specs.Prelude.{◌≡◌, ◌≤◌, None, false};
 ghost use Rattle.station_desk.specs.Desk.{most_aircraft};
 
 use arrayvec::ArrayVec;
+use modes_cpr::Reference;
 use modes_frame::Frame;
 use station_desk::Desk;
 use station_journal::Limits;
@@ -76,6 +77,7 @@ impl<'a> Source for Pieces<'a> {
       ends = s.ends;
       failures = s.failures;
       at_hand = false;
+      ring = None;
     } };
 
     fn read(&mut self, buffer: &mut [u8]) -> Result<usize, Failed> {
@@ -165,6 +167,19 @@ pub fn new_desk<const N: usize>(rt: &impl Abort, alloc: Global, entries: u32) ->
     let limits = Limits {
         entries,
         aircraft: N as u32,
+        site: None,
+    };
+    Desk::new(alloc, limits).expect(rt, "memory")
+}
+
+/// A desk without entries, for as many as there can be, which reads surface positions round the site.
+pub fn desk_at<const N: usize>(rt: &impl Abort, alloc: Global, site: Option<Reference>) -> Desk<N>
+    requires { N ≤ most_aircraft }
+{
+    let limits = Limits {
+        entries: 16_777_216,
+        aircraft: N as u32,
+        site,
     };
     Desk::new(alloc, limits).expect(rt, "memory")
 }
@@ -177,6 +192,7 @@ pub fn new_desk_or_again<const N: usize>(rt: &impl Abort, alloc: Global, entries
     let limits = Limits {
         entries,
         aircraft: N as u32,
+        site: None,
     };
     match Desk::new(alloc, limits) {
         Ok(desk) => desk,

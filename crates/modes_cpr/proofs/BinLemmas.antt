@@ -1,9 +1,8 @@
 -- An angle in bins: encoding rounds it to the nearest whole number of bins, and sends the bins from the zone's start.
-use Rattle.std.proofs.Common.{◌≡◌, ℕ, ◌+◌, ◌-◌, ◌*◌, ◌<◌, ◌≤◌, ℤ, pos, ◌+ℤ◌, ◌-ℤ◌, ◌*ℤ◌, ap, ◌∙◌, arith}
+use Rattle.std.proofs.Common.{◌≡◌, ℕ, ◌+◌, ◌-◌, ◌*◌, ◌<◌, ◌≤◌, ℤ, pos, ◌+ℤ◌, ◌-ℤ◌, ◌*ℤ◌, ap, ◌∙◌, arith, Bool, true, false}
 use Rattle.std.proofs.lemmas.Int.{ints}
-use Rattle.std.proofs.Math.Nat.{mul-le-mul_left, mul-lt-mul_of_pos_left, lt_of_mul-lt-mul_left}
 use borrow.Author.Differences.{up, down, sum_is_lem, product_is}
-use Rattle.modes_cpr.proofs.Common.{floor, modulo, Degrees, bins, zone_index, zone_of, bin_of, sent_bin}
+use Rattle.modes_cpr.proofs.Common.{floor, modulo, Degrees, bins, latitude_zones, longitude_zones, zone_index, zone_of, bin_of, sent_bin}
 use Rattle.modes_cpr.proofs.WholeNumberLemmas.{*ℤ--ℤ}
 use Rattle.modes_cpr.proofs.FloorLemmas.{floor_is, floor_unique, modulo_shift}
 
@@ -39,22 +38,13 @@ steps-sent_bin z a =
     let f = floor_is (bin_of z a) bins (omega arith) in
     record { up_is = omega (arith, ints); small = omega (arith, ints) }
 
--- two roundings of one point, in grids of z0 and z1 zones, differ by less than (z0 + z1)/2 in a common grid
-pub same_point : (z0 z1 : ℕ) (a : Degrees) (K0 K1 : ℤ) → 0 < a.den → 0 < z0 → IsNearest z0 a K0 → IsNearest z1 a K1
-    → 2 * (z1 * up K0) + 2 * (z0 * down K1) < 2 * (z0 * up K1) + 2 * (z1 * down K0) + z0 + z1
-same_point z0 z1 a K0 K1 some band h0 h1 =
-    let l = mul-le-mul_left z1 h0.low in
-    let r = mul-lt-mul_of_pos_left h1.high band in
-    let e : 360 * a.den * (2 * (z1 * up K0) + 2 * (z0 * down K1)) < 360 * a.den * (2 * (z0 * up K1) + 2 * (z1 * down K0) + z0 + z1) = omega arith in
-    lt_of_mul-lt-mul_left (360 * a.den) e
-
--- by this, the index of a zone is found from what was sent
-pub zone_index_is : (z : ℕ) (K0 K1 q0 q1 : ℤ) (y0 y1 : ℕ) → z ≤ 59 → IsSent K0 q0 y0 → IsSent K1 q1 y1
-    → 2 * (z * up K0) + 2 * ((z + 1) * down K1) < 2 * ((z + 1) * up K1) + 2 * (z * down K0) + (z + 1) + z
-    → 2 * ((z + 1) * up K1) + 2 * (z * down K0) < 2 * (z * up K0) + 2 * ((z + 1) * down K1) + z + (z + 1)
+-- the index of a zone, from roundings that differ by less than half a zone
+pub zone_index_is : (z : ℕ) (K0 K1 q0 q1 : ℤ) (y0 y1 : ℕ) → IsSent K0 q0 y0 → IsSent K1 q1 y1
+    → 2 * (z * up K0) + 2 * ((z + 1) * down K1) < 2 * ((z + 1) * up K1) + 2 * (z * down K0) + 131072
+    → 2 * ((z + 1) * up K1) + 2 * (z * down K0) < 2 * (z * up K0) + 2 * ((z + 1) * down K1) + 131072
     → zone_index (z + 1) y0 y1 ≡ pos (z + 1) *ℤ q1 -ℤ pos z *ℤ q0
 unfolding zone_index
-zone_index_is z K0 K1 q0 q1 y0 y1 most s0 s1 below above =
+zone_index_is z K0 K1 q0 q1 y0 y1 s0 s1 below above =
     let e : z + 1 - 1 ≡ z = omega arith in
     let e0 = ap (λ v. v * z) s0.up_is in
     let e1 = ap (λ v. v * (z + 1)) s1.up_is in
@@ -73,3 +63,12 @@ odd_zone z q0 q1 some =
     let e = *ℤ--ℤ (pos z) q1 q0 in
     let i : pos (z + 1) *ℤ q1 -ℤ pos z *ℤ q0 ≡ pos z *ℤ (q1 -ℤ q0) +ℤ q1 = omega (arith, ints) in
     ap (λ v. modulo v z) i ∙ modulo_shift q1 (q1 -ℤ q0) z some
+
+-- each grid has a zone
+pub some_band : (odd : Bool) → 0 < latitude_zones odd
+some_band true = omega arith
+some_band false = omega arith
+
+pub some_zone : (n : ℕ) (odd : Bool) → 0 < longitude_zones n odd
+some_zone n true = omega arith
+some_zone n false = omega arith

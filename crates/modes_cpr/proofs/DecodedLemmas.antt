@@ -83,27 +83,26 @@ quarter-nearest z K a some range h =
     record { low = omega arith; high = omega arith }
 
 -- t turns less on both sides
-same_difference : (z : ℕ) (K t : ℤ) (a : Degrees)
-    → (pos 360 *ℤ K -ℤ pos (360 * (z * bins)) *ℤ t) *ℤ pos a.den -ℤ (a.num +ℤ pos (360 * a.den) *ℤ neg_ℤ t) *ℤ pos (z * bins)
-    ≡ pos 360 *ℤ K *ℤ pos a.den -ℤ a.num *ℤ pos (z * bins)
-same_difference z K t a =
-    let L = pos 360 *ℤ K -ℤ pos (360 * (z * bins)) *ℤ t in
+pub same_difference : (D : ℕ) (n t : ℤ) (a : Degrees)
+    → (n -ℤ pos (360 * D) *ℤ t) *ℤ pos a.den -ℤ (a.num +ℤ pos (360 * a.den) *ℤ neg_ℤ t) *ℤ pos D
+    ≡ n *ℤ pos a.den -ℤ a.num *ℤ pos D
+same_difference D n t a =
+    let L = n -ℤ pos (360 * D) *ℤ t in
     let R = a.num +ℤ pos (360 * a.den) *ℤ neg_ℤ t in
-    let n = pos 360 *ℤ K in
-    let l : up L + 360 * (z * bins) * up t + down n ≡ down L + 360 * (z * bins) * down t + up n = omega (arith, ints) in
+    let l : up L + 360 * D * up t + down n ≡ down L + 360 * D * down t + up n = omega (arith, ints) in
     let tt' = neg_is t in
     let s = ap (λ v. a.den * v) tt'.0 in
     let u = ap (λ v. a.den * v) tt'.1 in
     let r : up R + 360 * a.den * up t + down a.num ≡ down R + 360 * a.den * down t + up a.num = omega (arith, ints) in
     let ld = ap (λ v. v * a.den) l in
-    let rz = ap (λ v. v * (z * bins)) r in
+    let rz = ap (λ v. v * D) r in
     omega (arith, ints)
 
 within-turned : (z : ℕ) (K t : ℤ) (a : Degrees) → IsNearest z a K
     → IsWithinHalfBinRound z (record { num = pos 360 *ℤ K -ℤ pos (360 * (z * bins)) *ℤ t; den = z * bins }) a
 within-turned z K t a h =
     let w = within-at_step z K a h in
-    let e = ap unsigned_abs (same_difference z K t a) in
+    let e = ap unsigned_abs (same_difference (z * bins) (pos 360 *ℤ K) t a) in
     (neg_ℤ t, subst (λ v. 2 ^ 18 * z * v ≤ 360 * (z * bins * a.den)) (sym e) w)
 
 -- up to whole turns, the bins decode in a grid of z zones to the point, rounded to the nearest bin

@@ -1,5 +1,5 @@
 -- What division rounded down means, by inequalities alone.
-use Rattle.std.proofs.Common.{◌≡◌, ℕ, ◌<◌, ℤ, pos, negsuc, ◌+ℤ◌, ◌*ℤ◌, ◌≤ℤ◌, ◌<ℤ◌, ap, ◌∙◌, arith}
+use Rattle.std.proofs.Common.{◌≡◌, ℕ, ◌<◌, ℤ, pos, negsuc, ◌+ℤ◌, ◌-ℤ◌, ◌*ℤ◌, ◌≤ℤ◌, ◌<ℤ◌, ap, ◌∙◌, arith}
 use Rattle.std.proofs.lemmas.Int.{ints}
 use Rattle.std.specs.Int.{int_rem_euclid}
 use Rattle.modes_cpr.specs.Floor.{floor, modulo}
@@ -34,6 +34,11 @@ pub modulo_shift : (a k : ℤ) (b : ℕ) → 0 < b → modulo (pos b *ℤ k +ℤ
 modulo_shift a k b h =
     let e = ap (λ q. pos b *ℤ q) (floor_shift a k b h) ∙ *ℤ-+ℤ (pos b) k (floor a b) in
     omega (arith, ints)
+
+pub modulo_one : (v : ℤ) → modulo v 1 ≡ pos 0
+modulo_one v =
+    let q : floor v 1 ≡ v = floor_unique v 1 v (record { low = omega (arith, ints); high = omega (arith, ints) }) in
+    ap (λ u. v -ℤ pos 1 *ℤ u) q ∙ omega (arith, ints)
 
 -- std's remainder is a less the multiple
 pub modulo_is : (a : ℤ) (b : ℕ) → 0 < b → int_rem_euclid a (pos b) ≡ modulo a b

@@ -6,8 +6,8 @@ use Rattle.modes_fields.specs.declared.place.Place.{Place}
 use Rattle.modes_cpr.proofs.Common.{Degrees, Position, longitude_zones, decoded_angle, zone_index, is_latitude, position_by}
 
 -- an angle that the code decoded with an index that it computed
-pub decoded_at : (limit z y : ℕ) (i j : ℤ) (a : Degrees) → FitsSigned w64 i → i ≡ j → a ≡ decoded_angle limit z (to_z w64 (of_z w64 i)) y → decoded_angle limit z j y ≡ a
-decoded_at limit z y i j a fits e h = ap (λ v. decoded_angle limit z v y) (sym (to_z-of_z w64 i fits ∙ e)) ∙ sym h
+pub decoded_at : (decode : ℤ → Degrees) (i j : ℤ) (a : Degrees) → FitsSigned w64 i → i ≡ j → a ≡ decode (to_z w64 (of_z w64 i)) → decode j ≡ a
+decoded_at decode i j a fits e h = ap decode (sym (to_z-of_z w64 i fits ∙ e)) ∙ sym h
 
 -- NL, where the code computed it
 pub zones_at_num : (nl : ℤ → ℕ → ℕ) (a : Degrees) → FitsSigned w64 a.num → (n : ℕ) → n ≡ nl (to_z w64 (of_z w64 a.num)) a.den → n ≡ nl a.num a.den
@@ -17,48 +17,56 @@ zones_at_num nl a fits n e = e ∙ ap (λ v. nl v a.den) (to_z-of_z w64 a.num fi
 pub zones_tested : (nl : ℤ → ℕ → ℕ) (a : Degrees) → FitsSigned w64 a.num → (n : ℕ) (r : Bool) → r ≡ (nl (to_z w64 (of_z w64 a.num)) a.den == n) → r ≡ (nl a.num a.den == n)
 zones_tested nl a fits n r e = e ∙ ap (λ v. nl v a.den == n) (to_z-of_z w64 a.num fits)
 
-module _ (nl : ℤ → ℕ → ℕ) (even odd : Place) (newest : Bool) (a0 a1 : Degrees)
-    (d0 : decoded_angle 270 60 (zone_index 60 even.lat odd.lat) even.lat ≡ a0)
-    (d1 : decoded_angle 270 59 (zone_index 60 even.lat odd.lat) odd.lat ≡ a1) where
-  abbrev pub made : Degrees → Degrees → Position
-  made u v = record {
-    lat = if newest then v else u;
-    lon = decoded_angle 180 (longitude_zones (nl u.num u.den) newest) (zone_index (nl u.num u.den) even.lon odd.lon) (if newest then odd.lon else even.lon);
-  }
+-- ---- airborne and surface pairs alike, where `decode` gives the longitude of an index and a bin in a grid of n zones
 
-  abbrev passes : Degrees → Degrees → Bool
-  passes u v = is_latitude u && is_latitude v && (nl u.num u.den == nl v.num v.den)
+-- the position at two latitudes
+abbrev pub made : (ℕ → ℤ → ℕ → Degrees) → (ℤ → ℕ → ℕ) → Place → Place → Bool → Degrees → Degrees → Position
+made decode nl even odd newest u v = record {
+  lat = if newest then v else u;
+  lon = decode (longitude_zones (nl u.num u.den) newest) (zone_index (nl u.num u.den) even.lon odd.lon) (if newest then odd.lon else even.lon);
+}
 
-  abbrev outcome : Degrees → Degrees → Option Position
-  outcome u v = if passes u v then Some (made u v) else None
+-- the code's result from its parts is that position
+pub made_is : (decode : ℕ → ℤ → ℕ → Degrees) (nl : ℤ → ℕ → ℕ) (even odd : Place) (newest : Bool) (a0 a1 lat lon : Degrees) (n g x : ℕ) (i : ℤ)
+    → lat ≡ (if newest then a1 else a0) → x ≡ (if newest then odd.lon else even.lon) → n ≡ nl a0.num a0.den
+    → FitsSigned w64 i → i ≡ zone_index n even.lon odd.lon → g ≡ longitude_zones n newest
+    → lon ≡ decode g (to_z w64 (of_z w64 i)) x
+    → (let p : Position = record { lat = lat; lon = lon } in p) ≡ made decode nl even odd newest a0 a1
+made_is decode nl even odd newest a0 a1 lat lon n g x i lat_is x_is n_is fits i_is g_is lon_is =
+    let zones : g ≡ longitude_zones (nl a0.num a0.den) newest = g_is ∙ ap (λ v. longitude_zones v newest) n_is in
+    let index : to_z w64 (of_z w64 i) ≡ zone_index (nl a0.num a0.den) even.lon odd.lon = to_z-of_z w64 i fits ∙ i_is ∙ ap (λ v. zone_index v even.lon odd.lon) n_is in
+    let whole : lon ≡ (made decode nl even odd newest a0 a1).lon = lon_is ∙ (λ k. decode (zones k) (index k) (x_is k)) in
+    (λ k. record { lat = lat_is k; lon = whole k })
 
-  position_at : (t : Bool) → passes a0 a1 ≡ t → position_by nl even odd newest ≡ (if t then Some (made a0 a1) else None)
-  unfolding position_by
-  position_at t e =
-      ap (λ u. outcome u (decoded_angle 270 59 (zone_index 60 even.lat odd.lat) odd.lat)) d0 ∙ ap (outcome a0) d1
-      ∙ ap (λ b. if b then Some (made a0 a1) else None) e
+-- the position p, if there is one at two latitudes
+module _ (nl : ℤ → ℕ → ℕ) (p : Position) (a0 a1 : Degrees) where
+  abbrev passes : Bool
+  passes = is_latitude a0 && is_latitude a1 && (nl a0.num a0.den == nl a1.num a1.den)
 
-  pub found_at : is_latitude a0 ≡ true → is_latitude a1 ≡ true → nl a0.num a0.den ≡ nl a1.num a1.den → position_by nl even odd newest ≡ Some (made a0 a1)
-  found_at l0 l1 same =
-      position_at true (and_from (is_latitude a0 && is_latitude a1) (nl a0.num a0.den == nl a1.num a1.den) (and_from (is_latitude a0) (is_latitude a1) l0 l1) (eq-eqb (nl a0.num a0.den) (nl a1.num a1.den) same))
+  abbrev pub outcome : Option Position
+  outcome = if passes then Some p else None
 
-  pub even_beyond : is_latitude a0 ≡ false → position_by nl even odd newest ≡ None
-  even_beyond l = position_at false (and_left (is_latitude a0 && is_latitude a1) _ (and_left (is_latitude a0) (is_latitude a1) l))
+  outcome_by : (t : Bool) → passes ≡ t → outcome ≡ (if t then Some p else None)
+  outcome_by t e = ap (λ b. if b then Some p else None) e
 
-  pub odd_beyond : is_latitude a1 ≡ false → position_by nl even odd newest ≡ None
-  odd_beyond l = position_at false (and_left (is_latitude a0 && is_latitude a1) _ (and_right (is_latitude a0) (is_latitude a1) l))
+  pub found : is_latitude a0 ≡ true → is_latitude a1 ≡ true → nl a0.num a0.den ≡ nl a1.num a1.den → outcome ≡ Some p
+  found l0 l1 same =
+      outcome_by true (and_from (is_latitude a0 && is_latitude a1) (nl a0.num a0.den == nl a1.num a1.den) (and_from (is_latitude a0) (is_latitude a1) l0 l1) (eq-eqb (nl a0.num a0.den) (nl a1.num a1.den) same))
 
-  pub zones_differ : (nl a0.num a0.den ≡ nl a1.num a1.den → ⊥) → position_by nl even odd newest ≡ None
-  zones_differ apart = position_at false (and_right (is_latitude a0 && is_latitude a1) (nl a0.num a0.den == nl a1.num a1.den) (ne_eqb (nl a0.num a0.den) (nl a1.num a1.den) apart))
+  pub even_beyond : is_latitude a0 ≡ false → outcome ≡ None
+  even_beyond l = outcome_by false (and_left (is_latitude a0 && is_latitude a1) _ (and_left (is_latitude a0) (is_latitude a1) l))
 
-  -- the code's result from these parts is that position
-  pub made_is : (lat lon : Degrees) (n g x : ℕ) (i : ℤ)
-      → lat ≡ (if newest then a1 else a0) → x ≡ (if newest then odd.lon else even.lon) → n ≡ nl a0.num a0.den
-      → FitsSigned w64 i → i ≡ zone_index n even.lon odd.lon → g ≡ longitude_zones n newest
-      → lon ≡ decoded_angle 180 g (to_z w64 (of_z w64 i)) x
-      → (let p : Position = record { lat = lat; lon = lon } in p) ≡ made a0 a1
-  made_is lat lon n g x i lat_is x_is n_is fits i_is g_is lon_is =
-      let zones : g ≡ longitude_zones (nl a0.num a0.den) newest = g_is ∙ ap (λ v. longitude_zones v newest) n_is in
-      let index : to_z w64 (of_z w64 i) ≡ zone_index (nl a0.num a0.den) even.lon odd.lon = to_z-of_z w64 i fits ∙ i_is ∙ ap (λ v. zone_index v even.lon odd.lon) n_is in
-      let whole : lon ≡ (made a0 a1).lon = lon_is ∙ (λ k. decoded_angle 180 (zones k) (index k) (x_is k)) in
-      (λ k. record { lat = lat_is k; lon = whole k })
+  pub odd_beyond : is_latitude a1 ≡ false → outcome ≡ None
+  odd_beyond l = outcome_by false (and_left (is_latitude a0 && is_latitude a1) _ (and_right (is_latitude a0) (is_latitude a1) l))
+
+  pub zones_differ : (nl a0.num a0.den ≡ nl a1.num a1.den → ⊥) → outcome ≡ None
+  zones_differ apart = outcome_by false (and_right (is_latitude a0 && is_latitude a1) (nl a0.num a0.den == nl a1.num a1.den) (ne_eqb (nl a0.num a0.den) (nl a1.num a1.den) apart))
+
+-- ---- airborne pairs
+
+pub position_at : (nl : ℤ → ℕ → ℕ) (even odd : Place) (newest : Bool) (a0 a1 : Degrees)
+    → decoded_angle 270 60 (zone_index 60 even.lat odd.lat) even.lat ≡ a0
+    → decoded_angle 270 59 (zone_index 60 even.lat odd.lat) odd.lat ≡ a1
+    → position_by nl even odd newest ≡ outcome nl (made (decoded_angle 180) nl even odd newest a0 a1) a0 a1
+unfolding position_by
+position_at nl even odd newest a0 a1 d0 d1 = (λ i. outcome nl (made (decoded_angle 180) nl even odd newest (d0 i) (d1 i)) (d0 i) (d1 i))

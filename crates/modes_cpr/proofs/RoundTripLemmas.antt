@@ -1,8 +1,10 @@
 -- The position of a pair of places is encoded as the newest of them.
-use Rattle.std.proofs.Common.{◌≡◌, ℕ, ◌<◌, ℤ, pos, ap, ◌∙◌, refl, sym, subst, arith, Bool, true, false, Some, None, ◌==◌, ◌&&◌, if◌then◌else◌}
+use Rattle.std.proofs.Common.{◌≡◌, ℕ, ◌<◌, ℤ, pos, ap, ◌∙◌, refl, sym, subst, Bool, true, false, Some, None, ◌==◌, ◌&&◌, if◌then◌else◌}
 use Rattle.std.proofs.lemmas.Bool.{eqb-true, and_parts}
 use Rattle.modes_fields.specs.declared.place.Place.{Place}
 use Rattle.modes_cpr.proofs.Common.{Degrees, Position, bins, latitude_zones, longitude_zones, angle, decoded_angle, zone_index, is_latitude, position_by, zone_of, bin_of, sent_bin, place_by, RoundTrip}
+use Rattle.modes_cpr.proofs.BinLemmas.{some_band, some_zone}
+use Rattle.modes_cpr.proofs.PairLemmas.{made, outcome}
 use Rattle.modes_cpr.proofs.AngleLemmas.{zone_of-angle, bin_of-angle, sent_bin-small, decoded_angle-angle}
 
 -- the angle of bin y in one of z zones
@@ -19,13 +21,6 @@ rounded_again z y a some small h =
     ∙ ap (λ v. angle z v (bin_of z (angle z h.zone (pos y)))) (zone_of-angle z y h.zone some small)
     ∙ ap (angle z h.zone) (bin_of-angle z y h.zone some small)
     ∙ sym h.is
-
-some_zone : (n : ℕ) (odd : Bool) → 0 < longitude_zones n odd
-some_zone n odd = omega arith
-
-some_band : (odd : Bool) → 0 < latitude_zones odd
-some_band true = omega arith
-some_band false = omega arith
 
 -- encoding the angles of two bins gives the bins
 placed : (nl : ℤ → ℕ → ℕ) (odd : Bool) (y x n : ℕ) (lat lon : Degrees) → y < bins → x < bins
@@ -44,9 +39,32 @@ placed nl odd y x n lat lon sy sx ha hn hb =
 angle_of_decoded : (limit z y : ℕ) (j : ℤ) → IsAngle z y (decoded_angle limit z j y)
 angle_of_decoded limit z y j = let d = decoded_angle-angle limit z y j in record { zone = d.0; is = d.1 }
 
+-- where a pair has a position, it is encoded as its newest place, if the position at each parity is encoded as its place
+pub newest_again : (encode : Degrees → Degrees → Bool → Place) (nl : ℤ → ℕ → ℕ) (position : Bool → Position) (even odd : Place) (a0 a1 : Degrees) (p : Position) (newest : Bool)
+    → encode (position false).lat (position false).lon false ≡ even
+    → (nl a0.num a0.den ≡ nl a1.num a1.den → encode (position true).lat (position true).lon true ≡ odd)
+    → outcome nl (position newest) a0 a1 ≡ Some p → encode p.lat p.lon newest ≡ (if newest then odd else even)
+newest_again encode nl position even odd a0 a1 p newest even_again odd_again h = by newest (is_latitude a0 && is_latitude a1 && (nl a0.num a0.den == nl a1.num a1.den)) refl h
+  where
+    by : (newest t : Bool) → (is_latitude a0 && is_latitude a1 && (nl a0.num a0.den == nl a1.num a1.den)) ≡ t → (if t then Some (position newest) else None) ≡ Some p → encode p.lat p.lon newest ≡ (if newest then odd else even)
+    by newest false e s = cc
+    by true true e s =
+        let q : position true ≡ p = cc in
+        let same = eqb-true (nl a0.num a0.den) (nl a1.num a1.den) (and_parts (is_latitude a0 && is_latitude a1) (nl a0.num a0.den == nl a1.num a1.den) e).1 in
+        subst (λ (v : Position). encode v.lat v.lon true ≡ odd) q (odd_again same)
+    by false true e s =
+        let q : position false ≡ p = cc in
+        subst (λ (v : Position). encode v.lat v.lon false ≡ even) q even_again
+
 pub round_trip : (nl : ℤ → ℕ → ℕ) → RoundTrip nl
 unfolding position_by
-round_trip nl even odd newest_odd p he ho h = by newest_odd (is_latitude lat0 && is_latitude lat1 && (nl lat0.num lat0.den == nl lat1.num lat1.den)) refl h
+round_trip nl even odd newest_odd p he ho h =
+    newest_again (place_by nl) nl position even odd lat0 lat1 p newest_odd
+    (placed nl false even.lat even.lon n lat0 (position false).lon he.lat he.lon (angle_of_decoded 270 60 even.lat j) refl (angle_of_decoded 180 (longitude_zones n false) even.lon m)
+    ∙ ap (λ b. let place : Place = record { odd = b; lat = even.lat; lon = even.lon } in place) (sym he.parity))
+    (λ same. placed nl true odd.lat odd.lon n lat1 (position true).lon ho.lat ho.lon (angle_of_decoded 270 59 odd.lat j) (sym same) (angle_of_decoded 180 (longitude_zones n true) odd.lon m)
+    ∙ ap (λ b. let place : Place = record { odd = b; lat = odd.lat; lon = odd.lon } in place) (sym ho.parity))
+    h
   where
     j : ℤ
     j = zone_index 60 even.lat odd.lat
@@ -63,19 +81,5 @@ round_trip nl even odd newest_odd p he ho h = by newest_odd (is_latitude lat0 &&
     m : ℤ
     m = zone_index n even.lon odd.lon
 
-    made : Bool → Position
-    made newest = record { lat = if newest then lat1 else lat0; lon = decoded_angle 180 (longitude_zones n newest) m (if newest then odd.lon else even.lon) }
-
-    by : (newest t : Bool) → (is_latitude lat0 && is_latitude lat1 && (nl lat0.num lat0.den == nl lat1.num lat1.den)) ≡ t → (if t then Some (made newest) else None) ≡ Some p → place_by nl p.lat p.lon newest ≡ (if newest then odd else even)
-    by newest false e s = cc
-    by true true e s =
-        let q : made true ≡ p = cc in
-        let same = eqb-true n (nl lat1.num lat1.den) (and_parts (is_latitude lat0 && is_latitude lat1) (n == nl lat1.num lat1.den) e).1 in
-        let place : Bool → Place = λ b. record { odd = b; lat = odd.lat; lon = odd.lon } in
-        subst (λ (v : Position). place_by nl v.lat v.lon true ≡ odd) q
-        (placed nl true odd.lat odd.lon n lat1 (made true).lon ho.lat ho.lon (angle_of_decoded 270 59 odd.lat j) (sym same) (angle_of_decoded 180 (longitude_zones n true) odd.lon m) ∙ ap place (sym ho.parity))
-    by false true e s =
-        let q : made false ≡ p = cc in
-        let place : Bool → Place = λ b. record { odd = b; lat = even.lat; lon = even.lon } in
-        subst (λ (v : Position). place_by nl v.lat v.lon false ≡ even) q
-        (placed nl false even.lat even.lon n lat0 (made false).lon he.lat he.lon (angle_of_decoded 270 60 even.lat j) refl (angle_of_decoded 180 (longitude_zones n false) even.lon m) ∙ ap place (sym he.parity))
+    position : Bool → Position
+    position newest = made (decoded_angle 180) nl even odd newest lat0 lat1

@@ -40,7 +40,7 @@ pub fn pair(even: Place, odd: Place, newest_odd: bool) -> Option<Position>
 }
 
 // The index of a point's zone, from its bins in a grid of `zones` zones and in a grid of one zone less.
-fn zone_index(zones: u8, even: u32, odd: u32) -> i64
+pub(crate) fn zone_index(zones: u8, even: u32, odd: u32) -> i64
     requires zones { 0 < zones }
     ensures { result ≡ zone_index_of zones even odd }
 {
@@ -77,7 +77,7 @@ fn wrapped(limit: u16, angle: Degrees) -> Degrees
 }
 
 // Whether an angle is neither below -90 nor above 90 degrees.
-fn is_latitude(angle: Degrees) -> bool
+pub(crate) fn is_latitude(angle: Degrees) -> bool
     ensures { result ≡ is_latitude_of angle }
 {
     angle.num.unsigned_abs() <= 90 * angle.den as u64

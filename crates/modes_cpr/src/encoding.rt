@@ -33,7 +33,7 @@ pub fn encode(lat: Degrees, lon: Degrees, odd: bool) -> Place
 }
 
 // The zone of an angle.
-fn zone_of(zones: u8, a: Degrees) -> i64
+pub(crate) fn zone_of(zones: u8, a: Degrees) -> i64
     requires some { 0 < zones }
     requires zones { zones ≤ 60 }
     requires whole { 0 < a.den }

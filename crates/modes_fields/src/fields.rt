@@ -3,9 +3,12 @@ ghost use Rattle.std.specs.Prelude.{◌≡◌};
 ghost use Rattle.modes_fields.specs.Kinds.{fields_by};
 
 use crate::callsign::Callsign;
+use crate::category::Category;
+use crate::emergency::Emergency;
 use crate::place::Place;
 use crate::squawk::Squawk;
-use crate::velocity::Velocity;
+use crate::surface::Surface;
+use crate::velocity::{RateSource, Velocity};
 
 /// What one frame carries. A field that it does not carry is None. A squitter is a frame of DF 17, or of DF 18 with
 /// control field 0.
@@ -13,16 +16,24 @@ use crate::velocity::Velocity;
 pub struct Fields {
     /// Of a squitter with type code 1 to 4.
     pub callsign: Option<Callsign>,
+    /// Of a squitter with type code 1 to 4.
+    pub category: Option<Category>,
     /// In feet, -1,200 to 126,700: of DF 0, 4, 16 and 20, and of a squitter with type code 9 to 18.
     pub altitude: Option<i32>,
     /// Of DF 5 and 21.
     pub squawk: Option<Squawk>,
+    /// Of a squitter with type code 28 and subtype 1.
+    pub emergency: Option<Emergency>,
     /// Of a squitter with type code 19.
     pub velocity: Option<Velocity>,
     /// The vertical rate in feet per minute, negative downwards, -32,640 to 32,640: of a squitter with type code 19.
     pub vertical: Option<i32>,
+    /// What measured the vertical rate: given where that is.
+    pub rate_source: Option<RateSource>,
     /// Of a squitter with type code 9 to 18 and 20 to 22.
     pub place: Option<Place>,
+    /// Of a squitter with type code 5 to 8.
+    pub surface: Option<Surface>,
 }
 
 /// What a frame carries, by its kind: its downlink format, and in a squitter its type code.
@@ -34,8 +45,15 @@ pub enum Carried {
     Altitude(Option<i32>),
     /// DF 5 and 21.
     Squawk(Squawk),
-    /// Type code 1 to 4: the callsign, if each of its codes is a character, and not all are spaces.
-    Callsign(Option<Callsign>),
+    /// Type code 1 to 4.
+    Identification {
+        /// If each of its codes is a character, and not all are spaces.
+        callsign: Option<Callsign>,
+        /// If it is given.
+        category: Option<Category>,
+    },
+    /// Type code 5 to 8.
+    SurfacePosition(Surface),
     /// Type code 9 to 18.
     AirbornePosition {
         /// The barometric altitude in feet, -1,200 to 126,700, if the code has one.
@@ -50,7 +68,11 @@ pub enum Carried {
         velocity: Option<Velocity>,
         /// The vertical rate in feet per minute, negative downwards, -32,640 to 32,640, if it is given.
         vertical: Option<i32>,
+        /// What measured the vertical rate: given where that is.
+        rate_source: Option<RateSource>,
     },
+    /// Type code 28: the emergency, if the subtype is 1 and the state isn't reserved.
+    AircraftStatus(Option<Emergency>),
 }
 
 impl Carried {
@@ -69,8 +91,13 @@ impl Carried {
                 squawk: Some(squawk),
                 ..Fields::default()
             },
-            Carried::Callsign(callsign) => Fields {
+            Carried::Identification { callsign, category } => Fields {
                 callsign,
+                category,
+                ..Fields::default()
+            },
+            Carried::SurfacePosition(surface) => Fields {
+                surface: Some(surface),
                 ..Fields::default()
             },
             Carried::AirbornePosition { altitude, place } => Fields {
@@ -82,9 +109,18 @@ impl Carried {
                 place: Some(place),
                 ..Fields::default()
             },
-            Carried::AirborneVelocity { velocity, vertical } => Fields {
+            Carried::AirborneVelocity {
                 velocity,
                 vertical,
+                rate_source,
+            } => Fields {
+                velocity,
+                vertical,
+                rate_source,
+                ..Fields::default()
+            },
+            Carried::AircraftStatus(emergency) => Fields {
+                emergency,
                 ..Fields::default()
             },
         }

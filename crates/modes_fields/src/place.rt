@@ -1,6 +1,6 @@
 //! Places in compact position reporting.
 
-/// A place in compact position reporting, as an airborne position sends it.
+/// A place in compact position reporting, as an airborne or a surface position sends it.
 #[derive(Clone, Copy, Debug, PartialEq, Eq)]
 pub struct Place {
     /// Whether the place is in the odd grid.

@@ -1,10 +1,10 @@
 //! Velocities and vertical rates: messages of type code 19.
 ghost use Rattle.std.specs.Prelude.{◌≡◌, ◌+◌, ◌*◌, ◌^◌, ◌<◌, ◌≤◌, IfSome};
 ghost use Rattle.modes_fields.specs.Bits.{field as field_of};
-ghost use Rattle.modes_fields.specs.Velocities.{signed_by, steps_of, step_of, knots_of, ground_of, air_of, vertical_in, velocity_in};
+ghost use Rattle.modes_fields.specs.Velocities.{signed_by, steps_of, step_of, knots_of, ground_of, air_of, vertical_in, velocity_in, rate_source_in};
 
 use crate::message::Message;
-use crate::velocity::Velocity;
+use crate::velocity::{RateSource, Velocity};
 
 // What `v` counts in steps from 1 on. None where it is 0.
 fn steps(step: u16, v: u16) -> Option<u16>
@@ -98,4 +98,17 @@ pub(crate) fn message_vertical(message: &Message) -> Option<i32>
         }
         _ => None,
     }
+}
+
+// What measured the vertical rate in a message of type code 19, where it has one.
+#[tactic(auto, unfolding(crate::specs::Velocities::rate_source_in))]
+pub(crate) fn message_rate_source(message: &Message) -> Option<RateSource>
+    ensures { result ≡ rate_source_in message.now }
+{
+    message_vertical(message)?;
+    Some(if message.bit(36) {
+        RateSource::Barometric
+    } else {
+        RateSource::Gnss
+    })
 }

@@ -1,6 +1,6 @@
-//! Velocities.
+//! Velocities, and what measures vertical rates.
 
-/// A velocity, as a message of type code 19 sends it.
+/// A velocity, as a message of type code 19 or a surface position sends it.
 #[derive(Clone, Copy, Debug, PartialEq, Eq)]
 pub enum Velocity {
     /// Over ground, in knots: eastward and northward, -4,088 to 4,088 each.
@@ -19,4 +19,20 @@ pub enum Velocity {
         /// In knots: 0 to 4,088.
         speed: u16,
     },
+    /// On the ground.
+    Surface {
+        /// The least speed of its step, in eighths of a knot: 0 to 1,400.
+        speed: u16,
+        /// In 1/128 of a turn from north, clockwise, if it is given: 0 to 127.
+        track: Option<u8>,
+    },
+}
+
+/// What measured a vertical rate.
+#[derive(Clone, Copy, Debug, PartialEq, Eq)]
+pub enum RateSource {
+    /// The satellites of GNSS: a geometric rate.
+    Gnss,
+    /// A barometer: a rate of pressure altitude.
+    Barometric,
 }

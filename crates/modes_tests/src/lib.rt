@@ -11,3 +11,9 @@ mod frames;
 mod known;
 #[cfg(test)]
 mod positions;
+#[cfg(test)]
+mod statuses;
+#[cfg(test)]
+mod surface;
+#[cfg(test)]
+mod surface_positions;

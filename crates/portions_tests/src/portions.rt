@@ -190,6 +190,10 @@ struct Openings<W> {
 }
 
 impl<W: Wait + Clock> Reopen<Opening> for Openings<W> {
+    ghost use Rattle.std.specs.Prelude.{◌≡◌};
+
+    ghost opens = { λ old end opening new. opening.letters ≡ 0 };
+
     fn reopen(&mut self, end: PathEnd) -> Opening {
         let ends = self.ends;
         for _ in self.rt.forever() {
@@ -257,5 +261,29 @@ fn a_path_of_many_lines_is_given_to_its_end(rt: HostRuntime) -> Result<(), Fail>
     same(&rt, bytes.len(), 70_000);
     holds(&rt, portions.end() == Some(PathEnd::AtEnd));
     handle.join(&rt);
+    Ok(())
+}
+
+#[test]
+fn a_path_is_given_whole_once_its_last_line_is(rt: HostRuntime) -> Result<(), Fail> {
+    let alloc = rt.alloc();
+    let (reader, mut portions, _) = connect(&rt, alloc)?;
+    let handle = reader.start(&rt, rt, Repeated { times: 1 })?;
+    let mut line = [0u8; 7];
+    holds(&rt, portions.read(&mut line) == Ok(7));
+    holds(&rt, portions.read(&mut line) == Ok(0));
+    holds(&rt, portions.gave_path(&rt, handle));
+    Ok(())
+}
+
+#[test]
+fn a_path_that_goes_on_isn_t_given_whole(rt: HostRuntime) -> Result<(), Fail> {
+    let alloc = rt.alloc();
+    let (reader, mut portions, hand_over) = connect(&rt, alloc)?;
+    let handle = reader.start(&rt, rt, Repeated { times: 1 })?;
+    hand_over.request();
+    let mut line = [0u8; 7];
+    holds(&rt, portions.read(&mut line) == Ok(0));
+    holds(&rt, !portions.gave_path(&rt, handle));
     Ok(())
 }

@@ -17,6 +17,7 @@ mod help;
 mod json;
 mod limits;
 mod outputs;
+mod places;
 mod records;
 mod replays;
 mod replies;

@@ -43,7 +43,7 @@ by_claim n book frame (Err fault) is fit = cc
 by_claim n book frame (Ok claim) is fit =
     let a = claim.address in
     let place = place_from_fit (is_unassigned a) _ fit in
-    let tracks = copied n a (updated_track book.moment (fields_of frame) (track_or_blank a book.tracks)) book.tracks (found_address a book.tracks) place in
+    let tracks = copied n a (updated_track book.site book.moment (fields_of frame) (track_or_blank a book.tracks)) book.tracks (found_address a book.tracks) place in
     (Track a, refl, rw (is, tracks, frame_copied frame book.first_frames) refl)
 
 pub brings : (n : ℕ) (book : BookState) (call : Call) → fits n book call ≡ true →

@@ -1,9 +1,9 @@
 -- The laws of the book over whole journals.
-use Rattle.std.proofs.Common.{◌≡◌, ℕ, ◌<◌, true, List, [], ◌∷◌, ◌++◌, length, None, refl, ◌∙◌, arith, nat_lt, reverse}
+use Rattle.std.proofs.Common.{◌≡◌, ℕ, ◌<◌, true, List, [], ◌∷◌, ◌++◌, length, None, refl, ap, ◌∙◌, arith, nat_lt, reverse}
 use Rattle.std.proofs.lemmas.Bool.Decides.{nat_tests}
 use Rattle.std.proofs.lemmas.List.{length-reverse}
 use Rattle.station_journal.specs.declared.entry.Entry.{Entry}
-use Rattle.station_journal.proofs.Common.{Log, IsLegal, table_of, placed_of, clock_of, past_of, refusal_of, most_entries, Sound}
+use Rattle.station_journal.proofs.Common.{Site, table, placed_table, Log, IsLegal, table_of, placed_of, clock_of, past_of, refusal_of, most_entries, Sound}
 use Rattle.station_journal.proofs.SoundLemmas.{sound_legal}
 use Rattle.station_book.proofs.Common.{Call, Tick, Heard, call_of, entry_of, BookState, applied_book, book_offered, rows, placed_rows, fits, MatchesPast, Matches, Shows, book_of_past, book_after}
 use Rattle.station_book.proofs.MatchingLemmas.{matches_starting, matches_applied, matches_push}
@@ -51,11 +51,21 @@ pub match_after_offer : (log : Log) (book : BookState) (entry : Entry) → refus
 match_after_offer log book entry accepted few m = rw (offer_is_taken log book entry accepted few m) (match_after_accepted log book entry accepted m)
 
 -- a book that has applied the entries of a sound list matches it
-pub matches_sound : (n base : ℕ) (past : List Entry) → Sound n base past → MatchesPast n base (book_of_past base past) past
-matches_sound n base [] sound = matches_starting n base
-matches_sound n base (entry ∷ past) sound = matches_applied n base past entry (book_of_past base past) sound.0 (matches_sound n base past sound.1)
+pub matches_sound : (site : Site) (n base : ℕ) (past : List Entry) → Sound n base past → MatchesPast n base (book_of_past site base past) past
+matches_sound site n base [] sound = matches_starting site n base
+matches_sound site n base (entry ∷ past) sound = matches_applied n base past entry (book_of_past site base past) sound.0 (matches_sound site n base past sound.1)
 
-pub book_equals_search : (log : Log) → IsLegal log → (rows (book_after log.base log.entries) ≡ table_of log) × ((book_after log.base log.entries).moment ≡ clock_of log) × ((book_after log.base log.entries).entries ≡ length log.entries) × (placed_rows (book_after log.base log.entries) ≡ placed_of log)
+-- a book keeps its site
+pub site_applied : (book : BookState) (call : Call) → (applied_book book call).site ≡ book.site
+site_applied book (Tick at) = refl
+site_applied book (Heard frame) = refl
+
+pub site_of_past : (site : Site) (base : ℕ) (past : List Entry) → (book_of_past site base past).site ≡ site
+site_of_past site base [] = refl
+site_of_past site base (entry ∷ past) = site_applied (book_of_past site base past) (call_of entry) ∙ site_of_past site base past
+
+pub book_equals_search : (log : Log) → IsLegal log → (rows (book_after log.limits.site log.base log.entries) ≡ table_of log) × ((book_after log.limits.site log.base log.entries).moment ≡ clock_of log) × ((book_after log.limits.site log.base log.entries).entries ≡ length log.entries) × (placed_rows (book_after log.limits.site log.base log.entries) ≡ placed_of log)
 book_equals_search log legal =
-    let m = matches_sound log.limits.aircraft log.base (past_of log) (sound_legal log.limits log.base log.resumed (past_of log) legal) in
-    (rows_are_table log.limits.aircraft log.base (past_of log) (book_after log.base log.entries) m, m.moment, m.entries ∙ length-reverse log.entries, placed_are_table log.limits.aircraft log.base (past_of log) (book_after log.base log.entries) m)
+    let m = matches_sound log.limits.site log.limits.aircraft log.base (past_of log) (sound_legal log.limits log.base log.resumed (past_of log) legal) in
+    let same = site_of_past log.limits.site log.base (past_of log) in
+    (rows_are_table log.limits.aircraft log.base (past_of log) (book_after log.limits.site log.base log.entries) m ∙ ap (λ site. table site log.base (past_of log)) same, m.moment, m.entries ∙ length-reverse log.entries, placed_are_table log.limits.aircraft log.base (past_of log) (book_after log.limits.site log.base log.entries) m ∙ ap (λ site. placed_table site log.base (past_of log)) same)

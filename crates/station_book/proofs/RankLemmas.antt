@@ -8,7 +8,7 @@ use Rattle.std.proofs.Math.Seq.{take-append_seam}
 use Rattle.std.proofs.lemmas.Bool.Decides.{nat_tests}
 use Rattle.std.proofs.lemmas.List.{length-map}
 use Rattle.station_journal.specs.Rising.{AllOver, IsRising}
-use Rattle.station_journal.proofs.Common.{blank, updated_track}
+use Rattle.station_journal.proofs.Common.{Site, blank, updated_track}
 use Rattle.station_journal.specs.declared.tracks.Track.{Track}
 use Rattle.station_book.proofs.Common.{find_track, put_track, track_or_blank, address_of, Rising, IsRank, StandsAt, with_track}
 use Rattle.station_book.proofs.TrackLemmas.{find_below, found_address}
@@ -115,11 +115,11 @@ map_insert t (x ∷ xs) zero = refl
 map_insert t (x ∷ xs) (suc i) = ap (λ rest. x.address ∷ rest) (map_insert t xs i)
 
 -- an update of the track at its place is a put of the updated track
-pub update_there : (a i now : ℕ) (fields : Fields) (xs : List Track) (d : Track) → StandsAt xs a (Ok i) → set xs i (updated_track now fields (get_or xs i d)) ≡ put_track (updated_track now fields (track_or_blank a xs)) xs
-update_there a i now fields xs d place =
+pub update_there : (site : Site) (a i now : ℕ) (fields : Fields) (xs : List Track) (d : Track) → StandsAt xs a (Ok i) → set xs i (updated_track site now fields (get_or xs i d)) ≡ put_track (updated_track site now fields (track_or_blank a xs)) xs
+update_there site a i now fields xs d place =
     let stood : get_or xs i d ≡ track_or_blank a xs = ap (λ o. unwrap_or o (blank a)) (sym (slice_get-get_or xs i d place.0) ∙ place.1) in
-    let address : (updated_track now fields (get_or xs i d)).address ≡ a = ap address_of stood ∙ found_address a xs in
-    place.2 (updated_track now fields (get_or xs i d)) address ∙ ap (λ t. put_track (updated_track now fields t) xs) stood
+    let address : (updated_track site now fields (get_or xs i d)).address ≡ a = ap address_of stood ∙ found_address a xs in
+    place.2 (updated_track site now fields (get_or xs i d)) address ∙ ap (λ t. put_track (updated_track site now fields t) xs) stood
 
 -- the track at the place of an address has that address
 pub stands_there : (a i : ℕ) (xs : List Track) (d : Track) → StandsAt xs a (Ok i) → (get_or xs i d).address ≡ a

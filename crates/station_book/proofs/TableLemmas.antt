@@ -33,7 +33,7 @@ rows_agree f g (track ∷ rest) rising agree =
     cc
 
 module _ (n base : ℕ) (past : List Entry) (book : BookState) (m : MatchesPast n base book past) where
-  found_is_live : (a : ℕ) (kept : Option Track) → TracksAt base past a kept → is_some kept ≡ live base past a
+  found_is_live : (a : ℕ) (kept : Option Track) → TracksAt book.site base past a kept → is_some kept ≡ live base past a
   found_is_live a None absent = sym absent
   found_is_live a (Some track) t = sym t.live
 
@@ -49,24 +49,36 @@ module _ (n base : ℕ) (past : List Entry) (book : BookState) (m : MatchesPast 
   pub same_count : length book.tracks ≡ length (live_addresses base past)
   same_count = sym (length-map book.tracks address_of) ∙ ap length same_addresses
 
-  row_of_tracks : (a : ℕ) (track : Track) → Tracks base past a track → track_row (clock base past) track ≡ row base past a
-  row_of_tracks a track t = rw (t.address, t.callsign (clock base past) (omega arith), t.altitude (clock base past) (omega arith), t.squawk (clock base past) (omega arith), t.velocity (clock base past) (omega arith), t.vertical (clock base past) (omega arith), t.position (clock base past) (omega arith), t.heard) refl
+  row_of_tracks : (a : ℕ) (track : Track) → Tracks book.site base past a track → track_row (clock base past) track ≡ row book.site base past a
+  row_of_tracks a track t = rw (
+    t.address,
+    t.callsign (clock base past) (omega arith),
+    t.category (clock base past) (omega arith),
+    t.altitude (clock base past) (omega arith),
+    t.squawk (clock base past) (omega arith),
+    t.emergency (clock base past) (omega arith),
+    t.velocity (clock base past) (omega arith),
+    t.rate (clock base past) (omega arith),
+    t.on_ground (clock base past) (omega arith),
+    t.position (clock base past) (omega arith),
+    t.heard,
+  ) refl
 
-  row_of_found : (a : ℕ) (track : Track) → find_track a book.tracks ≡ Some track → track_row book.moment track ≡ row base past a
-  row_of_found a track e = rw m.moment (row_of_tracks a track (subst (TracksAt base past a) e (m.each a)))
+  row_of_found : (a : ℕ) (track : Track) → find_track a book.tracks ≡ Some track → track_row book.moment track ≡ row book.site base past a
+  row_of_found a track e = rw m.moment (row_of_tracks a track (subst (TracksAt book.site base past a) e (m.each a)))
 
   -- the rows are the table
-  pub rows_are_table : rows book ≡ table base past
-  rows_are_table = rows_agree (track_row book.moment) (row base past) book.tracks m.rising row_of_found ∙ ap (map (row base past)) same_addresses
+  pub rows_are_table : rows book ≡ table book.site base past
+  rows_are_table = rows_agree (track_row book.moment) (row book.site base past) book.tracks m.rising row_of_found ∙ ap (map (row book.site base past)) same_addresses
 
-  placed_of_found : (a : ℕ) (track : Track) → find_track a book.tracks ≡ Some track → track_placed book.moment track ≡ placed base past a
+  placed_of_found : (a : ℕ) (track : Track) → find_track a book.tracks ≡ Some track → track_placed book.moment track ≡ placed book.site base past a
   placed_of_found a track e =
-      let t : Tracks base past a track = subst (TracksAt base past a) e (m.each a) in
-      rw m.moment (moments_agree 60000 (clock base past) track.position (newest_fix base a past) t.position)
+      let t : Tracks book.site base past a track = subst (TracksAt book.site base past a) e (m.each a) in
+      rw m.moment (moments_agree 60000 (clock base past) track.position (newest_fix book.site base a past) t.position)
 
   -- the times of their positions are those of the table
-  pub placed_are_table : placed_rows book ≡ placed_table base past
-  placed_are_table = rows_agree (track_placed book.moment) (placed base past) book.tracks m.rising placed_of_found ∙ ap (map (placed base past)) same_addresses
+  pub placed_are_table : placed_rows book ≡ placed_table book.site base past
+  placed_are_table = rows_agree (track_placed book.moment) (placed book.site base past) book.tracks m.rising placed_of_found ∙ ap (map (placed book.site base past)) same_addresses
 
 -- the row of the track that is found, if there is one
 abbrev pub row_found : ℕ → Option Track → Option Aircraft

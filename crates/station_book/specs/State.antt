@@ -7,7 +7,7 @@ use Rattle.station_journal.specs.declared.aircraft.Aircraft.{Aircraft}
 use Rattle.station_journal.specs.declared.refusal.Refusal.{Refusal}
 use Rattle.station_journal.specs.declared.refusal.Refusal.TheVariants.{Unknown, BookFull, NotLater, Repeated}
 use Rattle.station_journal.specs.Log.{most_entries}
-use Rattle.station_journal.specs.Past.{Frame, or_older}
+use Rattle.station_journal.specs.Past.{Site, Frame, or_older}
 use Rattle.station_journal.specs.Repeats.{is_one_of, with_heard}
 use Rattle.station_journal.specs.Verdict.{refuse_if, fault_refusal}
 use Rattle.station_book.specs.declared.call.Call.{Call}
@@ -18,16 +18,18 @@ use Rattle.station_book.specs.declared.call.Change.TheVariants as change
 use Rattle.station_journal.specs.Track.{track_row, track_placed}
 use Rattle.station_book.specs.Tracks.{find_track, tracks_left, with_claimed, has_place, with_track}
 
--- the clock, the number of entries taken, the track of each live aircraft, and the first frames since the newest tick
+-- the site, the clock, the number of entries taken, the track of each live aircraft, and the first frames since the newest
+-- tick
 pub record BookState : Type 0 where
+  pub site : Site
   pub moment : ℕ
   pub entries : ℕ
   pub tracks : List Track
   pub first_frames : List Frame
 
 -- a book without entries, whose clock is the base
-abbrev pub starting : ℕ → BookState
-starting base = record { moment = base; entries = 0; tracks = []; first_frames = [] }
+abbrev pub starting : Site → ℕ → BookState
+starting site base = record { site = site; moment = base; entries = 0; tracks = []; first_frames = [] }
 
 -- the rows that the book shows
 abbrev pub rows : BookState → List Aircraft
@@ -62,11 +64,12 @@ with_frame_of frame (Ok claim) frames = with_heard frame frames
 
 -- the book that took a call
 abbrev pub applied_book : BookState → Call → BookState
-applied_book book (Tick at) = record { moment = at; entries = book.entries + 1; tracks = tracks_left at book.tracks; first_frames = [] }
+applied_book book (Tick at) = record { site = book.site; moment = at; entries = book.entries + 1; tracks = tracks_left at book.tracks; first_frames = [] }
 applied_book book (Heard frame) = record {
+  site = book.site;
   moment = book.moment;
   entries = book.entries + 1;
-  tracks = with_claimed book.moment frame (claim_of frame) book.tracks;
+  tracks = with_claimed book.site book.moment frame (claim_of frame) book.tracks;
   first_frames = with_frame_of frame (claim_of frame) book.first_frames;
 }
 
@@ -92,8 +95,9 @@ with_frame_ahead ahead frames = frames ++ take 1 (drop (length frames) ahead)
 -- change of the tracks and the first frames
 abbrev pub caught_up : ℕ → BookState → Change → BookState → BookState
 caught_up n ahead change.Clock book =
-    record { moment = ahead.moment; entries = ahead.entries; tracks = tracks_left ahead.moment book.tracks; first_frames = [] }
+    record { site = book.site; moment = ahead.moment; entries = ahead.entries; tracks = tracks_left ahead.moment book.tracks; first_frames = [] }
 caught_up n ahead (change.Track a) book = record {
+  site = book.site;
   moment = ahead.moment;
   entries = ahead.entries;
   tracks = with_track n (find_track a ahead.tracks) book.tracks;

@@ -3,7 +3,7 @@ use Rattle.std.specs.Prelude.{◌≡◌, ℕ, ◌-◌, ◌<◌, Bool, true, ◌=
 use Rattle.modes_fields.specs.Carried.{fields_of}
 use Rattle.modes_frame.specs.declared.claims.Claim.{Claim}
 use Rattle.modes_frame.specs.declared.claims.CheckFault.{CheckFault}
-use Rattle.station_journal.specs.Past.{Frame, life_ms}
+use Rattle.station_journal.specs.Past.{Site, Frame, life_ms}
 use Rattle.station_journal.specs.Track.{blank, updated_track}
 use Rattle.station_journal.specs.declared.tracks.Track.{Track}
 
@@ -28,9 +28,9 @@ abbrev pub track_or_blank : ℕ → List Track → Track
 track_or_blank a tracks = unwrap_or (find_track a tracks) (blank a)
 
 -- the tracks after a frame with this claim, heard at the time now
-abbrev pub with_claimed : ℕ → Frame → Result Claim CheckFault → List Track → List Track
-with_claimed now frame (Err fault) tracks = tracks
-with_claimed now frame (Ok claim) tracks = put_track (updated_track now (fields_of frame) (track_or_blank claim.address tracks)) tracks
+abbrev pub with_claimed : Site → ℕ → Frame → Result Claim CheckFault → List Track → List Track
+with_claimed site now frame (Err fault) tracks = tracks
+with_claimed site now frame (Ok claim) tracks = put_track (updated_track site now (fields_of frame) (track_or_blank claim.address tracks)) tracks
 
 -- the address has a track, or there are fewer than n
 abbrev pub has_place : ℕ → ℕ → List Track → Bool

@@ -2,6 +2,7 @@
 
 ghost use Rattle.std.specs.Prelude.{◌≡◌, ℕ, true, List, ◌∷◌, [], ◌++◌, ◌<◌, length, None, Some};
 ghost use Rattle.station_journal.specs.declared.entry.Entry.{Entry};
+ghost use Rattle.station_journal.specs.Past.{Site};
 ghost use Rattle.station_journal.specs.Log.{Log, IsLegal, table_of, placed_of, clock_of, refusal_of, most_entries};
 ghost use Rattle.station_book.specs.declared.call.Call.{Call};
 ghost use Rattle.station_book.specs.declared.call.Change.{Change};
@@ -12,7 +13,7 @@ ghost use Rattle.station_book.specs.Matching.{Matches, Shows, book_after};
 
 /// A book without entries matches the list without entries, whatever the base of its clock.
 pub fn a_new_book_matches()
-    ensures { (n : ℕ) (base : ℕ) → Matches n base (starting base) [] }
+    ensures { (site : Site) (n : ℕ) (base : ℕ) → Matches n base (starting site base) [] }
 {}
 
 /// A book that matches a list shows what the search finds in it. It refuses what a journal would, but for
@@ -56,10 +57,10 @@ pub fn an_offer_keeps_a_match()
 /// journal's clock, and counts its entries.
 pub fn the_book_equals_the_search()
     ensures { (log : Log) → IsLegal log →
-        (rows (book_after log.base log.entries) ≡ table_of log) ×
-        ((book_after log.base log.entries).moment ≡ clock_of log) ×
-        ((book_after log.base log.entries).entries ≡ length log.entries) ×
-        (placed_rows (book_after log.base log.entries) ≡ placed_of log) }
+        (rows (book_after log.limits.site log.base log.entries) ≡ table_of log) ×
+        ((book_after log.limits.site log.base log.entries).moment ≡ clock_of log) ×
+        ((book_after log.limits.site log.base log.entries).entries ≡ length log.entries) ×
+        (placed_rows (book_after log.limits.site log.base log.entries) ≡ placed_of log) }
 {}
 
 /// A book that copies what a call changed equals the one that applied the call.

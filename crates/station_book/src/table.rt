@@ -9,6 +9,7 @@ ghost use Rattle.station_book.specs.Tracks.{address_of, IsRank, StandsAt, HeardF
 
 use crate::copying::copy_list;
 use arrayvec::ArrayVec;
+use modes_cpr::Reference;
 use modes_frame::Frame;
 use station_journal::LIFE_MS;
 use station_journal::tracks::{Track, blank, update};
@@ -135,30 +136,44 @@ impl<const N: usize> Table<N> {
 
     /// Updates the track of the address, which has this place, by a frame heard at the time `now`. Where there is none,
     /// inserts one.
-    pub fn hear(&mut self, place: Result<usize, usize>, now: u64, address: u32, frame: &Frame)
+    pub fn hear(
+        &mut self,
+        place: Result<usize, usize>,
+        site: Option<Reference>,
+        now: u64,
+        address: u32,
+        frame: &Frame,
+    )
         requires place { StandsAt self.old address place }
         requires room { find_track address self.old ≡ None → length self.old < N }
-        ensures { self.new ≡ put_track (updated_track now (fields_of frame.now) (track_or_blank address self.old)) self.old }
+        ensures { self.new ≡ put_track (updated_track site now (fields_of frame.now) (track_or_blank address self.old)) self.old }
     {
         match place {
             Ok(rank) => {
                 lower(&mut self.oldest, now);
                 note_place(&mut self.hints, address, rank);
-                update(&mut self.tracks[rank], now, frame);
+                update(&mut self.tracks[rank], site, now, frame);
             }
-            Err(rank) => self.hear_first(rank, now, address, frame),
+            Err(rank) => self.hear_first(rank, site, now, address, frame),
         }
     }
 
     // Inserts a track of the address, which has none and would have this place, with what a frame carries.
     #[inline(never)]
-    fn hear_first(&mut self, rank: usize, now: u64, address: u32, frame: &Frame)
+    fn hear_first(
+        &mut self,
+        rank: usize,
+        site: Option<Reference>,
+        now: u64,
+        address: u32,
+        frame: &Frame,
+    )
         requires place { StandsAt self.old address (Err rank) }
         requires room { length self.old < N }
-        ensures { self.new ≡ put_track (updated_track now (fields_of frame.now) (blank address)) self.old }
+        ensures { self.new ≡ put_track (updated_track site now (fields_of frame.now) (blank address)) self.old }
     {
         let mut track = blank(address);
-        update(&mut track, now, frame);
+        update(&mut track, site, now, frame);
         self.insert(rank, &track);
     }
 

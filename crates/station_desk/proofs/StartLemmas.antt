@@ -29,14 +29,15 @@ unsound_at limits n base place entries same few out = record {
   with_it = λ sound. out.with_it (subst (λ k. Sound k base (reverse (take (place + 1) entries))) same (sound_by_fits limits base (reverse (take (place + 1) entries)) sound));
 }
 
-pub begins : (n base : ℕ) (old : Sheet) (book : BookState) (front : Known) (origin : Origin) (entries : List Entry) → old.origin ≡ None → front.entries ≡ entries → base_of front.name ≡ base → BeginsWith n origin entries → Matches n base book entries → Follows n old (sheet book front (Some origin))
-begins n base old book front origin entries none is at with m =
+pub begins : (n base : ℕ) (old : Sheet) (book : BookState) (front : Known) (origin : Origin) (entries : List Entry) → old.origin ≡ None → front.entries ≡ entries → base_of front.name ≡ base → BeginsWith n origin entries → Matches n base book entries → book.site ≡ origin.limits.site → Follows n old (sheet book front (Some origin))
+begins n base old book front origin entries none is at with m site =
     let sound : IsSound origin.limits base (reverse entries) = sound_at origin.limits n base entries with.aircraft with.room m.sound in
     let legal : LegalFrom origin.limits base origin.resumed (reverse entries) = legal_resumed origin.limits base origin.resumed (reverse entries) sound (omega (arith, with.resumed, length-reverse entries)) in
     record {
       right = λ r. record {
         matched = subst (λ k. Matches n k book front.entries) (sym at) (subst (λ es. Matches n base book es) (sym is) m);
         legal = subst (λ k. LegalFrom origin.limits k origin.resumed (reverse front.entries)) (sym at) (subst (λ (es : List Entry). LegalFrom origin.limits base origin.resumed (reverse es)) (sym is) legal);
+        site = site;
       };
       same = inl none;
     }

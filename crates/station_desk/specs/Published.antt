@@ -42,10 +42,11 @@ next_sheet {n} shown spare call next = sheet (book_offered n (brought_up n shown
 abbrev pub LegalUnder : Name → Option Origin → List Entry → Type 0
 LegalUnder history origin entries = IfSome origin (λ o. IsLegal (log_of (start_at history o) entries))
 
--- the book, of at most n aircraft, matches its beginning of the history, which is legal
+-- the book, of at most n aircraft, matches its beginning of the history, which is legal, and has the site of the station
 pub record IsRight (n : ℕ) (s : Sheet) : Type 0 where
   pub matched : Matches n (base_of s.front.name) s.book s.front.entries
   pub legal : LegalUnder s.front.name s.origin s.front.entries
+  pub site : IfSome s.origin (λ o. s.book.site ≡ o.limits.site)
 
 -- what is known is a beginning of the published history, and its origin
 pub record IsOfSheet (s : Sheet) (k : Mark) : Type 0 where

@@ -84,7 +84,7 @@ where
 
     ghost invariant = { λ p. (p.history.entries ≡ [])
         × (p.publisher.desk.shown.value.front ≡ p.history)
-        × (p.publisher.desk.shown.value.book ≡ starting p.base)
+        × (p.publisher.desk.shown.value.book ≡ starting None p.base)
         × (p.publisher.desk.shown.value.origin ≡ None)
         × (base_of p.history.name ≡ p.base)
         × (drop p.publisher.behind p.publisher.log.items ≡ []) };
@@ -160,6 +160,7 @@ impl<const N: usize> Places<N> {
             ≡ Some (record { limits = limits; resumed = length entries.now })) }
         ensures matched { IfOk result (λ t.
             Matches N (base_of self.entry.history) t.0.publisher.desk.shown.value.book entries.now) }
+        ensures site { IfOk result (λ t. t.0.publisher.desk.shown.value.book.site ≡ limits.site) }
         ensures places { IfOk result (λ t. (vec_len t.1 ≡ self.entry.places)
             × AllByRecursion (λ p. IsOf (record { history = self.entry.history; limits = limits; resumed = length entries.now }) (view p.place)) t.1.items) }
         ensures err { IfErr result (λ fault. Refuses limits (base_of self.entry.history) entries.now fault) }

@@ -118,11 +118,11 @@ fn fill<const N: usize>(
     entries: &[Entry],
 ) -> Result<(), u64>
     requires few { length entries.now ≤ most_entries }
-    ensures sheet { OnOk result (sheet_of copy.new ≡ sheet (book_after base entries.now) front (Some origin)) }
+    ensures sheet { OnOk result (sheet_of copy.new ≡ sheet (book_after origin.limits.site base entries.now) front (Some origin)) }
     ensures matched { OnOk result (Matches N base copy.new.book entries.now) }
     ensures err { IfErr result (λ place. IsFirstUnsound N base entries.now place) }
 {
-    copy.book = Book::starting(base);
+    copy.book = Book::starting(origin.limits.site, base);
     copy.book.take_all(base, entries)?;
     copy.front = front;
     copy.origin = Some(origin);
@@ -143,7 +143,7 @@ fn fill_spare<const N: usize, R: Wait>(
     ensures shown { IfOk result (λ p. p.desk.shown ≡ publisher.entry.desk.shown) }
     ensures view { IfOk result (λ p. view p.desk.place ≡ view publisher.entry.desk.place) }
     ensures sheet { IfOk result (λ p. sheet_of p.desk.spare.value
-        ≡ sheet (book_after base entries.now) front (Some origin)) }
+        ≡ sheet (book_after origin.limits.site base entries.now) front (Some origin)) }
     ensures matched { IfOk result (λ p. Matches N base p.desk.spare.value.book entries.now) }
     ensures pending { IfOk result (λ p. drop p.behind p.log.items ≡ drop publisher.entry.behind publisher.entry.log.items) }
     ensures err { IfErr result (λ place. IsFirstUnsound N base entries.now place) }
@@ -208,8 +208,9 @@ pub(crate) fn begin<const N: usize, R: Wait>(
     requires front { (front.entries ≡ entries.now) × (base_of front.name ≡ base) }
     requires origin { BeginsWith N origin entries.now }
     ensures shown { IfOk result (λ p. sheet_of p.desk.shown.value
-        ≡ sheet (book_after base entries.now) front (Some origin)) }
+        ≡ sheet (book_after origin.limits.site base entries.now) front (Some origin)) }
     ensures matched { IfOk result (λ p. Matches N base p.desk.shown.value.book entries.now) }
+    ensures site { IfOk result (λ p. p.desk.shown.value.book.site ≡ origin.limits.site) }
     ensures spare { IfOk result (λ p. (p.desk.spare.value.book ≡ p.desk.shown.value.book)
         × (p.desk.spare.value.origin ≡ p.desk.shown.value.origin)) }
     ensures view { IfOk result (λ p. view p.desk.place
@@ -224,12 +225,12 @@ pub(crate) fn begin<const N: usize, R: Wait>(
 
 /// A copy with a book without entries, of no station yet.
 pub(crate) fn blank<const N: usize>(history: &History, base: u64) -> PublishedTable<N>
-    ensures book { result.book ≡ starting base }
+    ensures book { result.book ≡ starting None base }
     ensures front { result.front ≡ history.now }
     ensures origin { result.origin ≡ None }
 {
     PublishedTable {
-        book: Book::starting(base),
+        book: Book::starting(None, base),
         front: history.front(),
         origin: None,
     }

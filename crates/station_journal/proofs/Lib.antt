@@ -3,6 +3,8 @@ pub mod FreshLemmas
 pub mod SearchLemmas
 pub mod RisingLemmas
 pub mod FoundLemmas
+pub mod MappedLemmas
+pub mod AirborneLemmas
 pub mod RepeatLemmas
 pub mod LegalPastLemmas
 pub mod NewestLemmas

@@ -1,7 +1,7 @@
 -- The time of what a search of the past finds. It is old where the aircraft isn't live.
 use Rattle.std.proofs.Common.{◌≡◌, ℕ, ◌-◌, ◌≤◌, Bool, true, false, ◌&&◌, ◌||◌, if◌then◌else◌, List, [], ◌∷◌, Option, Some, None, IfSome, is_some, refl, sym, ◌∙◌, arith, nat_le}
 use Rattle.std.proofs.lemmas.Bool.Decides.{nat_tests}
-use Rattle.station_journal.proofs.Common.{Frame, Entry, Tick, Heard, Stamped, clock, speaks_for, heard_within, live, stamp, or_older, fresh, read_for, newest, newest_fix, fix_by, place_of, sighting_of, moment_of, found_in, is_recent, IsTimed}
+use Rattle.station_journal.proofs.Common.{Site, Frame, Entry, Tick, Heard, Stamped, clock, speaks_for, heard_within, live, stamp, or_older, fresh, read_for, newest, newest_fix, fix_by, spot_of, sighting_of, moment_of, found_in, is_recent, IsTimed}
 use Rattle.modes_cpr.specs.declared.points.Position.{Position}
 
 module _ {V : Type 0} where
@@ -33,16 +33,16 @@ module _ {V : Type 0} where
       old_step now (clock base past) (speaks_for a frame) (read frame) (heard_within now base a past) (newest read base a past) old (newest_old read now base a past)
 
 -- a fix needs a place, and so a frame of the aircraft
-fix_of_none : (now m : ℕ) (speaks : Bool) (base a : ℕ) (past : List Entry) (frame : Frame) (rest : Bool) (older : Option (Stamped Position)) → (speaks && nat_le (now - m) 60000) || rest ≡ false → (rest ≡ false → fresh 60000 now older ≡ None) → fresh 60000 now (or_older (stamp m (fix_by base a past (if speaks then place_of frame else None))) older) ≡ None
-fix_of_none now m false base a past frame rest older old before = before old
-fix_of_none now m true base a past frame rest older old before = old_step now m true (fix_by base a past (place_of frame)) rest older old before
+fix_of_none : (site : Site) (now m : ℕ) (speaks : Bool) (base a : ℕ) (past : List Entry) (frame : Frame) (rest : Bool) (older : Option (Stamped Position)) → (speaks && nat_le (now - m) 60000) || rest ≡ false → (rest ≡ false → fresh 60000 now older ≡ None) → fresh 60000 now (or_older (stamp m (fix_by site base a past (if speaks then spot_of site frame else None))) older) ≡ None
+fix_of_none site now m false base a past frame rest older old before = before old
+fix_of_none site now m true base a past frame rest older old before = old_step now m true (fix_by site base a past (spot_of site frame)) rest older old before
 
 -- each fix of an aircraft that isn't live is old
-pub newest_fix_old : (now base a : ℕ) (past : List Entry) → heard_within now base a past ≡ false → fresh 60000 now (newest_fix base a past) ≡ None
-newest_fix_old now base a [] old = refl
-newest_fix_old now base a (Tick seat at ∷ past) old = newest_fix_old now base a past old
-newest_fix_old now base a (Heard seat frame ∷ past) old =
-    fix_of_none now (clock base past) (speaks_for a frame) base a past frame (heard_within now base a past) (newest_fix base a past) old (newest_fix_old now base a past)
+pub newest_fix_old : (site : Site) (now base a : ℕ) (past : List Entry) → heard_within now base a past ≡ false → fresh 60000 now (newest_fix site base a past) ≡ None
+newest_fix_old site now base a [] old = refl
+newest_fix_old site now base a (Tick seat at ∷ past) old = newest_fix_old site now base a past old
+newest_fix_old site now base a (Heard seat frame ∷ past) old =
+    fix_of_none site now (clock base past) (speaks_for a frame) base a past frame (heard_within now base a past) (newest_fix site base a past) old (newest_fix_old site now base a past)
 
 -- where ticks rise, an aircraft was heard within 60,000 ms exactly where its newest frame was
 live_step : (now m : ℕ) (speaks : Bool) (rest : Bool) (older : Option (Stamped ℕ)) → rest ≡ is_some (fresh 60000 now older) → IfSome older (λ s. s.at ≤ m) → (speaks && nat_le (now - m) 60000) || rest ≡ is_some (fresh 60000 now (or_older (stamp m (if speaks then Some 0 else None)) older))
@@ -61,5 +61,5 @@ recent_step now None = refl
 recent_step now (Some s) = grind (arith, nat_tests)
 
 -- an aircraft is live exactly where its newest frame is recent
-pub live_if_recent : (base a : ℕ) (past : List Entry) → IsTimed base past → is_recent (found_in base past a) ≡ live base past a
-live_if_recent base a past timed = recent_step (clock base past) (newest sighting_of base a past) ∙ sym (heard_by_newest (clock base past) base a past timed)
+pub live_if_recent : (site : Site) (base a : ℕ) (past : List Entry) → IsTimed base past → is_recent (found_in site base past a) ≡ live base past a
+live_if_recent site base a past timed = recent_step (clock base past) (newest sighting_of base a past) ∙ sym (heard_by_newest (clock base past) base a past timed)

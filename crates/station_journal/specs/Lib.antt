@@ -1,6 +1,9 @@
 pub mod Past
 pub mod Latest
+pub mod Rates
+pub mod LatestRate
 pub mod Table
+pub mod Airborne
 pub mod Repeats
 pub mod Verdict
 pub mod Log

@@ -1,12 +1,11 @@
 //! Values with their times in milliseconds, and how they age.
 
 ghost use Rattle.std.specs.Prelude.{◌≡◌};
-ghost use Rattle.station_journal.specs.Past.{fresh, fresh_moment, with_parity, pair_with};
+ghost use Rattle.station_journal.specs.Past.{fresh, fresh_moment, with_parity, pair_with, fix_of};
 ghost use Rattle.station_journal.specs.Track.{fix_from};
 
-use crate::{PAIR_MS, Stamped};
-use modes_cpr::{Position, pair};
-use modes_fields::Place;
+use crate::{PAIR_MS, Spot, Stamped};
+use modes_cpr::{Position, Reference, pair, surface_pair};
 
 /// The value, unless it is more than `limit` older than `now`.
 pub fn fresh<T: Copy>(limit: u64, now: u64, kept: Option<Stamped<T>>) -> Option<T>
@@ -35,25 +34,43 @@ pub fn fresh_moment<T: Copy>(limit: u64, now: u64, kept: Option<Stamped<T>>) -> 
 }
 
 /// The place, if it has this parity.
-pub fn with_parity(odd: bool, place: Option<Place>) -> Option<Place>
-    ensures { result ≡ with_parity odd place }
+pub fn with_parity(odd: bool, spot: Option<Spot>) -> Option<Spot>
+    ensures { result ≡ with_parity odd spot }
 {
-    match place {
-        Some(place) => { if place.odd == odd { Some(place) } else { None } }
+    match spot {
+        Some(spot) => { if spot.odd == odd { Some(spot) } else { None } }
         None => None,
     }
 }
 
+// The position of an even and an odd place. There is none of an airborne and a surface place.
+fn fix_of(site: Option<Reference>, even: Spot, odd: Spot, newest_odd: bool) -> Option<Position>
+    ensures { result ≡ fix_of site even odd newest_odd }
+{
+    if even.surface {
+        if odd.surface {
+            let reference = site?;
+            surface_pair(even.place(), odd.place(), newest_odd, reference)
+        } else {
+            None
+        }
+    } else if odd.surface {
+        None
+    } else {
+        pair(even.place(), odd.place(), newest_odd)
+    }
+}
+
 /// The position that a place gives with an earlier one of the other parity, if it gives any.
-pub fn pair_with(place: Place, other: Option<Place>) -> Option<Position>
-    ensures { result ≡ pair_with place other }
+pub fn pair_with(site: Option<Reference>, spot: Spot, other: Option<Spot>) -> Option<Position>
+    ensures { result ≡ pair_with site spot other }
 {
     match other {
         Some(other) => {
-            if place.odd {
-                pair(other, place, true)
+            if spot.odd {
+                fix_of(site, other, spot, true)
             } else {
-                pair(place, other, false)
+                fix_of(site, spot, other, false)
             }
         }
         None => None,
@@ -63,19 +80,20 @@ pub fn pair_with(place: Place, other: Option<Place>) -> Option<Position>
 /// The position that a place gives with the newest one of the other parity, if that is at most 10,000 ms older than `now`.
 #[inline(always)]
 pub fn fix_from(
+    site: Option<Reference>,
     now: u64,
-    even: Option<Stamped<Place>>,
-    odd: Option<Stamped<Place>>,
-    place: Option<Place>,
+    even: Option<Stamped<Spot>>,
+    odd: Option<Stamped<Spot>>,
+    spot: Option<Spot>,
 ) -> Option<Position>
-    ensures { result ≡ fix_from now even odd place }
+    ensures { result ≡ fix_from site now even odd spot }
 {
-    match place {
-        Some(place) => {
-            if place.odd {
-                pair_with(place, fresh(PAIR_MS, now, even))
+    match spot {
+        Some(spot) => {
+            if spot.odd {
+                pair_with(site, spot, fresh(PAIR_MS, now, even))
             } else {
-                pair_with(place, fresh(PAIR_MS, now, odd))
+                pair_with(site, spot, fresh(PAIR_MS, now, odd))
             }
         }
         None => None,

@@ -3,7 +3,7 @@ ghost use Rattle.std.specs.Prelude.{◌≡◌, ◌<◌, List, length, slice_get,
 ghost use Rattle.station_journal.specs.declared.aircraft.Aircraft.{Aircraft};
 
 use modes_cpr::Position;
-use modes_fields::{Callsign, Squawk, Velocity};
+use modes_fields::{Callsign, Category, Emergency, RateSource, Squawk, Velocity};
 
 /// A value, and the time of the frame that gave it, in milliseconds.
 #[derive(Clone, Copy, Debug, PartialEq, Eq)]
@@ -18,13 +18,20 @@ pub struct Aircraft {
     /// The ICAO address, below 2^24.
     pub address: u32,
     pub callsign: Option<Callsign>,
+    pub category: Option<Category>,
     /// In feet.
     pub altitude: Option<i32>,
     pub squawk: Option<Squawk>,
-    /// In knots.
+    /// What it reports of emergencies. That it has none is a report too.
+    pub emergency: Option<Emergency>,
+    /// Over ground, in the air or, where the site is given, on the ground.
     pub velocity: Option<Velocity>,
     /// In feet per minute.
     pub vertical: Option<i32>,
+    /// What measured the vertical rate, where that is known.
+    pub rate_source: Option<RateSource>,
+    /// Where the site is given: whether its newest place is that of a surface position.
+    pub on_ground: Option<bool>,
     /// In degrees.
     pub position: Option<Position>,
     /// The time of its newest frame, in milliseconds.

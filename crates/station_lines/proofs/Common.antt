@@ -5,12 +5,12 @@ pub use Rattle.station_lines.specs.Command.{are_digits, command_by, decimal_valu
 unfoldable pub use Rattle.station_lines.specs.Command.{command_of}
 pub use Rattle.station_lines.specs.CommandRules.{Commands, IsReceived, ReadsCommand, WritesMoment}
 pub use Rattle.station_lines.specs.Counting.{Counts, CountsLines, CountsNoCall, is_blank_line, is_frame, is_mode_ac, is_show, is_tick}
-pub use Rattle.station_lines.specs.Drawing.{AtEnd, Draws, Ending, EndsAs, FailsOnce, Gathers, Gives, GivesNone, LineStopped, ReadFailed, StopsWithin, Taken, TakesBytes, TakesEach, TakesLast, TurnsOver, ended_by, ending_as, is_read_failed, stopped_as}
+pub use Rattle.station_lines.specs.Drawing.{AtEnd, Draws, Ending, EndsAs, FailsOnce, Gathers, Gives, GivesNone, IsOver, LineStopped, ReadFailed, StopsWithin, Taken, TakesBytes, TakesEach, TakesLast, TurnsOver, ended_by, ending_as, is_read_failed, stopped_as}
 pub use Rattle.station_lines.specs.Feeds.{Feeds, is_reply}
 pub use Rattle.station_lines.specs.ParsedLines.{parsed_of, read_as}
 pub use Rattle.station_lines.specs.Pump.{Pumping, Pumps, PumpsAll, PumpsFrame, Wants, pump_answer, pump_ending, tally_of_pump, want_of}
 pub use Rattle.station_lines.specs.PumpLaws.{Pumps-none, Pumps-then, frames_of-append}
-pub use Rattle.station_lines.specs.Source.{SourceState, counted_up, longest_read, one_more}
+pub use Rattle.station_lines.specs.Source.{IsBorder, RingName, SourceState, counted_up, longest_read, one_more}
 pub use Rattle.station_lines.specs.declared.command.Command.{Command}
 pub use Rattle.station_lines.specs.declared.command.CommandFault.{CommandFault}
 pub use Rattle.station_lines.specs.declared.tally.Tally.{Tally}

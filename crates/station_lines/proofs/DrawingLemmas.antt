@@ -1,24 +1,23 @@
 -- Bytes of a source, one read after another.
 use Rattle.std.proofs.Common.{◌≡◌, ℕ, zero, suc, ◌+◌, ◌*◌, ◌-◌, ◌<◌, ◌≤◌, Bool, true, false, not, List, [], ◌∷◌, ◌++◌, length, take, drop, length-drop, Result, Ok, Err, OnOk, take-append-drop, refl, sym, ap, ◌∙◌, subst, append_assoc, append-nil, length-append, map, arith, option_to_list, take-add}
-use Rattle.std.specs.Io.KnownBytes.{IsAtEnd}
 use Rattle.std.proofs.KnownBytes.{Consumes-nil, Consumes-trans, Consumes-kept, Appends-nil, Appends-trans, Appends-kept}
 use Rattle.std.proofs.lemmas.List.{map-append, take_all}
 use Rattle.modes_frame.specs.declared.cutter.Cut.{Cut}
 use Rattle.modes_frame.specs.Lines.{pieces, cut_of, cuts, last_line, pending, ended_cuts, cut_ended_by}
 use Rattle.modes_frame.proofs.LineLemmas.{ended-push}
 use Rattle.station_report.specs.Sink.{count_after}
-use Rattle.station_lines.proofs.Common.{SourceState, one_more, counted_up, longest_read, Gives, GivesNone, Gathers, FailsOnce, Ending, AtEnd, ReadFailed, TurnsOver, LineStopped, EndsAs, is_read_failed, TakesEach, StopsWithin, TakesBytes, TakesLast, Taken, ending_as, stopped_as, ended_by}
+use Rattle.station_lines.proofs.Common.{SourceState, one_more, counted_up, longest_read, Gives, GivesNone, IsOver, Gathers, FailsOnce, Ending, AtEnd, ReadFailed, TurnsOver, LineStopped, EndsAs, is_read_failed, TakesEach, StopsWithin, TakesBytes, TakesLast, Taken, ending_as, stopped_as, ended_by}
 
 -- ---- bytes of a source
 
 pub Gives-nil : (a : SourceState) → Gives a a []
-Gives-nil a = (Consumes-nil a.left, Appends-nil a.given)
+Gives-nil a = (Consumes-nil a.left, Appends-nil a.given, refl)
 
 pub Gives-trans : (a b c : SourceState) (bs cs : List ℕ) → Gives a b bs → Gives b c cs → Gives a c (bs ++ cs)
-Gives-trans a b c bs cs p q = (Consumes-trans a.left b.left c.left bs cs p.0 q.0, Appends-trans a.given b.given c.given bs cs p.1 q.1)
+Gives-trans a b c bs cs p q = (Consumes-trans a.left b.left c.left bs cs p.0 q.0, Appends-trans a.given b.given c.given bs cs p.1 q.1, q.2 ∙ p.2)
 
 pub Gives-kept : (a b c : SourceState) (bs : List ℕ) → Gives a b bs → GivesNone b c → Gives a c bs
-Gives-kept a b c bs p q = (Consumes-kept a.left b.left c.left bs p.0 q.0, Appends-kept a.given b.given c.given bs p.1 q.1)
+Gives-kept a b c bs p q = (Consumes-kept a.left b.left c.left bs p.0 q.0, Appends-kept a.given b.given c.given bs p.1 q.1, q.2 ∙ p.2)
 
 -- ---- lines of some bytes
 
@@ -134,7 +133,7 @@ pub record GivenSoFar {X E : Type 0} (Took : X → List Cut → Result (Unit {0}
   pub asked : length given ≤ longest_read * made
   pub reads : now.reads ≡ counted_up made old.reads
   pub ends : now.ends ≡ count_after (not is_over) old.ends
-  pub over : is_over ≡ true → IsAtEnd now.left
+  pub over : is_over ≡ true → IsOver now
   pub failures : now.failures ≡ old.failures
   pub taken : TakesEach Took [] given held x y (Ok tt)
 

@@ -1,20 +1,24 @@
 -- The lines that a call takes of what its source gives.
-use Rattle.std.specs.Prelude.{◌≡◌, ℕ, ◌*◌, ◌<◌, ◌≤◌, Bool, true, false, not, nat_lt, List, length, [], ◌++◌, Result, Ok, Err}
+use Rattle.std.specs.Prelude.{◌≡◌, ℕ, ◌*◌, ◌<◌, ◌≤◌, Bool, true, false, not, nat_lt, List, length, [], ◌++◌, IfSome, Result, Ok, Err}
 use Rattle.std.specs.Io.KnownBytes.{Appends, Consumes, Keeps, IsAtEnd}
 use Rattle.modes_frame.specs.declared.cutter.Cut.{Cut}
 use Rattle.modes_frame.specs.Lines.{cuts, ended_cuts, pending}
 use Rattle.station_report.specs.Sink.{count_after}
-use Rattle.station_lines.specs.Source.{SourceState, one_more, counted_up, longest_read}
+use Rattle.station_lines.specs.Source.{IsBorder, SourceState, one_more, counted_up, longest_read}
 use Rattle.station_lines.specs.declared.lines.Ended.{Ended}
 use Rattle.station_lines.specs.declared.lines.Ended.TheVariants as Ends
 
--- it gave these bytes
+-- it gave these bytes, and is the same source
 abbrev pub Gives : SourceState → SourceState → List ℕ → Type 0
-Gives old new bytes = Consumes old.left new.left bytes × Appends old.given new.given bytes
+Gives old new bytes = Consumes old.left new.left bytes × Appends old.given new.given bytes × (new.ring ≡ old.ring)
 
 -- it gave none
 abbrev pub GivesNone : SourceState → SourceState → Type 0
-GivesNone old new = Keeps old.left new.left × Keeps old.given new.given
+GivesNone old new = Keeps old.left new.left × Keeps old.given new.given × (new.ring ≡ old.ring)
+
+-- it is at its end, where no line is begun in what it has given
+abbrev pub IsOver : SourceState → Type 0
+IsOver source = IsAtEnd source.left × IfSome source.given IsBorder
 
 -- reads made one after another gave these bytes, at most 512 each, and the last of them may have found the end
 pub record Gathers (old new : SourceState) (turns : ℕ) (bytes : List ℕ) (made : ℕ) (is_over : Bool) : Type 0 where
@@ -23,7 +27,7 @@ pub record Gathers (old new : SourceState) (turns : ℕ) (bytes : List ℕ) (mad
   pub few : made ≤ turns
   pub reads : new.reads ≡ counted_up made old.reads
   pub ends : new.ends ≡ count_after (not is_over) old.ends
-  pub over : is_over ≡ true → IsAtEnd new.left
+  pub over : is_over ≡ true → IsOver new
   pub failures : new.failures ≡ old.failures
   pub asked : length bytes ≤ longest_read * made
 
@@ -35,7 +39,7 @@ pub record ReadsMore (old new : SourceState) (before after : List ℕ) (n : ℕ)
   pub given : Gives old new bytes
   pub reads : new.reads ≡ one_more old.reads
   pub ends : new.ends ≡ count_after (nat_lt 0 n) old.ends
-  pub over : n ≡ 0 → IsAtEnd new.left
+  pub over : n ≡ 0 → IsOver new
   pub failures : new.failures ≡ old.failures
   pub asked : n ≤ longest_read
 
@@ -55,7 +59,7 @@ pub data Ending : Type 0 where
 
 -- the lines taken of those in the bytes given, and what the source counted, by the reason
 abbrev pub EndsAs : List ℕ → List Cut → List Cut → ℕ → SourceState → SourceState → Ending → Type 0
-EndsAs given lines left_out turns old new AtEnd = (left_out ≡ []) × (new.ends ≡ one_more old.ends) × IsAtEnd new.left
+EndsAs given lines left_out turns old new AtEnd = (left_out ≡ []) × (new.ends ≡ one_more old.ends) × IsOver new
 EndsAs given lines left_out turns old new ReadFailed = (lines ≡ ended_cuts given) × (new.ends ≡ old.ends)
 EndsAs given lines left_out turns old new TurnsOver =
     (lines ≡ ended_cuts given) × (new.ends ≡ old.ends) × (new.reads ≡ counted_up turns old.reads)

@@ -1,6 +1,19 @@
 -- What a source reports.
-use Rattle.std.specs.Prelude.{ℕ, zero, suc, ◌==◌, ◌&&◌, not, Bool, false, List, Option, Result, Ok, Err}
+use denote.RawPtr.{Ptr}
+use Rattle.std.specs.Prelude.{◌≡◌, ◌⊎◌, ℕ, zero, suc, ◌==◌, ◌&&◌, not, Bool, false, List, [], ◌∷◌, ◌++◌, Option, Result, Ok, Err}
+use Rattle.std.specs.declared.alloc.Global.{Global}
 use Rattle.station_report.specs.Sink.{count_after}
+
+-- the name of a ring: where it is in memory, its capacity and ghost names, and whose memory it is
+pub record RingName : Type 0 where
+  pub words : Ptr
+  pub slots : Ptr
+  pub names : ℕ × (ℕ × ℕ)
+  pub heap : Global
+
+-- no line is begun: no bytes, or the last one is a line feed
+abbrev pub IsBorder : List ℕ → Type 0
+IsBorder bytes = (bytes ≡ []) ⊎ ((front : List ℕ) × (bytes ≡ front ++ 10 ∷ []))
 
 -- what a source has left and has given
 pub record SourceState : Type 0 where
@@ -15,6 +28,8 @@ pub record SourceState : Type 0 where
   pub failures : ℕ
   -- the next read can't fail
   pub at_hand : Bool
+  -- the ring that its bytes come through, if there is one
+  pub ring : Option RingName
 
 -- a read into a buffer with room that gave no byte found the end
 abbrev pub is_end : {E : Type 0} → Result ℕ E → ℕ → Bool
@@ -36,4 +51,4 @@ longest_read = 512
 
 -- the most bytes that are gathered from reads made one after another
 abbrev pub longest_piece : ℕ
-longest_piece = 131072
+longest_piece = 16384

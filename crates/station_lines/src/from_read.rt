@@ -41,6 +41,7 @@ impl<R: Read> Source for FromRead<R> {
       ends = s.ends;
       failures = s.failures;
       at_hand = false;
+      ring = None;
     } };
 
     fn read(&mut self, buffer: &mut [u8]) -> Result<usize, Failed> {
@@ -104,6 +105,7 @@ impl<R: Read> Source for FromBuffer<R> {
       ends = s.source.ends;
       failures = s.source.failures;
       at_hand = nat_lt 0 (length (reader_buffer s.source.inner));
+      ring = None;
     } };
 
     fn is_at_hand(&self) -> bool

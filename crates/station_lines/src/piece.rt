@@ -9,8 +9,8 @@ use station_report::Failed;
 // The most bytes asked for by one read.
 const READ: usize = 512;
 
-/// The most bytes of a piece. Pieces get this long where a buffer of this capacity is full.
-pub const PIECE: usize = 131_072;
+/// The most bytes of a piece. It is on the stack of its thread, as taking lines allocates nothing.
+pub const PIECE: usize = 16_384;
 
 /// The bytes of one read, and of the reads after it that didn't wait.
 #[derive(Drop)]

@@ -1,8 +1,8 @@
 //! Sources of bytes.
-ghost use Rattle.std.specs.Prelude.{◌≡◌, ◌≤◌, true, IfOk, is_ok, not, length};
+ghost use Rattle.std.specs.Prelude.{◌≡◌, ◌<◌, ◌≤◌, true, IfOk, IfSome, Ok, is_ok, not, length};
 ghost use Rattle.std.specs.Io.KnownBytes.{ReadConsumes, WriteAppends};
 ghost use Rattle.station_report.specs.Sink.{count_after};
-ghost use Rattle.station_lines.specs.Source.{SourceState, is_end, one_more};
+ghost use Rattle.station_lines.specs.Source.{IsBorder, SourceState, is_end, one_more};
 
 use station_report::Failed;
 
@@ -19,7 +19,7 @@ pub trait Source {
     }
 
     /// Reads some of the bytes to come and answers how many: 0 only at the end, or where `buffer` is empty.
-    /// [`Failed`] where the read failed.
+    /// [`Failed`] where the read failed. A source that reports what it gave ends between two lines.
     fn read(&mut self, buffer: &mut [u8]) -> Result<usize, Failed>
         ensures within { IfOk result (λ n. n ≤ length buffer.new) }
         ensures bytes { ReadConsumes (state self.old).left (state self.new).left result buffer.new }
@@ -28,5 +28,7 @@ pub trait Source {
         ensures ends { (state self.new).ends
             ≡ count_after (not (is_end result (length buffer.new))) (state self.old).ends }
         ensures failures { (state self.new).failures ≡ count_after (is_ok result) (state self.old).failures }
-        ensures at_hand { (state self.old).at_hand ≡ true → is_ok result ≡ true };
+        ensures at_hand { (state self.old).at_hand ≡ true → is_ok result ≡ true }
+        ensures border { result ≡ Ok 0 → 0 < length buffer.new → IfSome (state self.new).given IsBorder }
+        ensures ring { (state self.new).ring ≡ (state self.old).ring };
 }

@@ -13,7 +13,8 @@ use Rattle.station_shared.proofs.Common.{Closes, EachOnce, Seated, new_seat, new
 use Rattle.station_portions.specs.declared.portions.Portions.{Portions}
 use Rattle.station_lines.specs.declared.pumping.PumpFault.{PumpFault}
 use Rattle.station_lines.specs.declared.tally.Tally.{Tally}
-use Rattle.station_main.proofs.Common.{most_reads, Recording, ReportsByAClock, Begun, IsServedBy, Serves, AreNumbered, Closing, HavePumped, HaveWorked, IsClosed, AddsAll, AddsEach, Duties, Due}
+use Rattle.station_portions.specs.declared.finished_path.WholePath.{WholePath}
+use Rattle.station_main.proofs.Common.{AllTakeFrom, most_reads, Recording, ReportsByAClock, Begun, IsServedBy, Serves, AreNumbered, Closing, HavePumped, HaveWorked, IsClosed, AddsAll, AddsEach, Duties, Due}
 use Rattle.station_main.proofs.RunJobLemmas.{length_new_seats}
 use Rattle.station_main.proofs.FoundLemmas.{some_same}
 use Rattle.station_main.proofs.SeatNumberLemmas.{all_once}
@@ -145,16 +146,20 @@ closed_by start n entries seats reporter receivers numbered same closes = record
   closes = subst (λ (k : ℕ). Closes start k entries (reporter ∷ receivers)) (sym numbered.many) (subst (Closes start n entries) same closes);
 }
 
--- what a station that is closed has served
+-- what a station that is closed has served, and what it counted of it
 pub serves_by : (begun : Begun) (start : Start) (closing : Closing) (now sources : List SourceState) (options : List (Option (Result Tally PumpFault))) (answers : List (Result Tally PumpFault))
-    → IsServedBy begun start closing.receivers now options → sources ≡ now → AddsAll begun.answers options answers → IsClosed start closing → Serves begun start closing sources answers
-serves_by begun start closing now sources options answers served same adds closed = record {
-  goes_on = served.goes_on;
-  counted = served.counted;
-  pumped = subst (λ (ss : List SourceState). HavePumped start begun.given.entries begun.sources ss closing.receivers served.counted) (sym same) served.pumped;
-  sums = adds_each begun.answers served.counted answers (subst (λ (os : List (Option (Result Tally PumpFault))). AddsAll begun.answers os answers) served.answers_are adds);
-  closed = closed;
-}
+    → (served : IsServedBy begun start closing.receivers now options) → sources ≡ now → AddsAll begun.answers options answers → IsClosed start closing
+    → (serves : Serves begun start closing sources answers) × (serves.counted ≡ served.counted)
+serves_by begun start closing now sources options answers served same adds closed = (
+  record {
+    goes_on = served.goes_on;
+    counted = served.counted;
+    pumped = subst (λ (ss : List SourceState). HavePumped start begun.given.entries begun.sources ss closing.receivers served.counted) (sym same) served.pumped;
+    sums = adds_each begun.answers served.counted answers (subst (λ (os : List (Option (Result Tally PumpFault))). AddsAll begun.answers os answers) served.answers_are adds);
+    closed = closed;
+  },
+  refl,
+)
 
 -- a reporter that has asked for a hand-over has not failed
 pub hand_over_reports : (start : Start) (duties : Duties) (next : Due) (asked_at : Option ℕ) (at : ℕ) (old new : Seated) (before after : SinkState) (was is : Option Recording) (has_failed : Bool) → asked_at ≡ Some at
@@ -175,3 +180,27 @@ pub reports_from : (start : Start) (duties : Duties) (due : Due) (asked_at : Opt
     → ReportsByAClock start duties due asked_at old new before after was is has_failed → ReportsByAClock start duties due asked_at first new before after was is has_failed
 reports_from start duties due asked_at old first new before after was is has_failed same by_clock =
     subst (λ (s : Seated). ReportsByAClock start duties due asked_at s new before after was is has_failed) same by_clock
+
+-- ---- the threads that sources take from
+
+rings-take : {I : Type 0} (promises : List (WholePath I)) (old new : List SourceState) → length new ≡ length old → ((i : ℕ) (d : SourceState) → i < length old → (get_or new i d).ring ≡ (get_or old i d).ring)
+    → AllTakeFrom promises old → AllTakeFrom promises new
+rings-take [] [] [] many same take = tt
+rings-take (promise ∷ promises) (o ∷ old) (n ∷ new) many same take = (
+  record { ring = same zero o (omega arith) ∙ take.0.ring; new = take.0.new },
+  rings-take promises old new (omega (arith, many)) (λ i d inside. same (suc i) d (omega (arith, inside))) take.1,
+)
+rings-take [] [] (n ∷ new) many same take = absurd (omega (arith, many))
+rings-take [] (o ∷ old) new many same take = absurd take
+rings-take (promise ∷ promises) [] new many same take = absurd take
+rings-take (promise ∷ promises) (o ∷ old) [] many same take = absurd (omega (arith, many))
+
+-- sources that were pumped take from the threads that they took from
+pub pumped-take : {I : Type 0} (promises : List (WholePath I)) (start : Start) (entries : List Entry) (old new : List SourceState) (seats : List Seated) (answers : List (Result Tally PumpFault)) → HavePumped start entries old new seats answers
+    → AllTakeFrom promises old → AllTakeFrom promises new
+pumped-take promises start entries old new seats answers pumped take =
+    rings-take promises old new pumped.many_sources
+    (λ i d inside.
+    let work = pumped.each i d (default_for seats i (omega (arith, inside, pumped.many_seats))) (default_for answers i (omega (arith, inside, pumped.many_answers))) inside in
+    work.pumps.draws.bytes.2)
+    take

@@ -1,11 +1,11 @@
 -- What `clap` answers that is no job, and what of it is shown on the output.
-use Rattle.std.proofs.Common.{rules, ◌≡◌, ◌≢◌, ◌⊎◌, inl, inr, Bool, true, false, List, [], Option, ℕ, sym, ap, ◌∙◌, subst}
-use Rattle.clap.specs.Words.{App, IsAmong, HasKind, Text, fault_of, kind_of, takes}
+use Rattle.std.proofs.Common.{rules, ◌≡◌, ◌≢◌, ◌⊎◌, inl, inr, Bool, true, false, List, [], Option, Some, None, ℕ, sym, ap, ◌∙◌, subst, Global, String, string_bytes}
+use Rattle.clap.specs.Words.{App, IsAmong, HasKind, Row, Text, fault_of, kind_of, subcommand_of, takes}
 use Rattle.clap.specs.declared.error.Error.{Error}
 use Rattle.clap.specs.declared.error.kind.ErrorKind.TheVariants as kind
-use Rattle.station_main.specs.Command.{IsOwnFault, IsWordsFault, reopens_rounds}
-use Rattle.station_main.specs.Jobs.{HasNoMemory, IsObeyed, RefusesBoth, WritesText, is_shown}
-use Rattle.station_main.specs.Telling.{Told, reopens_rounds_text}
+use Rattle.station_main.specs.Command.{IsOwnFault, IsPlaceFault, IsWordsFault, misplaced, misplaced_among, reopens_rounds}
+use Rattle.station_main.specs.Jobs.{HasNoMemory, IsObeyed, RefusesBoth, RefusesPlace, WritesText, is_shown}
+use Rattle.station_main.specs.Telling.{Told, not_a_place_text, reopens_rounds_text}
 use Rattle.station_main.specs.declared.words.WordsFault.{WordsFault}
 use Rattle.station_main.specs.declared.words.WordsFault.TheVariants as words_fault
 
@@ -40,9 +40,30 @@ refused_both app words before after err_old err_new status fault same said says 
     let given : (fault_of app words ≡ []) × (reopens_rounds app words ≡ true) = subst (λ (f : WordsFault). IsWordsFault app words f) same said in
     record { accepted = given.0; both = given.1; says = says }
 
+-- what a command line leaves that is refused as its text of `--at` names no place
+pub refused_place : (app : App) (words : List Text) (before : Option (List ℕ)) (after : Option (Option (List ℕ))) (err_old err_new : Told) (status : ℕ) (fault : WordsFault) (text : String Global)
+    → fault ≡ words_fault.NotAPlace text → IsWordsFault app words fault → WritesText false (not_a_place_text (string_bytes text)) before after err_old err_new status
+    → RefusesPlace app words before after err_old err_new status
+refused_place app words before after err_old err_new status fault text same said says =
+    let given : (fault_of app words ≡ []) × (misplaced app words ≡ Some (string_bytes text)) = subst (λ (f : WordsFault). IsWordsFault app words f) same said in
+    record { accepted = given.0; text = string_bytes text; is_misplaced = given.1; says = says }
+
+-- a fault of the place among the options is one of the command line
+pub place_fault_of : (app : App) (words : List Text) (name : Text) (rows : List Row) (fault : WordsFault) → fault_of app words ≡ [] → subcommand_of app words ≡ Some (name, rows) → IsPlaceFault rows fault
+    → IsWordsFault app words fault × (takes app words ≡ true → IsOwnFault app words fault)
+place_fault_of app words name rows words_fault.NoMemory passes named said = (tt, λ taken. tt)
+place_fault_of app words name rows (words_fault.Clap error) passes named said = absurd said
+place_fault_of app words name rows words_fault.ReopensRounds passes named said = absurd said
+place_fault_of app words name rows (words_fault.NotAPlace text) passes named said =
+    let is : misplaced app words ≡ Some (string_bytes text) = ap misplaced_among named ∙ said in
+    ((passes, is), λ taken. is)
+
 -- `clap` refuses no command line that it takes
 pub not_taken : (app : App) (words : List Text) (fault : WordsFault) (error : Error) → fault ≡ words_fault.Clap error → IsOwnFault app words fault → ⊥
 not_taken app words fault error same own = subst (λ (f : WordsFault). IsOwnFault app words f) same own
+
+pub not_none : (given : Option Text) (text : Text) → given ≡ Some text → given ≡ None → ⊥
+not_none given text is is_not = let bad : Some text ≡ None = sym is ∙ is_not in absurd (search rules)
 
 pub not_both_ways : (b : Bool) → b ≡ true → b ≡ false → ⊥
 not_both_ways b is is_not = let bad : true ≡ false = sym is ∙ is_not in absurd (search rules)

@@ -1,12 +1,12 @@
 -- Rounds of the job `run`, one after another.
-use Rattle.std.proofs.Common.{◌≡◌, ◌∙◌, inl, inr, ℕ, zero, suc, ◌+◌, ◌-◌, ◌<◌, ◌≤◌, Bool, true, false, List, [], ◌∷◌, ◌++◌, Option, Some, None, Result, length, length-append, refl, sym, ap, subst, take, reverse, arith, rules}
+use Rattle.std.proofs.Common.{◌≡◌, ◌∙◌, inl, inr, flat_map, fold, map, max, ℕ, zero, suc, ◌+◌, ◌-◌, ◌<◌, ◌≤◌, Bool, true, false, not, List, [], ◌∷◌, ◌++◌, Option, Some, None, Result, length, length-append, refl, sym, ap, subst, take, reverse, arith, rules}
 use Rattle.std.proofs.lemmas.List.{length-reverse, length-take-le}
 use Rattle.station_report.specs.Sink.{SinkState}
 use Rattle.station_journal.specs.declared.entry.Entry.{Entry}
 use Rattle.station_journal.specs.declared.limits.Limits.{Limits}
 use Rattle.station_journal.specs.declared.recent.ResumeFault.{ResumeFault}
 use Rattle.station_journal.specs.declared.recent.ResumeFault.TheVariants.{TooManyEntries, Unsound, NoMemory}
-use Rattle.station_journal.proofs.Common.{IsSound, Refuses, recent_base, IsLegal}
+use Rattle.station_journal.proofs.Common.{Site, IsSound, Refuses, recent_base, IsLegal}
 use Rattle.station_journal.proofs.SoundLemmas.{sound_by_fits}
 use Rattle.station_journal.proofs.StandsLemmas.{length_sound, recent_stands, sound_from_legal}
 use Rattle.station_desk.proofs.Common.{base_of, Start, log_of}
@@ -15,7 +15,11 @@ use Rattle.station_shared.proofs.NewcomerLemmas.{one_place}
 use Rattle.station_lines.specs.declared.pumping.PumpFault.{PumpFault}
 use Rattle.station_lines.specs.declared.tally.Tally.{Tally}
 use Rattle.station_desk.proofs.StartLemmas.{sound_at, sound_front}
-use Rattle.station_main.proofs.Common.{program_limits, Recording, RunPlan, Begun, RoundStart, HandsOn, IsCutShort, IsHandOver, IsOver, KeepsRecent, RunsRounds, Stations, Closing, EndsEarly, AddsEach, Told}
+use Rattle.station_portions.specs.Giving.{state_of}
+use Rattle.station_main.specs.Rounds.{IsServed}
+use Rattle.station_main.specs.Telling.{output_lines}
+use Rattle.station_main.specs.declared.shift.Finished.{Finished}
+use Rattle.station_main.proofs.Common.{program_limits, fault_status, status_of, pump_lines, Recording, RunPlan, Begun, GaveAllBut, RoundStart, HandsOn, IsCutShort, IsHandOver, IsLastStation, IsOver, KeepsRecent, RunsRounds, Stations, Closing, EndsEarly, AddsEach, Tells, Told, unfinished_lines, unfinished_status}
 
 -- ---- a sound list is refused only if out of memory
 
@@ -28,17 +32,18 @@ wants_memory limits base entries (Unsound k) sound refuses other =
 wants_memory limits base entries NoMemory sound refuses other = other refl
 
 -- what is kept of a station under the limits of the program may be resumed from under them
-pub kept_sound : (start : Start) (journal : List Entry) (kept : RoundStart) (was recorded : Option Recording) → start.limits ≡ program_limits → IsLegal (log_of start journal) → KeepsRecent start journal kept was recorded
-    → IsSound program_limits kept.base (reverse kept.entries)
-kept_sound start journal kept was recorded limits legal is =
+pub kept_sound : (site : Site) (start : Start) (journal : List Entry) (kept : RoundStart) (was recorded : Option Recording) → start.limits ≡ program_limits site → IsLegal (log_of start journal) → KeepsRecent start journal kept was recorded
+    → IsSound (program_limits kept.site) kept.base (reverse kept.entries)
+kept_sound site start journal kept was recorded limits legal is =
     let base = base_of start.history in
     let past = reverse journal in
     let stands = recent_stands start.limits base past (sound_from_legal start.limits base start.resumed past legal) in
-    subst (λ under. IsSound under kept.base (reverse kept.entries)) limits (subst (λ from. IsSound start.limits from (reverse kept.entries)) (sym is.base) (subst (λ entries. IsSound start.limits (recent_base base past) entries) (sym is.entries) stands.sound))
+    let site_is : kept.site ≡ site = is.site ∙ ap (λ (l : Limits). l.site) limits in
+    subst (λ under. IsSound under kept.base (reverse kept.entries)) (limits ∙ ap program_limits (sym site_is)) (subst (λ from. IsSound start.limits from (reverse kept.entries)) (sym is.base) (subst (λ entries. IsSound start.limits (recent_base base past) entries) (sym is.entries) stands.sound))
 
 -- the same of a station that hands over
-pub hand_over_sound : (begun next : Begun) (before after : SinkState) (was is : Option Recording) → IsHandOver begun next before after was is → IsSound program_limits next.given.base (reverse next.given.entries)
-hand_over_sound begun next before after was is hands = kept_sound hands.start hands.closing.journal next.given hands.shown is hands.serves.goes_on.limits hands.serves.closed.closes.legal hands.is_kept
+pub hand_over_sound : (begun next : Begun) (before after : SinkState) (was is : Option Recording) → IsHandOver begun next before after was is → IsSound (program_limits next.given.site) next.given.base (reverse next.given.entries)
+hand_over_sound begun next before after was is hands = kept_sound begun.given.site hands.start hands.closing.journal next.given hands.shown is hands.serves.goes_on.limits hands.serves.closed.closes.legal hands.is_kept
 
 adds_length : (before since sums : List (Result Tally PumpFault)) → AddsEach before since sums → length sums ≡ length before
 adds_length [] [] [] adds = refl
@@ -52,11 +57,11 @@ pub hand_over_answers : (begun next : Begun) (before after : SinkState) (was is 
 hand_over_answers begun next before after was is hands = adds_length begun.answers hands.serves.counted next.answers hands.serves.sums
 
 -- and of the last station of a round
-pub round_sound : (more : ℕ) (begun : Begun) (start : Start) (closing : Closing) (before : SinkState) (after : Option (List ℕ)) (was shown recorded : Option Recording) (err_old err_new : Told) (status : ℕ) (kept : RoundStart)
-    → Stations more begun start closing before after was shown err_old err_new status → KeepsRecent start closing.journal kept shown recorded → IsSound program_limits kept.base (reverse kept.entries)
-round_sound zero begun start closing before after was shown recorded err_old err_new status kept last is = kept_sound start closing.journal kept shown recorded last.serves.goes_on.limits last.serves.closed.closes.legal is
-round_sound (suc more) begun start closing before after was shown recorded err_old err_new status kept (next, mid, mid_recorded, hands, rest) is =
-    round_sound more next start closing mid after mid_recorded shown recorded err_old err_new status kept rest is
+pub round_sound : (asked : RunPlan) (more : ℕ) (begun : Begun) (start : Start) (closing : Closing) (before : SinkState) (after : Option (List ℕ)) (was shown recorded : Option Recording) (err_old err_new : Told) (status : ℕ) (kept : RoundStart)
+    → Stations asked more begun start closing before after was shown err_old err_new status → KeepsRecent start closing.journal kept shown recorded → IsSound (program_limits kept.site) kept.base (reverse kept.entries)
+round_sound asked zero begun start closing before after was shown recorded err_old err_new status kept last is = kept_sound begun.given.site start closing.journal kept shown recorded last.serves.goes_on.limits last.serves.closed.closes.legal is
+round_sound asked (suc more) begun start closing before after was shown recorded err_old err_new status kept (next, mid, mid_recorded, hands, rest) is =
+    round_sound asked more next start closing mid after mid_recorded shown recorded err_old err_new status kept rest is
 
 -- ---- the last of the seats
 
@@ -116,3 +121,25 @@ pub over_early : (is_last : Bool) (asked : RunPlan) (given : RoundStart) (before
 over_early true asked given before None was is err_old err_new status gone early = (omega (arith, early.status_is), early)
 over_early false asked given before None was is err_old err_new status gone early = (omega (arith, early.status_is), early)
 over_early is_last asked given before (Some after) was is err_old err_new status gone early = absurd (search rules)
+
+-- the last station of a round, once it is printed what was counted, and which paths weren't read to their ends
+pub last-station : {R O : Type 0} (contents : O → Option (List ℕ)) (asked : RunPlan) (begun : Begun) (start : Start) (closing : Closing) (before : Option (List ℕ)) (was is : Option Recording) (finished : Finished R O)
+    (paths : List (List ℕ)) (known : List (Option (List ℕ))) (err_old err_mid err_new : Told) (told status : ℕ)
+    → asked.paths ≡ paths → asked.known ≡ known → IsServed contents begun start closing before was is finished
+    → Tells err_old err_mid (flat_map pump_lines finished.answers.items ++ output_lines finished.written.has_failed)
+    → told ≡ max (fold (λ worst answer. max worst (status_of answer)) 0 finished.answers.items) (fault_status finished.written.has_failed)
+    → (unfinished : List (List ℕ)) × GaveAllBut paths known (map state_of finished.inputs.items) unfinished × Tells err_mid err_new (unfinished_lines told unfinished) × (status ≡ max told (unfinished_status unfinished))
+    → IsLastStation asked begun start closing before (contents finished.written.out) was is err_old err_new status
+last-station contents asked begun start closing before was is finished paths known err_old err_mid err_new told status named known_is served counted told_is ended = record {
+  sources = map state_of finished.inputs.items;
+  answers = finished.answers.items;
+  serves = served.serves;
+  err_mid = err_mid;
+  told = told;
+  ends = record { has_failed = finished.written.has_failed; output = served.leaves; told = counted; status_is = told_is };
+  no_more = served.no_more;
+  unfinished = ended.0;
+  whole = rw (named, known_is) ended.1;
+  told_too = ended.2;
+  status_is = ended.3;
+}

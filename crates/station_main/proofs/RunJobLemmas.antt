@@ -77,6 +77,14 @@ leaves station duties next asked_at first mid closing start before after was sho
       told = prints.told;
     }
 
+-- a hand-over was asked for when the reporter says so
+pub leaves-asked : (station : Start) (duties : Duties) (next : Due) (asked_at : Option ℕ) (first mid closing : Seated) (start before : SinkState) (after : Option (List ℕ)) (was shown is : Option Recording) (failed_before has_failed : Bool)
+    → (by_clock : ReportsByAClock station duties next asked_at first mid start before was shown failed_before) (prints : PrintsLast duties.tables.format station mid closing before failed_before after shown is has_failed)
+    → (leaves station duties next asked_at first mid closing start before after was shown is failed_before has_failed by_clock prints).asked_at ≡ asked_at
+unfolding leaves
+leaves-asked station duties next asked_at first mid closing start before after was shown is true has_failed by_clock prints = refl
+leaves-asked station duties next asked_at first mid closing start before after was shown is false has_failed by_clock prints = refl
+
 pub well_told : (result : Result (Unit {0}) WriteFault) (done : Unit {0}) (has_failed : Bool) → result ≡ Ok done → is_err result ≡ true → has_failed ≡ true
 well_told (Ok d) done has_failed e failed = absurd (search rules)
 well_told (Err fault) done has_failed e failed = absurd (search rules)

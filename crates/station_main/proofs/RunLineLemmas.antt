@@ -13,7 +13,7 @@ use Rattle.clap.specs.Words.{subcommand_of}
 use Rattle.clap.specs.declared.builder.value_parser.Reading.TheVariants.{AsWritten}
 use Rattle.clap.specs.declared.parser.matches.ValueSource.TheVariants.{DefaultValue}
 use Rattle.clap.proofs.OnLiterals.{clap_on_literals}
-use Rattle.station_main.specs.Command.{FormatNames, format, json_folder, path, record_file, reopen, replay, rounds, run, station, tick}
+use Rattle.station_main.specs.Command.{FormatNames, at_place, format, json_folder, path, record_file, reopen, replay, rounds, run, station, tick}
 use Rattle.station_main.proofs.WalkedLemmas.{Keeps, both_empty, not_none, settles, walks}
 use Rattle.station_main.proofs.FoundLemmas.{Among, among, none_some, some_same}
 use Rattle.station_main.proofs.RunRowLemmas.{Fine, absent, fine_snoc, row_for}
@@ -48,7 +48,7 @@ reopen_default true rows is f = (f, is)
 reopen_default false rows is f =
     let row = row_for DefaultValue (codes "reopen") AsWritten (codes "false" ∷ []) in
     let added = absent (codes "reopen") (more_values DefaultValue (codes "false" ∷ [])) (row ∷ []) rows is in
-    (subst Fine (sym added) (fine_snoc rows row f (inr (inr (inr (inr (inr (inr (inr (refl, refl, inr refl))))))))), ap (has_row (codes "reopen")) added ∙ has_last (codes "reopen") rows row refl)
+    (subst Fine (sym added) (fine_snoc rows row f (inr (inr (inr (inr (inr (inr (inr (inl (refl, refl, inr refl)))))))))), ap (has_row (codes "reopen")) added ∙ has_last (codes "reopen") rows row refl)
 
 finished_is : (names : FormatNames) (rows : List Row) → fold with_default rows (run_rules names) ≡ with_default rows (option reopen)
 finished_is names rows =
@@ -59,14 +59,16 @@ finished_is names rows =
     let of_json = either_way (has_row (codes "json") rows) rows in
     let of_rounds = either_way (has_row (codes "rounds") rows) rows in
     let of_record = either_way (has_row (codes "record") after) after in
+    let of_at = either_way (has_row (codes "at") after) after in
     let of_path = either_way (has_row (codes "path") after) after in
     let of_help = either_way (has_row (codes "help") after) after in
-    ap (λ t. fold with_default t ((option tick) ∷ option (format names) ∷ (option json_folder) ∷ (option rounds) ∷ (option reopen) ∷ (option record_file) ∷ (option path) ∷ help_flag ∷ [])) of_every
-    ∙ ap (λ t. fold with_default t (option (format names) ∷ (option json_folder) ∷ (option rounds) ∷ (option reopen) ∷ (option record_file) ∷ (option path) ∷ help_flag ∷ [])) of_tick
-    ∙ ap (λ t. fold with_default t ((option json_folder) ∷ (option rounds) ∷ (option reopen) ∷ (option record_file) ∷ (option path) ∷ help_flag ∷ [])) of_format
-    ∙ ap (λ t. fold with_default t ((option rounds) ∷ (option reopen) ∷ (option record_file) ∷ (option path) ∷ help_flag ∷ [])) of_json
-    ∙ ap (λ t. fold with_default t ((option reopen) ∷ (option record_file) ∷ (option path) ∷ help_flag ∷ [])) of_rounds
-    ∙ ap (λ t. fold with_default t ((option path) ∷ help_flag ∷ [])) of_record
+    ap (λ t. fold with_default t ((option tick) ∷ option (format names) ∷ (option json_folder) ∷ (option rounds) ∷ (option reopen) ∷ (option record_file) ∷ (option at_place) ∷ (option path) ∷ help_flag ∷ [])) of_every
+    ∙ ap (λ t. fold with_default t (option (format names) ∷ (option json_folder) ∷ (option rounds) ∷ (option reopen) ∷ (option record_file) ∷ (option at_place) ∷ (option path) ∷ help_flag ∷ [])) of_tick
+    ∙ ap (λ t. fold with_default t ((option json_folder) ∷ (option rounds) ∷ (option reopen) ∷ (option record_file) ∷ (option at_place) ∷ (option path) ∷ help_flag ∷ [])) of_format
+    ∙ ap (λ t. fold with_default t ((option rounds) ∷ (option reopen) ∷ (option record_file) ∷ (option at_place) ∷ (option path) ∷ help_flag ∷ [])) of_json
+    ∙ ap (λ t. fold with_default t ((option reopen) ∷ (option record_file) ∷ (option at_place) ∷ (option path) ∷ help_flag ∷ [])) of_rounds
+    ∙ ap (λ t. fold with_default t ((option at_place) ∷ (option path) ∷ help_flag ∷ [])) of_record
+    ∙ ap (λ t. fold with_default t ((option path) ∷ help_flag ∷ [])) of_at
     ∙ ap (λ t. fold with_default t (help_flag ∷ [])) of_path ∙ of_help
 
 both_given : (b c : Bool) (k : ErrorKind) → (if not b || (not c || false) then k ∷ [] else []) ≡ [] → (b ≡ true) × (c ≡ true)

@@ -1,15 +1,17 @@
 -- From what `clap` ensures of its getters to the job.
-use Rattle.std.proofs.Common.{inl, inr, ◌≡◌, ◌∙◌, ℕ, ◌≤◌, ◌<◌, ◌^◌, List, Option, Some, None, IfSome, Result, Ok, Err, Bool, true, false, arith, map, option_map, refl, sym, ap, ap₂, length, codes, is_some, unwrap_or, box_value}
+use Rattle.std.proofs.Common.{inl, inr, ◌≡◌, ◌∙◌, ℕ, ◌≤◌, ◌<◌, ◌^◌, List, Option, Some, None, IfSome, Result, Ok, Err, Bool, true, false, arith, map, option_map, refl, sym, ap, ap₂, length, codes, is_some, option_and_then, unwrap_or, box_value, if◌then◌else◌}
 use Rattle.clap.specs.declared.parser.matches.ArgMatches.{ArgMatches}
 use Rattle.clap.specs.declared.parser.matches.ArgMatches.TheViews.{out-ArgMatches, out-SubCommand}
 use Rattle.std.proofs.lemmas.List.{length-map}
 use Rattle.std.proofs.lemmas.Option.{none-some}
 use Rattle.std.specs.Str.Parse.{ParsesUnsigned}
-use Rattle.clap.specs.Words.{ReadsOne, Row, Text, found_of, is_simple, rows_of, subcommand_name_of, subcommand_rows_of}
+use Rattle.clap.specs.Words.{ReadsOne, Row, Text, first_of, found_of, is_simple, rows_of, subcommand_name_of, subcommand_rows_of}
 use Rattle.clap.specs.Faults.{is_simple_and_free}
 use Rattle.station_main.proofs.JobLemmas.{NamesJobOf}
 use Rattle.clap.proofs.OnLiterals.{clap_on_literals}
-use Rattle.station_main.specs.Command.{FormatNames, IsFlagText, IsNumberUpTo, is_set, number_in, number_if_given, station}
+use Rattle.modes_cpr.specs.declared.points.Reference.{Reference}
+use Rattle.station_main.specs.Command.{FormatNames, GivesPlace, IsFlagText, IsNumberUpTo, is_set, misplaced_text, number_in, number_if_given, station}
+use Rattle.station_main.specs.Places.{place_named}
 
 pub is_simple-station : (names : FormatNames) → is_simple (station names) ≡ true
 unfolding clap_on_literals
@@ -86,3 +88,14 @@ name_of_rows m = name_first (λ b. (out-SubCommand (box_value b)).name.now) (λ 
 pub is_replay : (name : Text) → NamesJobOf name → (name ≡ codes "run" → ⊥) → name ≡ codes "replay"
 is_replay name (inl replay_is) other = replay_is
 is_replay name (inr run_is) other = absurd (other run_is)
+
+-- no place is given, or the one that the text of `--at` names, or its text names none
+pub no_place_given : (rows : List Row) → None ≡ first_of (codes "at") rows → GivesPlace rows None
+no_place_given rows is = record { named = ap misplaced_text (sym is); site_is = ap (option_and_then place_named) is }
+
+pub place_given : (rows : List Row) (text : Text) (site : Reference) → Some text ≡ first_of (codes "at") rows → Some site ≡ place_named text → GivesPlace rows (Some site)
+place_given rows text site is named =
+    record { named = ap misplaced_text (sym is) ∙ ap (λ (o : Option Reference). if is_some o then None else Some text) (sym named); site_is = named ∙ ap (option_and_then place_named) is }
+
+pub no_place_named : (rows : List Row) (text : Text) → Some text ≡ first_of (codes "at") rows → None ≡ place_named text → misplaced_text (first_of (codes "at") rows) ≡ Some text
+no_place_named rows text is none = ap misplaced_text (sym is) ∙ ap (λ (o : Option Reference). if is_some o then None else Some text) (sym none)

@@ -1,5 +1,5 @@
 -- The command line as `clap` reads it, and the job that it names.
-use Rattle.std.specs.Prelude.{◌≡◌, ◌≤◌, ℕ, List, [], ◌∷◌, Option, IfSome, Some, None, codes, true, false, pos, map, length, option_map, unwrap_or, Bool, is_some, ◌&&◌, ◌⊎◌, if◌then◌else◌, ⊤}
+use Rattle.std.specs.Prelude.{◌≡◌, ◌≤◌, ℕ, List, [], ◌∷◌, Option, IfSome, Some, None, codes, true, false, pos, map, length, option_map, unwrap_or, Bool, is_some, ◌&&◌, ◌⊎◌, if◌then◌else◌, option_and_then, ⊤}
 use Rattle.std.specs.Borrow.{Bor}
 use Rattle.std.specs.Str.{bytes_eq}
 use Rattle.std.specs.String.{string_bytes}
@@ -13,6 +13,8 @@ use Rattle.clap.specs.declared.builder.action.ArgAction.TheVariants.{Set, SetTru
 use Rattle.clap.specs.declared.builder.value_parser.ValueParser.TheVariants.{Names, Signed}
 use Rattle.station_report.specs.declared.formats.Format.{Format}
 use Rattle.station_report.specs.declared.formats.Format.TheVariants as Formats
+use Rattle.station_journal.specs.Past.{Site}
+use Rattle.station_main.specs.Places.{place_named}
 use Rattle.station_main.specs.declared.words.Job.{Job}
 use Rattle.station_main.specs.declared.words.Job.TheVariants.{Replay, Run}
 use Rattle.station_main.specs.declared.words.RunArguments.{RunArguments}
@@ -61,6 +63,13 @@ record_file = record (new_rule (codes "record")) {
   value_names = 1;
 }
 
+-- `--at LAT,LON`: any text, at most once, and not required
+abbrev pub at_place : Rule
+at_place = record (new_rule (codes "at")) {
+  long = Some (codes "at");
+  value_names = 1;
+}
+
 -- the words of `--format`, where the program keeps them
 abbrev pub FormatNames : Type 0
 FormatNames = Bor (List (Bor Text))
@@ -93,7 +102,7 @@ path = record (new_rule (codes "path")) {
 }
 
 abbrev pub replay : FormatNames → App
-replay names = with_rule (new_app (codes "replay")) (format names)
+replay names = with_rule (with_rule (new_app (codes "replay")) (format names)) at_place
 
 -- `run` with its times, with the formats of its tables, with all its options, and then with PATH too
 abbrev pub run_times : App
@@ -103,7 +112,7 @@ abbrev pub run_formats : FormatNames → App
 run_formats names = with_rule (with_rule run_times (format names)) json_folder
 
 abbrev pub run_options : FormatNames → App
-run_options names = with_rule (with_rule (with_rule (run_formats names) rounds) reopen) record_file
+run_options names = with_rule (with_rule (with_rule (with_rule (run_formats names) rounds) reopen) record_file) at_place
 
 abbrev pub run : FormatNames → App
 run names = with_rule (run_options names) path
@@ -167,6 +176,30 @@ run_gives_both (Some named) = bytes_eq named.0 (codes "run") && gives_both named
 abbrev pub reopens_rounds : App → List Text → Bool
 reopens_rounds app words = run_gives_both (subcommand_of app words)
 
+-- a text of `--at` that names no place
+abbrev pub misplaced_text : Option Text → Option Text
+misplaced_text None = None
+misplaced_text (Some text) = if is_some (place_named text) then None else Some text
+
+abbrev pub misplaced_among : Option (Text × List Row) → Option Text
+misplaced_among None = None
+misplaced_among (Some named) = misplaced_text (first_of (codes "at") named.1)
+
+-- the text of `--at` in the command line, if it names no place
+abbrev pub misplaced : App → List Text → Option Text
+misplaced app words = misplaced_among (subcommand_of app words)
+
+-- the place that `--at` names among these options: none if it isn't given
+pub record GivesPlace (rows : List Row) (site : Site) : Type 0 where
+  pub named : misplaced_text (first_of (codes "at") rows) ≡ None
+  pub site_is : site ≡ option_and_then place_named (first_of (codes "at") rows)
+
+-- why no place is read of these options: out of memory, or this text names none
+abbrev pub IsPlaceFault : List Row → WordsFault → Type 0
+IsPlaceFault rows words_fault.NoMemory = ⊤
+IsPlaceFault rows (words_fault.NotAPlace text) = misplaced_text (first_of (codes "at") rows) ≡ Some (string_bytes text)
+IsPlaceFault rows _ = ⊥
+
 -- the values of the options and of PATH in a command line of `run`: the paths in their order, a tick and a file only if they
 -- are given, one round if no rounds are given, and never both `--reopen` and `--rounds`
 pub record GivesRun (rows : List Row) (arguments : RunArguments) : Type 0 where
@@ -181,6 +214,7 @@ pub record GivesRun (rows : List Row) (arguments : RunArguments) : Type 0 where
   pub file_is : option_map string_bytes arguments.record ≡ first_of (codes "record") rows
   pub folder_is : option_map string_bytes arguments.displays ≡ first_of (codes "json") rows
   pub format_is : arguments.format ≡ format_named (first_of (codes "format") rows)
+  pub place : GivesPlace rows arguments.site
 
 -- a decimal number from 1 up to a limit
 pub record IsNumberUpTo (limit : ℕ) (text : Text) : Type 0 where
@@ -203,23 +237,25 @@ pub record IsGiven (rows : List Row) : Type 0 where
 
 -- the job is the one that the command line names
 abbrev pub NamesJob : App → List Text → Job → Type 0
-NamesJob app words (Replay tables) =
-    (rows : List Row) × (subcommand_of app words ≡ Some (codes "replay", rows)) × (tables ≡ format_named (first_of (codes "format") rows))
+NamesJob app words (Replay tables site) =
+    (rows : List Row) × (subcommand_of app words ≡ Some (codes "replay", rows)) × (tables ≡ format_named (first_of (codes "format") rows)) × GivesPlace rows site
 NamesJob app words (Run arguments) =
     (rows : List Row) × (subcommand_of app words ≡ Some (codes "run", rows)) × GivesRun rows arguments
 
 -- why there is no job: out of memory, or `clap` finds a fault of this kind in the command line, or help or the version is asked
--- for, or `clap` finds no fault and both `--reopen` and `--rounds` are given
+-- for, or `clap` finds no fault and both `--reopen` and `--rounds` are given, or for `--at` this text, which names no place
 abbrev pub IsWordsFault : App → List Text → WordsFault → Type 0
 IsWordsFault app words words_fault.NoMemory = ⊤
 IsWordsFault app words (words_fault.Clap error) = IsAmong (kind_of error) (fault_of app words)
 IsWordsFault app words words_fault.ReopensRounds = (fault_of app words ≡ []) × (reopens_rounds app words ≡ true)
+IsWordsFault app words (words_fault.NotAPlace text) = (fault_of app words ≡ []) × (misplaced app words ≡ Some (string_bytes text))
 
--- why there is no job if `clap` accepts the command line: out of memory, or both are given
+-- why there is no job if `clap` accepts the command line: out of memory, or both are given, or no place is named
 abbrev pub IsOwnFault : App → List Text → WordsFault → Type 0
 IsOwnFault app words words_fault.NoMemory = ⊤
 IsOwnFault app words (words_fault.Clap error) = ⊥
 IsOwnFault app words words_fault.ReopensRounds = reopens_rounds app words ≡ true
+IsOwnFault app words (words_fault.NotAPlace text) = misplaced app words ≡ Some (string_bytes text)
 
 -- a table every 1 to 3,600,000 milliseconds, and a tick, if any, every 1 to 60,000
 pub record IsPace (pace : Pace) : Type 0 where
@@ -233,5 +269,5 @@ AreInRange arguments = IsPace arguments.pace × (1 ≤ arguments.rounds) × (arg
     × (1 ≤ length arguments.paths.items) × (length arguments.paths.items ≤ 8)
 
 abbrev pub IsInRange : Job → Type 0
-IsInRange (Replay tables) = ⊤
+IsInRange (Replay tables site) = ⊤
 IsInRange (Run arguments) = AreInRange arguments

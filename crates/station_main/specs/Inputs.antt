@@ -1,32 +1,65 @@
 -- The inputs of a run: what threads send of what opening the paths gave.
-use Rattle.std.specs.Prelude.{◌≡◌, List, [], ◌∷◌, Some, ⊤}
+use Rattle.std.specs.Prelude.{◌≡◌, ◌⊎◌, ℕ, List, [], ◌∷◌, Option, None, Some, ⊤}
 use Rattle.std.specs.String.{string_bytes}
-use Rattle.std.specs.declared.alloc.Global.{Global}
 use Rattle.station_lines.specs.Source.{SourceState}
 use Rattle.clap.specs.Words.{Text}
-use Rattle.rtrb.specs.Ring.{IsPair, received}
-use Rattle.rtrb.specs.declared.consumer.Consumer.{Consumer}
-use Rattle.rtrb.specs.declared.AnyItems.{AnyItems}
+use Rattle.rtrb.specs.Ring.{sent}
+use Rattle.station_portions.specs.Rings.{reader_ring}
+use Rattle.station_portions.specs.Whole.{GivesPath}
 use Rattle.station_portions.specs.declared.finished_path.WholePath.{WholePath}
-use Rattle.station_portions.specs.declared.message.Message.{Message}
+use Rattle.station_portions.specs.declared.message.PathEnd.TheVariants.{AtEnd}
 use Rattle.station_main.specs.declared.opened.Opened.{Opened}
 
 -- the path that was opened
 abbrev pub path_of : Opened → Text
 path_of opened = string_bytes opened.path.value
 
--- what this source gives comes from a thread, which promised to send the lines of all that opening this path gave; no byte of it
--- was given yet
-pub record IsFedBy (path : Text) (source : SourceState) : Type 0 where
-  pub promise : WholePath Opened
+-- this source takes from the ring into which the thread with this promise sends, which had sent nothing when it promised
+pub record TakesFrom {I : Type 0} (promise : WholePath I) (source : SourceState) : Type 0 where
+  pub ring : source.ring ≡ Some (reader_ring promise.reader.value.messages)
+  pub new : sent promise.reader.value.messages ≡ []
+
+-- each source takes from the thread at its place
+abbrev pub AllTakeFrom : {I : Type 0} → List (WholePath I) → List SourceState → Type 0
+AllTakeFrom [] [] = ⊤
+AllTakeFrom (promise ∷ promises) (source ∷ sources) = TakesFrom promise source × AllTakeFrom promises sources
+AllTakeFrom promises sources = ⊥
+
+-- what this source gives comes from the thread with this promise, which sends the lines of all that opening this path gave; no byte
+-- of it was given yet
+pub record IsFedBy (path : Text) (promise : WholePath Opened) (source : SourceState) : Type 0 where
   pub opened : path_of promise.from.value ≡ path
-  pub messages : Consumer Message Global AnyItems
-  pub pair : IsPair promise.reader.value.messages messages
-  pub none : received messages ≡ []
+  pub takes : TakesFrom promise source
   pub unread : source.given ≡ Some []
 
--- each source comes from the path at its place
-abbrev pub AreFed : List Text → List SourceState → Type 0
-AreFed [] [] = ⊤
-AreFed (path ∷ paths) (source ∷ sources) = IsFedBy path source × AreFed paths sources
-AreFed paths sources = ⊥
+-- each source comes from the path at its place, by the thread at its place
+abbrev pub AreFed : List Text → List (WholePath Opened) → List SourceState → Type 0
+AreFed [] [] [] = ⊤
+AreFed (path ∷ paths) (promise ∷ promises) (source ∷ sources) = IsFedBy path promise source × AreFed paths promises sources
+AreFed paths promises sources = ⊥
+
+-- the path of this source is at its end; the lines of all bytes that the source gave are those of all that reading the path gave,
+-- which is `left` where that is known
+pub record GaveAll (left : Option (List ℕ)) (source : SourceState) : Type 0 where
+  pub given : List ℕ
+  pub given_is : source.given ≡ Some given
+  pub over : source.left ≡ Some []
+  pub path : GivesPath left AtEnd given
+
+-- these paths, in their order, weren't read to their ends, or their sources didn't give all; each other source did
+abbrev pub GaveAllBut : List Text → List (Option (List ℕ)) → List SourceState → List Text → Type 0
+GaveAllBut [] [] [] unfinished = unfinished ≡ []
+GaveAllBut (path ∷ paths) (left ∷ lefts) (source ∷ sources) unfinished =
+    (GaveAll left source × GaveAllBut paths lefts sources unfinished)
+    ⊎ ((others : List Text) × (unfinished ≡ path ∷ others) × GaveAllBut paths lefts sources others)
+GaveAllBut paths lefts sources unfinished = ⊥
+
+-- 1 if a path is among them
+abbrev pub unfinished_status : List Text → ℕ
+unfinished_status [] = 0
+unfinished_status (path ∷ paths) = 1
+
+-- nothing is known of what reading these paths gives
+abbrev pub unknown : List Text → List (Option (List ℕ))
+unknown [] = []
+unknown (path ∷ paths) = None ∷ unknown paths

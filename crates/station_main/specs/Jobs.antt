@@ -5,25 +5,28 @@ use Rattle.clap.specs.Words.{App, IsAmong, Text, fault_of}
 use Rattle.clap.specs.declared.error.kind.ErrorKind.{ErrorKind}
 use Rattle.clap.specs.declared.error.kind.ErrorKind.TheVariants as kind
 use Rattle.station_report.specs.Sink.{AppendsFront}
-use Rattle.station_main.specs.Command.{IsStation, NamesJob, format_since, reopens_rounds}
+use Rattle.station_main.specs.Command.{IsStation, NamesJob, format_since, misplaced, reopens_rounds}
 use Rattle.station_main.specs.Limits.{forget_at, program_limits}
 use Rattle.station_main.specs.Replay.{EndsReplay}
+use Rattle.station_main.specs.Inputs.{unknown}
 use Rattle.station_main.specs.Rounds.{RunsAsked, RunsForDisplays}
-use Rattle.station_main.specs.Telling.{OutOfMemory, Tells, Told, reopens_rounds_text}
+use Rattle.station_main.specs.Telling.{OutOfMemory, Tells, Told, not_a_place_text, reopens_rounds_text}
 use Rattle.station_main.specs.declared.words.Job.{Job}
 use Rattle.station_main.specs.declared.words.Job.TheVariants.{Replay, Run}
 
 -- a job is done, beside a standard error for what is reported at once; a replay that leaves no output has read nothing;
 -- JSON of a run counts from the origin, in milliseconds since 1970, and of a replay from 0
 abbrev pub IsDone : Job → (origin : ℕ) → Option (List ℕ) → Option (List ℕ) → Option (Option (List ℕ)) → Option (List ℕ) → Told → Told → ℕ → Type 0
-IsDone (Replay form) origin input before None alarm err_old err_new status = OutOfMemory err_old err_new status
-IsDone (Replay form) origin input before (Some after) alarm err_old err_new status = EndsReplay (format_since form 0) program_limits input before after err_old err_new status
+IsDone (Replay form site) origin input before None alarm err_old err_new status = OutOfMemory err_old err_new status
+IsDone (Replay form site) origin input before (Some after) alarm err_old err_new status = EndsReplay (format_since form 0) (program_limits site) input before after err_old err_new status
 IsDone (Run arguments) origin input before after alarm err_old err_new status =
     RunsForDisplays (is_some arguments.displays)
     (RunsAsked (option_map string_bytes arguments.record) (record {
       tables = record { pace = arguments.pace; format = format_since arguments.format origin };
       paths = map string_bytes arguments.paths.items;
+      known = unknown (map string_bytes arguments.paths.items);
       hand_over_at = forget_at;
+      site = arguments.site;
     }) (arguments.rounds - 1) before after alarm err_old err_new)
     after err_old err_new status
 
@@ -66,11 +69,18 @@ pub record RefusesBoth (app : App) (words : List Text) (before : Option (List �
   pub both : reopens_rounds app words ≡ true
   pub says : WritesText false reopens_rounds_text before after err_old err_new status
 
+-- `clap` accepts a command line whose text of `--at` names no place, which is refused in the form of `clap`
+pub record RefusesPlace (app : App) (words : List Text) (before : Option (List ℕ)) (after : Option (Option (List ℕ))) (err_old err_new : Told) (status : ℕ) : Type 0 where
+  pub accepted : fault_of app words ≡ []
+  pub text : Text
+  pub is_misplaced : misplaced app words ≡ Some text
+  pub says : WritesText false (not_a_place_text text) before after err_old err_new status
+
 -- what a command line leaves that `clap` accepts
 abbrev pub IsAnswered : App → List Text → (origin : ℕ) → Option (List ℕ) → Option (List ℕ) → Option (Option (List ℕ)) → Option (List ℕ) → Told → Told → ℕ → Type 0
 IsAnswered app words origin input before after alarm err_old err_new status =
     DoesJob app words origin input before after alarm err_old err_new status
-    ⊎ (HasNoMemory after err_old err_new status ⊎ RefusesBoth app words before after err_old err_new status)
+    ⊎ (HasNoMemory after err_old err_new status ⊎ (RefusesBoth app words before after err_old err_new status ⊎ RefusesPlace app words before after err_old err_new status))
 
 -- what any command line leaves
 abbrev pub IsObeyed : App → List Text → (origin : ℕ) → Option (List ℕ) → Option (List ℕ) → Option (Option (List ℕ)) → Option (List ℕ) → Told → Told → ℕ → Type 0

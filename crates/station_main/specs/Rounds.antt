@@ -1,11 +1,12 @@
 -- What the job `run` leaves: its rounds, one after another.
-use Rattle.std.specs.Prelude.{◌≡◌, ◌≤◌, ◌⊎◌, ℕ, ◌+◌, zero, suc, Bool, true, false, List, [], All, length, map, max, reverse, Option, Some, None, Result, Ok, option_map}
+use Rattle.std.specs.Prelude.{◌≡◌, ◌≤◌, ◌⊎◌, ℕ, ◌+◌, zero, suc, Bool, true, false, List, [], All, is_some, length, map, max, reverse, Option, Some, None, Result, Ok, option_map}
 use Rattle.station_portions.specs.Giving.{state_of}
 use Rattle.station_lines.specs.Source.{SourceState}
 use Rattle.station_report.specs.Sink.{SinkState}
 use Rattle.clap.specs.Words.{Text}
 use Rattle.station_journal.specs.declared.entry.Entry.{Entry}
 use Rattle.station_journal.specs.Log.{clock_of}
+use Rattle.station_journal.specs.Past.{Site}
 use Rattle.station_journal.specs.Resume.{IsSound, recent_base, recent_of}
 use Rattle.station_desk.specs.History.{base_of}
 use Rattle.station_desk.specs.Published.{Prepared}
@@ -13,15 +14,15 @@ use Rattle.station_desk.specs.Start.{Start, log_of}
 use Rattle.station_lines.specs.declared.pumping.PumpFault.{PumpFault}
 use Rattle.station_lines.specs.declared.tally.Tally.{Tally}
 use Rattle.station_shared.specs.Seats.{Seated, newcomer}
-use Rattle.station_main.specs.Inputs.{AreFed}
+use Rattle.station_main.specs.Inputs.{GaveAllBut, unfinished_status}
 use Rattle.station_main.specs.Limits.{program_limits}
 use Rattle.station_main.specs.Recorded.{IfRecording, IsNewRecord, Recording, RecordsRest}
 use Rattle.station_main.specs.Status.{fault_status, record_status}
 use Rattle.station_main.specs.Output.{buffered_of}
 use Rattle.station_main.specs.Reporter.{ReportsByAClock, after_table, not_before}
-use Rattle.station_main.specs.Run.{Closing, Ends, EndsEarly, HavePumped, IsClosed, ReporterLeaves}
+use Rattle.station_main.specs.Run.{Closing, Ends, EndsEarly, HavePumped, IsClosed, ReporterLeaves, may_go_on}
 use Rattle.station_main.specs.Sums.{AddsEach}
-use Rattle.station_main.specs.Telling.{OutOfMemory, Tells, Told, cannot_record, fault_line, telling_line}
+use Rattle.station_main.specs.Telling.{OutOfMemory, Tells, Told, cannot_record, fault_line, telling_line, unfinished_lines}
 use Rattle.station_main.specs.declared.faults.Fault.TheVariants as fault
 use Rattle.station_main.specs.declared.kept.Kept.{Kept}
 use Rattle.station_main.specs.declared.duties.Duties.{Duties}
@@ -33,19 +34,21 @@ use Rattle.station_main.specs.declared.shift.Ended.TheVariants.{HandsOver, Finis
 use Rattle.station_main.specs.declared.shift.Finished.{Finished}
 use Rattle.station_main.specs.declared.shift.Shift.{Shift}
 
--- what a round goes on from: entries with the base of their clock, and the time of the last tick before it
+-- what a round goes on from: entries with the base of their clock, the time of the last tick before it, and the place of the
+-- receivers
 pub record RoundStart : Type 0 where
   pub base : ℕ
   pub entries : List Entry
   pub last_tick : ℕ
+  pub site : Site
 
--- the first round begins with nothing
-abbrev pub no_start : RoundStart
-no_start = record { base = 0; entries = []; last_tick = 0 }
+-- the first round begins with nothing but the place
+abbrev pub no_start : Site → RoundStart
+no_start site = record { base = 0; entries = []; last_tick = 0; site = site }
 
 -- a station under the limits of the program that goes on from there
 pub record GoesOnFrom (given : RoundStart) (start : Start) : Type 0 where
-  pub limits : start.limits ≡ program_limits
+  pub limits : start.limits ≡ program_limits given.site
   pub base : base_of start.history ≡ given.base
   pub resumed : start.resumed ≡ length given.entries
 
@@ -60,13 +63,16 @@ pub record MayBegin (start : Start) (parts seats : ℕ) (places : Prepared) (giv
   -- it goes on from there under the limits of the program
   pub goes_on : GoesOnFrom given start
   -- what it goes on from is sound under them
-  pub sound : IsSound program_limits given.base (reverse given.entries)
+  pub sound : IsSound (program_limits given.site) given.base (reverse given.entries)
 
--- what was asked of a run, and how many entries of its journal make a station hand over
+-- what was asked of a run, what reading each path gives, where that is known, how many entries of its journal make a station
+-- hand over, and the place of the receivers
 pub record RunPlan : Type 0 where
   pub tables : Tables
   pub paths : List Text
+  pub known : List (Option (List ℕ))
   pub hand_over_at : ℕ
+  pub site : Site
 
 -- ---- the stations of a round
 
@@ -82,15 +88,16 @@ pub record Begun : Type 0 where
 abbrev pub HasNoLines : Result Tally PumpFault → Type 0
 HasNoLines answer = (tally : Tally) × (answer ≡ Ok tally) × (tally.lines ≡ 0)
 
--- the first station of a round: its sources are what threads send of the paths, of which no byte was given, and its table is due
--- one interval after the last tick
+-- the first station of a round: it has a source for each path, of which no byte was given, and its table is due one interval
+-- after the last tick
 pub record IsFirst (asked : RunPlan) (given : RoundStart) (begun : Begun) : Type 0 where
   pub given_is : begun.given ≡ given
   pub tables : begun.duties.tables ≡ asked.tables
   pub due : begun.duties.due ≡ after_table asked.tables.pace given.last_tick
   pub hand_over_at : begun.duties.hand_over_at ≡ asked.hand_over_at
   pub not_before : begun.duties.not_before ≡ 0
-  pub fed : AreFed asked.paths begun.sources
+  pub many_sources : length begun.sources ≡ length asked.paths
+  pub unread : All (λ (source : SourceState). source.given ≡ Some []) begun.sources
   pub many_answers : length begun.answers ≡ length asked.paths
   pub none : All HasNoLines begun.answers
 
@@ -110,19 +117,21 @@ pub record IsServedBy (begun : Begun) (start : Start) (seats : List Seated) (sou
   pub answers_are : answers ≡ map Some counted
   pub pumped : HavePumped start begun.given.entries begun.sources sources seats counted
 
--- what is kept of a closed station's journal: its recent entries; the record goes on with what it hasn't of the journal
+-- what is kept of a closed station's journal: its recent entries, and the place of the receivers; the record goes on with what it hasn't of the journal
 pub record KeepsRecent (start : Start) (journal : List Entry) (kept : RoundStart) (was is : Option Recording) : Type 0 where
   pub base : kept.base ≡ recent_base (base_of start.history) (reverse journal)
   pub entries : reverse kept.entries ≡ recent_of (base_of start.history) (reverse journal)
   pub last_tick : kept.last_tick ≡ clock_of (log_of start journal)
+  pub site : kept.site ≡ start.limits.site
   pub records : IfRecording (RecordsRest journal (length kept.entries)) was is
 
--- a station hands over: its reporter asks for it, and prints no further table; the next station is begun with what is recent in its
--- journal and with the sources as they are, and the next table is due where it was
+-- a station hands over: its reporter asks for it, and prints no further table; a path goes on, and no answer ends the run. The next
+-- station is begun with what is recent in its journal and with the sources as they are, and the next table is due where it was
 pub record IsHandOver (begun next : Begun) (before after : SinkState) (was is : Option Recording) : Type 0 where
   pub start : Start
   pub closing : Closing
   pub serves : Serves begun start closing next.sources next.answers
+  pub more : may_go_on next.sources serves.counted ≡ true
   pub at : ℕ
   pub shown : Option Recording
   pub reports : ReportsByAClock start begun.duties next.duties.due (Some at) (newcomer begun.given.entries (length begun.sources)) closing.reporter before after was shown false
@@ -131,26 +140,34 @@ pub record IsHandOver (begun next : Begun) (before after : SinkState) (was is : 
   pub not_before : next.duties.not_before ≡ not_before begun.duties.hand_over_at (length next.given.entries) next.given.last_tick
   pub is_kept : KeepsRecent start closing.journal next.given shown is
 
--- the last station of a round
-pub record IsLastStation (begun : Begun) (start : Start) (closing : Closing) (before after : Option (List ℕ)) (was is : Option Recording) (err_old err_new : Told) (status : ℕ) : Type 0 where
+-- the last station of a round: it hands over to none, as no hand-over was asked for, no path goes on, or an answer ends the run. Paths
+-- that weren't read to their ends are printed where no fault was; where the status is 0 there are none
+pub record IsLastStation (asked : RunPlan) (begun : Begun) (start : Start) (closing : Closing) (before after : Option (List ℕ)) (was is : Option Recording) (err_old err_new : Told) (status : ℕ) : Type 0 where
   pub sources : List SourceState
   pub answers : List (Result Tally PumpFault)
   pub serves : Serves begun start closing sources answers
-  pub ends : Ends start begun.duties answers (newcomer begun.given.entries (length begun.sources)) closing.reporter before after was is err_old err_new status
+  pub err_mid : Told
+  pub told : ℕ
+  pub ends : Ends start begun.duties answers (newcomer begun.given.entries (length begun.sources)) closing.reporter before after was is err_old err_mid told
+  pub no_more : is_some ends.output.asked_at ≡ true → may_go_on sources serves.counted ≡ false
+  pub unfinished : List Text
+  pub whole : GaveAllBut asked.paths asked.known sources unfinished
+  pub told_too : Tells err_mid err_new (unfinished_lines told unfinished)
+  pub status_is : status ≡ max told (unfinished_status unfinished)
 
 -- a station and those after it in its round, the number is that of the hand-overs
-abbrev pub Stations : ℕ → Begun → Start → Closing → SinkState → Option (List ℕ) → Option Recording → Option Recording → Told → Told → ℕ → Type 0
-Stations zero begun start closing before after was is err_old err_new status = IsLastStation begun start closing before.taken after was is err_old err_new status
-Stations (suc more) begun start closing before after was is err_old err_new status =
+abbrev pub Stations : RunPlan → ℕ → Begun → Start → Closing → SinkState → Option (List ℕ) → Option Recording → Option Recording → Told → Told → ℕ → Type 0
+Stations asked zero begun start closing before after was is err_old err_new status = IsLastStation asked begun start closing before.taken after was is err_old err_new status
+Stations asked (suc more) begun start closing before after was is err_old err_new status =
     (next : Begun) × (mid : SinkState) × (recorded : Option Recording)
-    × IsHandOver begun next before mid was recorded × Stations more next start closing mid after recorded is err_old err_new status
+    × IsHandOver begun next before mid was recorded × Stations asked more next start closing mid after recorded is err_old err_new status
 
 -- a round, whose last station is this one
 pub record IsRound (asked : RunPlan) (given : RoundStart) (start : Start) (closing : Closing) (before after : Option (List ℕ)) (was is : Option Recording) (err_old err_new : Told) (status : ℕ) : Type 0 where
   pub begun : Begun
   pub first : IsFirst asked given begun
   pub hand_overs : ℕ
-  pub stations : Stations hand_overs begun start closing (record { taken = before; failures = 0 }) after was is err_old err_new status
+  pub stations : Stations asked hand_overs begun start closing (record { taken = before; failures = 0 }) after was is err_old err_new status
 
 -- ---- rounds
 
@@ -195,7 +212,7 @@ RunsRounds asked (suc more) given before after was is err_old err_new status =
 
 -- what a round hands on to the next
 abbrev pub start_of : Kept → RoundStart
-start_of kept = record { base = kept.recent.base; entries = kept.recent.entries.items; last_tick = kept.last_tick }
+start_of kept = record { base = kept.recent.base; entries = kept.recent.entries.items; last_tick = kept.last_tick; site = kept.site }
 
 -- what a station is begun with, and what its output has taken
 abbrev pub begun_of : {R O : Type 0} → Shift R O → Begun
@@ -212,6 +229,7 @@ pub record IsServed {R O : Type 0} (contents : O → Option (List ℕ)) (begun :
   pub log : finished.journal.log ≡ log_of start finished.journal.log.entries
   pub serves : Serves begun start closing (map state_of finished.inputs.items) finished.answers.items
   pub leaves : ReporterLeaves start begun.duties (newcomer begun.given.entries (length begun.sources)) closing.reporter before (contents finished.written.out) was is finished.written.has_failed
+  pub no_more : is_some leaves.asked_at ≡ true → may_go_on (map state_of finished.inputs.items) serves.counted ≡ false
 
 -- a station by its answer: it hands over, or its round is over
 abbrev pub EndsStation : {R O : Type 0} → (O → Option (List ℕ)) → Begun → SinkState → Option Recording → Option Recording → Ended R O → Type 0
@@ -244,13 +262,13 @@ pub record RunsRecorded (asked : RunPlan) (more : ℕ) (before : Option (List �
   pub is_blank : IsNewRecord alarm blank
   pub left : Option Recording
   pub of_rounds : ℕ
-  pub runs : RunsRounds asked more no_start before after (Some blank) left err_old err_new of_rounds
+  pub runs : RunsRounds asked more (no_start asked.site) before after (Some blank) left err_old err_new of_rounds
   pub status_is : status ≡ max of_rounds (record_status left)
 
 -- what was asked is done: without a file for a record the rounds alone
 abbrev pub RunsAsked : Option Text → RunPlan → ℕ → Option (List ℕ) → Option (Option (List ℕ)) → Option (List ℕ) → Told → Told → ℕ → Type 0
 RunsAsked None asked more before after alarm err_old err_new status =
-    (left : Option Recording) × RunsRounds asked more no_start before after None left err_old err_new status
+    (left : Option Recording) × RunsRounds asked more (no_start asked.site) before after None left err_old err_new status
 RunsAsked (Some file) asked more before after alarm err_old err_new status =
     CannotRecord file after err_old err_new status ⊎ RunsRecorded asked more before after alarm err_old err_new status
 

@@ -1,6 +1,7 @@
 -- What a round of the job `run` leaves.
-use Rattle.std.specs.Prelude.{◌≡◌, ◌⊎◌, ℕ, ◌+◌, ◌<◌, Bool, true, false, List, [], ◌∷◌, ◌++◌, All, Option, IfSome, Result, length, map, slice_index_or, is_err, is_some, fold, max, unwrap_or, Contains, ⊤}
-use Rattle.std.specs.List.{flat_map}
+use Rattle.std.specs.Prelude.{◌≡◌, ◌⊎◌, ℕ, ◌+◌, ◌<◌, ◌&&◌, Bool, true, false, not, List, [], ◌∷◌, ◌++◌, All, Option, IfSome, Result, Ok, Err, length, map, slice_index_or, is_err, is_some, fold, max, unwrap_or, Contains, ⊤}
+use Rattle.std.specs.List.{flat_map, list_any}
+use Rattle.std.specs.Option.{option_map_or}
 use Rattle.station_lines.specs.Source.{SourceState}
 use Rattle.station_report.specs.Sink.{SinkState}
 use Rattle.clap.specs.Words.{Text}
@@ -14,6 +15,7 @@ use Rattle.station_shared.specs.Seats.{Seated, Looks, new_seat}
 use Rattle.station_shared.specs.Closing.{Closes, EachOnce}
 use Rattle.station_shared.specs.Workers.{Worked, Works}
 use Rattle.station_lines.specs.declared.pumping.PumpFault.{PumpFault}
+use Rattle.station_lines.specs.declared.pumping.PumpFault.TheVariants as pump
 use Rattle.station_lines.specs.declared.tally.Tally.{Tally}
 use Rattle.station_main.specs.Limits.{most_reads}
 use Rattle.station_main.specs.Output.{GivesBack}
@@ -43,6 +45,28 @@ pub record HavePumped (start : Start) (entries : List Entry) (old new : List Sou
   pub many_answers : length answers ≡ length old
   pub each : (i : ℕ) (source : SourceState) (seat : Seated) (answer : Result Tally PumpFault) → i < length old
       → Works start (new_seat entries false i) (slice_index_or seats i seat) (slice_index_or old i source) (slice_index_or new i source) most_reads (slice_index_or answers i answer)
+
+-- ---- whether a further station is begun
+
+-- a path goes on: its source has come to no end of it, nor to a failed read
+abbrev pub is_open : SourceState → Bool
+is_open source = not (is_some source.left)
+
+-- no further station is begun after this answer: all turns were used, or memory ran out
+abbrev pub ends_run : Result Tally PumpFault → Bool
+ends_run (Ok tally) = false
+ends_run (Err (pump.Read tally)) = false
+ends_run (Err (pump.TooManyTurns tally)) = true
+ends_run (Err (pump.NoMemory tally)) = true
+
+-- a further station has something to do: a path goes on, and no answer ends the run
+abbrev pub may_go_on : List SourceState → List (Result Tally PumpFault) → Bool
+may_go_on sources answers = not (list_any ends_run answers) && list_any is_open sources
+
+-- the same of workers, each with its answer
+abbrev pub may_work_on : {W : Type 0} → (W → SourceState) → (W → Option (Result Tally PumpFault)) → List W → Bool
+may_work_on source answer workers =
+    not (list_any (λ w. option_map_or ends_run (answer w) true) workers) && list_any (λ w. is_open (source w)) workers
 
 -- ---- a closed station
 

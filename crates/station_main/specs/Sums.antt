@@ -29,10 +29,15 @@ HasSameFault (Err (pump.TooManyTurns a)) (Err (pump.TooManyTurns b)) = ⊤
 HasSameFault (Err (pump.NoMemory a)) (Err (pump.NoMemory b)) = ⊤
 HasSameFault a b = ⊥
 
--- an answer for what was counted before and since, with the fault since
+-- the answer with the first fault of two
+abbrev pub first_fault : Result Tally PumpFault → Result Tally PumpFault → Result Tally PumpFault
+first_fault (Ok tally) since = since
+first_fault (Err fault) since = Err fault
+
+-- an answer for what was counted before and since, with the first fault
 pub record AddsAnswer (before since sum : Result Tally PumpFault) : Type 0 where
   pub adds : AddsTally (tally_of_pump before) (tally_of_pump since) (tally_of_pump sum)
-  pub fault : HasSameFault since sum
+  pub fault : HasSameFault (first_fault before since) sum
 
 -- each answer is one for what was counted of a path before and since
 abbrev pub AddsEach : (before since sums : List (Result Tally PumpFault)) → Type 0

@@ -1,5 +1,6 @@
 -- What is printed on standard error.
-use Rattle.std.specs.Prelude.{◌≡◌, ℕ, Bool, true, false, List, [], ◌∷◌, ◌++◌, Option, Result, Ok, Err, codes}
+use Rattle.std.specs.Prelude.{◌≡◌, ℕ, Bool, true, false, List, [], ◌∷◌, ◌++◌, Option, Result, Ok, Err, codes, cond, nat_eq}
+use Rattle.std.specs.List.{flat_map}
 use Rattle.std.specs.Fmt.{decimal}
 use Rattle.std.specs.Io.KnownBytes.{Appends}
 use Rattle.station_lines.specs.declared.pumping.PumpFault.{PumpFault}
@@ -33,6 +34,10 @@ cannot_open path = codes "cannot open " ++ path
 abbrev pub cannot_record : List ℕ → List ℕ
 cannot_record path = codes "cannot record to " ++ path
 
+-- what is printed of a path that wasn't read to its end
+abbrev pub unfinished_words : List ℕ → List ℕ
+unfinished_words path = path ++ codes " not read to its end"
+
 abbrev pub fault_words : Fault → List ℕ
 fault_words fault.Read = codes "read failed"
 fault_words fault.Write = codes "write failed"
@@ -45,6 +50,7 @@ fault_words fault.Record = codes "record failed"
 fault_words (fault.CannotWrite path) = codes "cannot write " ++ path.now
 fault_words fault.JournalFull = codes "journal full"
 fault_words fault.TableFull = codes "table full"
+fault_words (fault.Unfinished path) = unfinished_words path.now
 
 -- a line of these words
 abbrev pub telling_line : List ℕ → List ℕ
@@ -57,6 +63,10 @@ fault_line fault = telling_line (fault_words fault)
 abbrev pub reopens_rounds_text : List ℕ
 reopens_rounds_text =
     codes "error: the argument '--reopen' cannot be used with '--rounds <R>'" ++ 10 ∷ 10 ∷ codes "For more information, try '--help'." ++ 10 ∷ []
+
+-- why this text of `--at` is refused, in the form of `clap`
+abbrev pub not_a_place_text : List ℕ → List ℕ
+not_a_place_text text = codes "error: invalid value '" ++ text ++ codes "' for '--at <LAT,LON>'\n\nFor more information, try '--help'.\n"
 
 -- an allocation was refused, and only that is printed
 pub record OutOfMemory (err_old err_new : Told) (status : ℕ) : Type 0 where
@@ -82,6 +92,10 @@ pump_lines (Err (pump.NoMemory tally)) = tally_line tally ++ fault_line fault.No
 abbrev pub output_lines : Bool → List ℕ
 output_lines false = []
 output_lines true = fault_line fault.Write
+
+-- these paths weren't read to their ends, unless another fault was printed, as the status before says
+abbrev pub unfinished_lines : ℕ → List (List ℕ) → List ℕ
+unfinished_lines status paths = cond (nat_eq status 0) (flat_map (λ (path : List ℕ). telling_line (unfinished_words path)) paths) []
 
 -- a tally and at most one fault: that of the answer, or else that of the output
 abbrev pub replay_lines : Result Tally ReplayFault → Bool → List ℕ

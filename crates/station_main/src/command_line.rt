@@ -1,9 +1,9 @@
 //! The whole program, over any streams.
 ghost use Rattle.clap.specs.Words.{App, kind_of, takes};
-ghost use Rattle.station_main.specs.Command.{IsInRange, IsStation, reopens_rounds};
+ghost use Rattle.station_main.specs.Command.{IsInRange, IsStation, misplaced, reopens_rounds};
 ghost use Rattle.station_main.specs.Jobs.{GivesStatus, HasNoMemory, IsAnswered, IsDone, IsObeyed, WritesText, is_shown};
-ghost use Rattle.station_main.specs.Telling.{Tells, reopens_rounds_text, told_of};
-ghost use Rattle.std.specs.Prelude.{◌≡◌, ◌≤◌, ◌⊎◌, ℕ, List, Some, false, map, option_map, true};
+ghost use Rattle.station_main.specs.Telling.{Tells, not_a_place_text, reopens_rounds_text, told_of};
+ghost use Rattle.std.specs.Prelude.{◌≡◌, ◌≤◌, ◌⊎◌, ℕ, List, None, Some, false, map, option_map, true};
 
 use crate::alarms::Alarms;
 use crate::display_job::run_for_displays;
@@ -54,8 +54,8 @@ pub fn program<
     obey(rt, own, alloc, words, origin, input, out, alarms, &mut last).status
 }
 
-/// Runs a command line, which begins with the program's name. Answers the output, unless nothing was read, and the exit
-/// status:
+/// Runs a command line, which begins with the program's name. Answers the output, unless the job, or one of its stations,
+/// couldn't begin or be closed, and the exit status:
 ///
 /// - 0 after the job, even if lines were refused, and after help or the version;
 /// - 1 after a fault;
@@ -63,7 +63,7 @@ pub fn program<
 ///
 /// Arguments that are accepted name the job that is done. For others only a text is written: help and the version to the
 /// output, and why they are refused to standard error. It is the text of `clap`, but where both `--reopen` and `--rounds` are
-/// given. If there is no memory for that, only that is printed.
+/// given, or `--at` names no place. If there is no memory for that, only that is printed.
 ///
 /// `origin` is the time of the system at the start of the program, in milliseconds since 1970. JSON of `run` counts from it.
 /// `alarms` are further standard errors, for what is reported at once while a job goes on. `own` is what the threads that read
@@ -88,7 +88,8 @@ pub fn obey<
 ) -> JobResult<O>
     ensures status { result.status ≤ 2 }
     ensures obeyed { (app : App) × IsStation app × (takes app (map (λ w. w.now) words.now) ≡ true
-        → (reopens_rounds app (map (λ w. w.now) words.now) ≡ false → result.status ≤ 1)
+        → (reopens_rounds app (map (λ w. w.now) words.now) ≡ false
+        → misplaced app (map (λ w. w.now) words.now) ≡ None → result.status ≤ 1)
         × IsAnswered app (map (λ w. w.now) words.now) origin (I.remaining input) (O.Write.contents out)
         (option_map (λ left. O.Write.contents left) result.out) (A.Write.contents alarms.record)
         (told_of E.contents err.old) (told_of E.contents err.new) result.status)
@@ -100,6 +101,7 @@ pub fn obey<
         Ok(job) => do_job(rt, own, alloc, job, origin, input, out, alarms, err),
         Err(WordsFault::NoMemory) => without_output(err, Fault::NoMemory),
         Err(WordsFault::ReopensRounds) => refuse_both(out, err),
+        Err(WordsFault::NotAPlace(text)) => refuse_place(text.as_str(), out, err),
         Err(WordsFault::Clap(error)) => write_answer(alloc, &error, out, err),
     }
 }
@@ -130,9 +132,10 @@ fn do_job<
         (told_of E.contents err.old) (told_of E.contents err.new) result.status }
 {
     match job {
-        Job::Replay { format } => {
-            replay_input(rt, alloc, format.since(0), input, out, alarms.limits, err)
-        },
+        Job::Replay { format, site } => {
+            let format = format.since(0);
+            replay_input(rt, alloc, site, format, input, out, alarms.limits, err)
+        }
         Job::Run(arguments) => {
             let options = RunOptions::new(&arguments, origin);
             run_for_displays(rt, own, alloc, options, out, alarms, err)
@@ -147,6 +150,21 @@ fn refuse_both<O, E: Write>(out: O, err: &mut StandardError<E>) -> JobResult<O>
     ensures told { Tells (told_of E.contents err.old) (told_of E.contents err.new) reopens_rounds_text }
 {
     err.text(REOPENS_ROUNDS);
+    JobResult {
+        status: 2,
+        out: Some(out),
+    }
+}
+
+// Refuses a text of `--at` that names no place, with status 2.
+fn refuse_place<O, E: Write>(text: &str, out: O, err: &mut StandardError<E>) -> JobResult<O>
+    ensures status { result.status ≡ 2 }
+    ensures out { result.out ≡ Some out }
+    ensures told { Tells (told_of E.contents err.old) (told_of E.contents err.new) (not_a_place_text text.now) }
+{
+    err.text(format_args!(
+        "error: invalid value '{text}' for '--at <LAT,LON>'\n\nFor more information, try '--help'.\n"
+    ));
     JobResult {
         status: 2,
         out: Some(out),

@@ -1,5 +1,5 @@
 //! The commands that `clap` reads: their options, and what help says of them.
-ghost use Rattle.station_main.specs.Command.{IsArg, IsMade, every, format, json_folder, path, record_file, reopen, replay, rounds, run, run_formats, run_options, run_times, station, tick};
+ghost use Rattle.station_main.specs.Command.{IsArg, IsMade, at_place, every, format, json_folder, path, record_file, reopen, replay, rounds, run, run_formats, run_options, run_times, station, tick};
 ghost use Rattle.std.specs.Prelude.{◌≡◌, IfOk};
 
 use clap::builder::ValueParser;
@@ -37,6 +37,9 @@ const AFTER_REPLAY_HELP: &str = concat!(
     "At a + line, once there are 12582912 accepted frames and + lines, those that\n",
     "are more than 70 s old are forgotten. There is room for 16777216. When it is\n",
     "full, all that comes is refused, and 'now' stands still.\n",
+    "With --at aircraft on the ground have positions too. LAT and LON are the place\n",
+    "of the receivers in degrees, right to some 100 km. A latitude of the south needs\n",
+    "the = sign: --at=-33.9,151.2\n",
     "Formats: docs/FORMATS.md.",
 );
 
@@ -60,7 +63,10 @@ const AFTER_RUN_HELP: &str = concat!(
     "each path goes to standard error.\n",
     "--json writes each table to DIR/aircraft.json too, which displays read.\n",
     "--record writes all that was accepted to FILE, with a ? for each table:\n",
-    "'groundstation replay < FILE' prints the tables again.\n",
+    "'groundstation replay < FILE' prints the tables again, with the same --at.\n",
+    "With --at aircraft on the ground have positions too. LAT and LON are the place\n",
+    "of the receivers in degrees, right to some 100 km. A latitude of the south needs\n",
+    "the = sign: --at=-33.9,151.2\n",
     "With --reopen a path that has ended, or whose read failed, is opened again one\n",
     "second later, for as long as the program runs. It can't go with --rounds.\n",
     "Once there are 12582912 accepted frames and ticks, those that are more than\n",
@@ -89,10 +95,12 @@ fn replay_command<'a>(alloc: Global, names: &'a [&'a str]) -> Result<Command<'a>
     ensures { IfOk result (IsMade (replay names.entry)) }
 {
     let format = format_arg(alloc, names);
+    let place = at_arg(alloc);
     let bare = Command::new(alloc, "replay")
         .about("Reads standard input, and writes the table at each line that is ?")
         .after_help(AFTER_REPLAY_HELP);
-    bare.arg(format)
+    let with_format = bare.arg(format)?;
+    with_format.arg(place)
 }
 
 fn run_command<'a>(alloc: Global, names: &'a [&'a str]) -> Result<Command<'a>, AllocError>
@@ -109,10 +117,12 @@ fn run_with_options<'a>(alloc: Global, names: &'a [&'a str]) -> Result<Command<'
     let rounds = rounds_arg(alloc);
     let reopen = reopen_arg(alloc);
     let file = record_arg(alloc);
+    let place = at_arg(alloc);
     let with_formats = run_with_formats(alloc, names)?;
     let with_rounds = with_formats.arg(rounds)?;
     let with_reopen = with_rounds.arg(reopen)?;
-    with_reopen.arg(file)
+    let with_record = with_reopen.arg(file)?;
+    with_record.arg(place)
 }
 
 fn run_with_formats<'a>(alloc: Global, names: &'a [&'a str]) -> Result<Command<'a>, AllocError>
@@ -213,6 +223,16 @@ fn record_arg<'a>(alloc: Global) -> Arg<'a>
         .long("record")
         .value_name("FILE")
         .help("File to record the run to, for replay")
+}
+
+// `--at LAT,LON`
+fn at_arg<'a>(alloc: Global) -> Arg<'a>
+    ensures { IsArg at_place result }
+{
+    Arg::new(alloc, "at")
+        .long("at")
+        .value_name("LAT,LON")
+        .help("Place of the receivers, for aircraft on the ground")
 }
 
 // `PATH..`

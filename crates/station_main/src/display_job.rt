@@ -1,6 +1,7 @@
 //! The job `run`, with or without tables for displays.
 ghost use Rattle.std.specs.Prelude.{◌≡◌, ◌-◌, ◌≤◌, IfErr, IfOk, None, is_some, length, map, option_map, true};
 ghost use Rattle.std.specs.String.{string_bytes};
+ghost use Rattle.station_main.specs.Inputs.{unknown};
 ghost use Rattle.station_main.specs.Rounds.{RunsAsked, RunsForDisplays};
 ghost use Rattle.station_main.specs.Telling.{told_of};
 
@@ -43,7 +44,7 @@ pub fn run_for_displays<
     requires paths { length asked.paths.now.items ≤ 8 }
     ensures most { result.status ≤ 1 }
     ensures runs { RunsForDisplays (is_some asked.entry.displays.now) (RunsAsked (option_map string_bytes asked.entry.record.now)
-        (record { tables = asked.entry.tables; paths = map string_bytes asked.entry.paths.now.items; hand_over_at = asked.entry.hand_over_at })
+        (record { tables = asked.entry.tables; paths = map string_bytes asked.entry.paths.now.items; known = unknown (map string_bytes asked.entry.paths.now.items); hand_over_at = asked.entry.hand_over_at; site = asked.entry.site })
         (asked.entry.rounds - 1) (O.contents out) (option_map (λ left. O.contents left) result.out) (A.contents alarms.record)
         (told_of E.contents err.old) (told_of E.contents err.new))
         (option_map (λ left. O.contents left) result.out) (told_of E.contents err.old) (told_of E.contents err.new) result.status }
@@ -77,7 +78,8 @@ fn begin_beside<R: Files<File = File>, T: Sink + Drop, A: Write + Drop>(
         Some(folder) => {
             let (folder, every) = (folder.as_str(), asked.tables.pace.every);
             let alarm = StandardError::new(displays);
-            Some(Displays::begin(rt, alloc, folder, every, asked.origin, alarm)?)
+            let (origin, site) = (asked.origin, asked.site);
+            Some(Displays::begin(rt, alloc, folder, every, origin, site, alarm)?)
         }
         None => None,
     };

@@ -11,7 +11,8 @@ ghost use Rattle.station_main.specs.Telling.{Tells, told_of};
 use crate::commands::VERSION;
 use crate::faults::{Fault, tell};
 use crate::standard_error::StandardError;
-use station_report::{Format, ToWrite, WriteFault, table_as};
+use modes_cpr::{Degrees, Position, Reference};
+use station_report::{Format, ToWrite, WriteFault, latitude_field, longitude_field, table_as};
 use station_shared::{Look, StationName};
 use std::alloc::{AllocError, Global};
 use std::fs::{self, File};
@@ -34,14 +35,15 @@ pub struct Displays<A> {
 }
 
 impl<A: Write + Drop> Displays<A> {
-    /// Begins to show tables in a folder, one each `every` milliseconds: writes what displays read first. A failed write
-    /// is reported to `alarm`. Refused if out of memory.
+    /// Begins to show tables in a folder, one each `every` milliseconds: writes what displays read first, with the place of
+    /// the receivers if it is given. A failed write is reported to `alarm`. Refused if out of memory.
     pub fn begin<R: Files<File = File>>(
         rt: &R,
         alloc: Global,
         folder: &str,
         every: u32,
         origin: u64,
+        site: Option<Reference>,
         alarm: StandardError<A>,
     ) -> Result<Self, AllocError>
         ensures table { IfOk result (λ d. string_bytes d.table ≡ in_folder folder.now (codes "aircraft.json")) }
@@ -56,8 +58,8 @@ impl<A: Write + Drop> Displays<A> {
             alarm,
         };
         let receiver = file_in(alloc, folder, "receiver.json")?;
-        let text = receiver_text(alloc, VERSION, every)?;
-        let written = fs::write(rt, receiver.as_str(), text.as_str());
+        let text = receiver_text(alloc, VERSION, every, site)?;
+        let written = fs::write(rt, receiver.as_str(), text.as_slice());
         displays.report_failure(written.is_ok());
         Ok(displays)
     }
@@ -95,11 +97,41 @@ fn file_in(alloc: Global, folder: &str, name: &str) -> Result<String, AllocError
     format!(in alloc; "{folder}/{name}")
 }
 
-// What displays read first: the version of the program, and the milliseconds from one table to the next.
-fn receiver_text(alloc: Global, version: &str, every: u32) -> Result<String, AllocError> {
-    format!(in alloc;
-        "{{\"version\":\"groundstation {version}\",\"refresh\":{every},\"history\":0}}"
-    )
+// What displays read first: the version of the program, the milliseconds from one table to the next, and the place of the
+// receivers if it is given.
+fn receiver_text(
+    alloc: Global,
+    version: &str,
+    every: u32,
+    site: Option<Reference>,
+) -> Result<Vec<u8>, AllocError> {
+    let start = format!(in alloc;
+        "{{\"version\":\"groundstation {version}\",\"refresh\":{every},\"history\":0"
+    )?;
+    let mut text = start.into_bytes();
+    if let Some(site) = site {
+        let place = Position {
+            lat: degrees(site.lat),
+            lon: degrees(site.lon),
+        };
+        text.extend_from_slice(b",\"lat\":")?;
+        text.extend_from_slice(latitude_field(place).as_slice())?;
+        text.extend_from_slice(b",\"lon\":")?;
+        text.extend_from_slice(longitude_field(place).as_slice())?;
+    }
+    text.push(b'}')?;
+    Ok(text)
+}
+
+// An angle in 1/10,000,000 degree.
+fn degrees(angle: i32) -> Degrees
+    ensures num { result.num ≡ angle }
+    ensures den { result.den ≡ 10000000 }
+{
+    Degrees {
+        num: i64::from(angle),
+        den: 10_000_000,
+    }
 }
 
 // The table of a look as JSON.

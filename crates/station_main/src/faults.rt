@@ -20,7 +20,7 @@ pub enum Fault<'a> {
     NoMemory,
     /// This path, as it was given, couldn't be opened.
     CannotOpen(&'a str),
-    /// The reporter's thread couldn't be started.
+    /// The thread of a path or of the reporter couldn't be started.
     ThreadNotStarted,
     /// This file, as it was given, can't take a record.
     CannotRecord(&'a str),
@@ -32,6 +32,8 @@ pub enum Fault<'a> {
     JournalFull,
     /// A frame of another aircraft met a full table. It ends no job.
     TableFull,
+    /// This path, as it was given, wasn't read to its end, or its receiver didn't take all of it, and no other fault was printed.
+    Unfinished(&'a str),
 }
 
 impl Display for Fault<'_> {
@@ -53,6 +55,7 @@ impl Display for Fault<'_> {
             Fault::CannotWrite(path) => write!(f, "cannot write {path}"),
             Fault::JournalFull => f.write_str("journal full"),
             Fault::TableFull => f.write_str("table full"),
+            Fault::Unfinished(path) => write!(f, "{path} not read to its end"),
         }
     }
 }

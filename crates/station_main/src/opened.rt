@@ -18,6 +18,13 @@ pub struct Opened {
     pub again: Option<String>,
 }
 
+/// A path, as it was given, and what opening it gave.
+#[derive(Drop)]
+pub struct OpenedPath<'p> {
+    pub path: &'p String,
+    pub opened: Opened,
+}
+
 impl Opened {
     /// Opens the file or pipe at this path.
     pub fn open<R: Files<File = File>>(rt: &R, path: &String) -> io::Result<Opened>

@@ -13,7 +13,7 @@ use std::io::{BufWriter, Write};
 pub struct JobResult<O> {
     /// The exit status, 0 to 2.
     pub status: u8,
-    /// The output. It is gone if nothing was read.
+    /// The output. It is gone where the job, or one of its stations, couldn't begin or be closed.
     pub out: Option<O>,
 }
 
@@ -25,7 +25,7 @@ pub struct ClosedOutput<O> {
     pub has_failed: bool,
 }
 
-/// Prints a fault that came before anything was read.
+/// Prints the fault by which a job, or one of its stations, couldn't begin or be closed.
 pub fn without_output<O, E: Write>(err: &mut StandardError<E>, fault: Fault<'_>) -> JobResult<O>
     ensures status { result.status ≡ 1 }
     ensures out { result.out ≡ None }

@@ -31,8 +31,11 @@ impl Display for PathEvent<'_> {
 
 /// A runtime by which a thread opens its path again, and reports that on standard error.
 pub trait PathHost {
+    ghost use Rattle.std.specs.Prelude.{◌≡◌, IfSome};
+
     /// Opens the file or pipe at this path, and may wait for that. `None` where it can't be opened.
-    fn open(&self, path: &String) -> Option<Opened>;
+    fn open(&self, path: &String) -> Option<Opened>
+        ensures { IfSome result (λ opened. opened.path.value ≡ path.now) };
 
     /// Reports an event of a path, as one line.
     fn report(&self, event: PathEvent<'_>);

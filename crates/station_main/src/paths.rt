@@ -1,5 +1,5 @@
 //! The paths of a round, each read by a thread of its own.
-ghost use Rattle.std.specs.Prelude.{◌≡◌, ◌≤◌, List, All, Contains, IfErr, IfOk, length, map};
+ghost use Rattle.std.specs.Prelude.{◌≡◌, List, All, Contains, IfErr, IfOk, length, map};
 ghost use Rattle.std.specs.String.{string_bytes};
 ghost use Rattle.station_portions.specs.Giving.{state_of};
 ghost use Rattle.clap.specs.Words.{Text};
@@ -8,7 +8,7 @@ ghost use Rattle.station_main.specs.Rounds.{HasNoLines};
 ghost use Rattle.station_main.specs.Run.{IsUnopened, IsUnstarted};
 
 use crate::faults::Fault;
-use crate::opened::Opened;
+use crate::opened::{Opened, OpenedPath};
 use crate::path_host::PathHost;
 use crate::reopening::Reopening;
 use crate::shift::Answer;
@@ -17,21 +17,28 @@ use station_portions::{FinishedPath, HandOver, PathReader, WholePath, connect};
 use station_shared::Tally;
 use std::alloc::Global;
 use std::fs::{self, File};
-use std::io::{self, ErrorKind};
+use std::io::{self, ErrorKind, Read};
 use std::os::unix::fs::FileTypeExt;
 use std::rt::Files;
 use std::sync::{Arc, Wait};
 use std::thread::{PromisedHandle, Threads};
 use std::time::Clock;
 
-/// The thread that reads a path.
-pub type PathThread = PromisedHandle<FinishedPath<Opened>, WholePath<Opened>>;
+/// What joins the thread that reads a path.
+pub type ReaderHandle<I> = PromisedHandle<FinishedPath<I>, WholePath<I>>;
+
+/// A path, as it was given, and the thread that reads it.
+#[derive(Drop)]
+pub struct PathThread<'p, I: Read + Drop> {
+    pub path: &'p String,
+    pub handle: ReaderHandle<I>,
+}
 
 /// What a round needs besides its stations.
 #[derive(Drop)]
-pub struct Paths {
-    /// The threads that read the paths, one for each in their order.
-    pub threads: Vec<PathThread>,
+pub struct Paths<'p, I: Read + Drop> {
+    /// The paths with their threads, in their order.
+    pub threads: Vec<PathThread<'p, I>>,
     /// The requests for hand-overs, one for each path.
     pub hand_overs: Vec<Arc<HandOver, Global>>,
 }
@@ -43,8 +50,9 @@ pub fn open_all<'p, R: Files<File = File>>(
     alloc: Global,
     paths: &'p Vec<String>,
     reopens: bool,
-) -> Result<Vec<Opened>, Fault<'p>>
-    ensures opened { IfOk result (λ files. map path_of files.items ≡ map string_bytes paths.now.items) }
+) -> Result<Vec<OpenedPath<'p>>, Fault<'p>>
+    ensures opened { IfOk result (λ files. map (λ f. path_of f.opened) files.items ≡ map string_bytes paths.now.items) }
+    ensures named { IfOk result (λ files. map (λ f. string_bytes f.path.now) files.items ≡ map string_bytes paths.now.items) }
     ensures many { IfOk result (λ files. length files.items ≡ length paths.now.items) }
     ensures unopened { IfErr result (IsUnopened (map string_bytes paths.now.items)) }
 {
@@ -64,15 +72,16 @@ fn open<'p, R: Files<File = File>>(
     alloc: Global,
     path: &'p String,
     reopens: bool,
-) -> Result<Opened, Fault<'p>>
-    ensures path { IfOk result (λ opened. path_of opened ≡ string_bytes path.entry.now) }
+) -> Result<OpenedPath<'p>, Fault<'p>>
+    ensures path { IfOk result (λ file. path_of file.opened ≡ string_bytes path.entry.now) }
+    ensures named { IfOk result (λ file. file.path.now ≡ path.entry.now) }
     ensures unopened { IfErr result (λ fault.
         (paths : List Text) → Contains paths (string_bytes path.entry.now) → IsUnopened paths fault) }
 {
     match open_or_wait(rt, path, reopens) {
-        Ok(opened) if !reopens => Ok(opened),
+        Ok(opened) if !reopens => Ok(OpenedPath { path, opened }),
         Ok(opened) => match opened.opened_again(alloc, path) {
-            Ok(opened) => Ok(opened),
+            Ok(opened) => Ok(OpenedPath { path, opened }),
             Err(_) => Err(Fault::NoMemory),
         },
         Err(error) if error.kind() == ErrorKind::OutOfMemory => Err(Fault::NoMemory),
@@ -92,8 +101,8 @@ fn open_or_wait<R: Files<File = File>>(rt: &R, path: &String, may_wait: bool) ->
 
 /// Paths whose threads read them.
 #[derive(Drop)]
-pub struct Started<'a, R> {
-    pub paths: Paths,
+pub struct Started<'a, 'p, R> {
+    pub paths: Paths<'p, Opened>,
     /// What the threads send to, by path.
     pub inputs: Vec<Input<'a, R>>,
     /// Nothing is counted so far, by path.
@@ -101,16 +110,19 @@ pub struct Started<'a, R> {
 }
 
 /// Starts a thread for each file, in their order, which reads it to its end. `own` is what the threads wait by.
-pub fn start_all<'a, R: Threads, W: Wait + Clock + PathHost + Copy + Send + 'static>(
+pub fn start_all<'a, 'p, R: Threads, W: Wait + Clock + PathHost + Copy + Send + 'static>(
     rt: &'a R,
     own: W,
     alloc: Global,
-    files: Vec<Opened>,
-) -> Result<Started<'a, R>, Fault<'static>>
-    ensures inputs { IfOk result (λ started. length started.inputs.items ≡ length files.items) }
+    files: Vec<OpenedPath<'p>>,
+) -> Result<Started<'a, 'p, R>, Fault<'static>>
+    ensures inputs { IfOk result (λ started. length started.inputs.items ≡ length files.entry.items) }
     ensures fed { IfOk result (λ started.
-        AreFed (map path_of files.items) (map state_of started.inputs.items)) }
-    ensures answers { IfOk result (λ started. length started.answers.items ≡ length files.items) }
+        AreFed (map (λ f. path_of f.opened) files.entry.items) (map (λ t. t.handle.promise) started.paths.threads.items)
+        (map state_of started.inputs.items)) }
+    ensures named { IfOk result (λ started. map (λ t. string_bytes t.path.now) started.paths.threads.items
+        ≡ map (λ f. string_bytes f.path.now) files.entry.items) }
+    ensures answers { IfOk result (λ started. length started.answers.items ≡ length files.entry.items) }
     ensures none { IfOk result (λ started. All HasNoLines started.answers.items) }
     ensures unstarted { IfErr result IsUnstarted }
 {
@@ -138,20 +150,22 @@ pub fn start_all<'a, R: Threads, W: Wait + Clock + PathHost + Copy + Send + 'sta
 }
 
 // Starts the thread of one path.
-fn start<'a, R: Threads, W: Wait + Clock + PathHost + Copy + Send + 'static>(
+fn start<'a, 'p, R: Threads, W: Wait + Clock + PathHost + Copy + Send + 'static>(
     rt: &'a R,
     own: W,
     alloc: Global,
-    file: Opened,
-) -> Result<(PathThread, Input<'a, R>, Arc<HandOver, Global>), Fault<'static>>
-    ensures fed { IfOk result (λ started. IsFedBy (path_of file) (state_of started.1)) }
+    file: OpenedPath<'p>,
+) -> Result<(PathThread<'p, Opened>, Input<'a, R>, Arc<HandOver, Global>), Fault<'static>>
+    ensures fed { IfOk result (λ started. IsFedBy (path_of file.entry.opened) started.0.handle.promise (state_of started.1)) }
+    ensures named { IfOk result (λ started. started.0.path.now ≡ file.entry.path.now) }
     ensures unstarted { IfErr result IsUnstarted }
 {
     let Ok((reader, input, hand_over)) = connect(rt, alloc) else {
         return Err(Fault::NoMemory);
     };
-    match start_reader(rt, own, reader, file) {
-        Ok(thread) => Ok((thread, input, hand_over)),
+    let OpenedPath { path, opened } = file;
+    match start_reader(rt, own, reader, opened) {
+        Ok(handle) => Ok((PathThread { path, handle }, input, hand_over)),
         Err(error) if error.kind() == ErrorKind::OutOfMemory => Err(Fault::NoMemory),
         Err(_) => Err(Fault::ThreadNotStarted),
     }
@@ -163,9 +177,9 @@ fn start_reader<R: Threads, W: Wait + Clock + PathHost + Copy + Send + 'static>(
     own: W,
     reader: PathReader,
     file: Opened,
-) -> io::Result<PathThread>
-    ensures path { IfOk result (λ thread. path_of thread.promise.from.value ≡ path_of file) }
-    ensures reader { IfOk result (λ thread. thread.promise.reader.value ≡ reader) }
+) -> io::Result<ReaderHandle<Opened>>
+    ensures path { IfOk result (λ handle. path_of handle.promise.from.value ≡ path_of file) }
+    ensures reader { IfOk result (λ handle. handle.promise.reader.value ≡ reader) }
 {
     let mut file = file;
     let Some(path) = file.again.take() else {
@@ -177,13 +191,4 @@ fn start_reader<R: Threads, W: Wait + Clock + PathHost + Copy + Send + 'static>(
         is_first: !file.is_open(),
     };
     reader.start_again(rt, own, file, again)
-}
-
-/// Joins the threads of the paths that have ended. The thread of another path goes on until its path or the program ends.
-pub fn join_ended<R: Threads + Wait>(rt: &R, inputs: &Vec<Input<'_, R>>, threads: Vec<PathThread>) {
-    for (input, thread) in inputs.iter().zip(threads) {
-        if input.end().is_some() {
-            let _ = thread.join(rt);
-        }
-    }
 }

@@ -21,6 +21,8 @@ pub struct Reopening<W> {
 }
 
 impl<W: Wait + Clock + PathHost> Reopening<W> {
+    ghost use Rattle.std.specs.Prelude.{◌≡◌};
+
     // Reports how an opening ended, and waits before the next.
     fn pause_after(&self, end: PathEnd) {
         let path = self.path.as_str();
@@ -37,7 +39,9 @@ impl<W: Wait + Clock + PathHost> Reopening<W> {
     }
 
     // Opens a path that couldn't be opened, as soon as that can be done, and reports both.
-    fn open_later(&self) -> Opened {
+    fn open_later(&self) -> Opened
+        ensures { result.path.value ≡ self.now.path }
+    {
         self.own.report(PathEvent::CannotOpen(self.path.as_str()));
         for _ in self.own.forever() {
             self.pause();
@@ -51,6 +55,11 @@ impl<W: Wait + Clock + PathHost> Reopening<W> {
 }
 
 impl<W: Wait + Clock + PathHost> Reopen<Opened> for Reopening<W> {
+    ghost use Rattle.std.specs.Prelude.{◌≡◌};
+
+    // each opening is of the same path
+    ghost opens = { λ old end opened new. (opened.path.value ≡ old.path) × (new.path ≡ old.path) };
+
     fn reopen(&mut self, end: PathEnd) -> Opened {
         let is_first = self.is_first;
         self.is_first = false;

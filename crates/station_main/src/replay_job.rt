@@ -9,9 +9,10 @@ ghost use Rattle.station_main.specs.Telling.{OutOfMemory, Tells, replay_lines, t
 
 use crate::faults::{Fault, tell_after, write_tally};
 use crate::limit_alarm::LimitAlarm;
-use crate::limits::{AIRCRAFT, FORGET_AT, LIMITS, TURNS};
+use crate::limits::{AIRCRAFT, FORGET_AT, TURNS, limits};
 use crate::output::{ClosedOutput, JobResult, drop_unwritten, unbuffered, without_output};
 use crate::standard_error::StandardError;
+use modes_cpr::Reference;
 use station_desk::replay_forgetting;
 use station_report::{Format, ToWrite};
 use station_shared::{Desk, FromBuffer, ReplayFault, Tally};
@@ -19,12 +20,14 @@ use std::alloc::Global;
 use std::io::{BufReader, BufWriter, Read, Write};
 use std::sync::Wait;
 
-/// Reads the lines of the input, and writes the tables that they ask for in this format. Then prints what was counted, and
+/// Reads the lines of the input, and writes the tables that they ask for in this format. `site` is the place of the receivers, if
+/// it is given. Then prints what was counted, and
 /// a fault if there is one. The first frame or tick that meets a full journal or a full table is reported to `alarm` at once.
 /// Answers the output, unless nothing was read.
 pub fn replay_input<R: Wait, I: Read + Drop, O: Write + Drop, A: Write + Drop, E: Write>(
     rt: &R,
     alloc: Global,
+    site: Option<Reference>,
     format: Format,
     input: I,
     out: O,
@@ -34,14 +37,14 @@ pub fn replay_input<R: Wait, I: Read + Drop, O: Write + Drop, A: Write + Drop, E
     ensures most { result.status ≤ 1 }
     ensures gone { result.out ≡ None →
         OutOfMemory (told_of E.contents err.old) (told_of E.contents err.new) result.status }
-    ensures ended { IfSome result.out (λ left. EndsReplay format program_limits
+    ensures ended { IfSome result.out (λ left. EndsReplay format (program_limits site)
         (I.remaining input) (O.Write.contents out) (O.Write.contents left)
         (told_of E.contents err.old) (told_of E.contents err.new) result.status) }
 {
     let (Ok(input), Ok(output)) = (BufReader::new(alloc, input), BufWriter::new(alloc, out)) else {
         return without_output(err, Fault::NoMemory);
     };
-    let Ok(mut desk) = Desk::<AIRCRAFT>::new(alloc, LIMITS) else {
+    let Ok(mut desk) = Desk::<AIRCRAFT>::new(alloc, limits(site)) else {
         return without_output(err, Fault::NoMemory);
     };
     let mut to = ToWrite::new(output);

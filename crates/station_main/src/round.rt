@@ -1,6 +1,9 @@
 //! One round of the job `run`: stations one after another over the same paths.
-ghost use Rattle.std.specs.Prelude.{◌≡◌, ◌≤◌, ℕ, List, Option, Some, IfErr, IfOk, length, reverse};
+ghost use Rattle.std.specs.Prelude.{◌≡◌, ◌≤◌, ℕ, List, Option, Some, IfErr, IfOk, length, map, reverse};
+ghost use Rattle.std.specs.String.{string_bytes};
+ghost use Rattle.station_portions.specs.Giving.{state_of};
 ghost use Rattle.station_journal.specs.Resume.{IsSound};
+ghost use Rattle.station_main.specs.Inputs.{AllTakeFrom};
 ghost use Rattle.station_main.specs.Limits.{program_limits};
 ghost use Rattle.station_main.specs.Output.{buffered_of};
 ghost use Rattle.station_desk.specs.Start.{Start};
@@ -13,7 +16,8 @@ use crate::beside::Beside;
 use crate::faults::{Fault, tell};
 use crate::kept::{Kept, keep};
 use crate::output::{ClosedOutput, JobResult, without_output};
-use crate::paths::{Paths, join_ended};
+use crate::path_ends::tell_ends;
+use crate::paths::Paths;
 use crate::shift::{Ended, Finished, Shift, run_shift};
 use crate::standard_error::StandardError;
 use crate::tallies::tell_end;
@@ -22,7 +26,7 @@ use station_report::Sink;
 use station_shared::Places;
 use std::alloc::Global;
 use std::fs::File;
-use std::io::Write;
+use std::io::{Read, Write};
 use std::marker::Brand;
 use std::rt::Files;
 use std::sync::ledger::Blank;
@@ -40,17 +44,19 @@ pub enum Round<O> {
 }
 
 /// Runs a round: one station, and further ones as long as they hand over. A round that is not the last hands on the recent
-/// entries, unless a fault was printed.
+/// entries, unless a fault was printed. Its status is 0 only if each path was read to its end and all of it was given to its
+/// receivers.
 pub fn run_round<
     'a,
     R: Threads + Wait + Clock + Files<File = File, Dir: Send> + Sync,
     O: Write + Send + Drop,
     E: Write,
+    I: Read + Drop,
 >(
     rt: &'a R,
     alloc: Global,
     start: Option<Instant>,
-    paths: Paths,
+    paths: Paths<'_, I>,
     shift: Shift<'a, R, O>,
     is_last: bool,
     beside: &mut Beside<impl Sink + Send + Drop, impl Write + Send + Drop>,
@@ -58,8 +64,11 @@ pub fn run_round<
 ) -> Round<O>
     requires few { length shift.inputs.items ≤ 8 }
     requires many { length shift.answers.items ≡ length shift.inputs.items }
-    requires sound { IsSound program_limits shift.kept.recent.base (reverse shift.kept.recent.entries.items) }
+    requires sound { IsSound (program_limits shift.kept.site) shift.kept.recent.base (reverse shift.kept.recent.entries.items) }
+    requires take { AllTakeFrom (map (λ t. t.handle.promise) paths.threads.items) (map state_of shift.inputs.items) }
     ensures { (asked : RunPlan) (given : RoundStart) (before : Option (List ℕ)) →
+        asked.paths ≡ map (λ t. string_bytes t.path.now) paths.entry.threads.items →
+        asked.known ≡ map (λ t. I.remaining t.handle.promise.from.value) paths.entry.threads.items →
         IsFirst asked given (begun_of shift.entry) →
         buffered_of O.contents shift.entry.out ≡ record { taken = before; failures = 0 } →
         EndsRound O.contents asked is_last given before beside.old.record beside.new.record
@@ -96,7 +105,7 @@ fn one_shift<
 ) -> Result<Ended<'a, R, O>, Fault<'static>>
     requires few { length shift.inputs.items ≤ 8 }
     requires many { length shift.answers.items ≡ length shift.inputs.items }
-    requires sound { IsSound program_limits shift.kept.recent.base (reverse shift.kept.recent.entries.items) }
+    requires sound { IsSound (program_limits shift.kept.site) shift.kept.recent.base (reverse shift.kept.recent.entries.items) }
     ensures unstarted { IfErr result IsUnstarted }
     ensures ended { IfOk result (EndsStation O.contents (begun_of shift.entry) (buffered_of O.contents shift.entry.out)
         beside.old.record beside.new.record) }
@@ -117,20 +126,23 @@ fn resume_all(hand_overs: &Vec<Arc<HandOver, Global>>) {
 }
 
 // Prints what was counted, and keeps the recent entries, unless a fault was printed or it was the last round.
-fn end_round<R: Threads + Wait, O: Write + Drop, T: Sink, A: Write, E: Write>(
+fn end_round<R: Threads + Wait, O: Write + Drop, T: Sink, A: Write, E: Write, I: Read + Drop>(
     rt: &R,
     alloc: Global,
-    paths: Paths,
+    paths: Paths<'_, I>,
     finished: Finished<'_, R, O>,
     is_last: bool,
     beside: &mut Beside<T, A>,
     err: &mut StandardError<E>,
 ) -> Round<O>
+    requires take { AllTakeFrom (map (λ t. t.handle.promise) paths.threads.items) (map state_of finished.inputs.items) }
     ensures { (asked : RunPlan) (given : RoundStart) (begun : Begun) (start : Start) (closing : Closing)
         (mid before : Option (List ℕ)) (shown was : Option Recording) →
+        asked.paths ≡ map (λ t. string_bytes t.path.now) paths.entry.threads.items →
+        asked.known ≡ map (λ t. I.remaining t.handle.promise.from.value) paths.entry.threads.items →
         IsServed O.contents begun start closing mid shown beside.old.record finished.entry →
         ((after : Option (List ℕ)) (err_new : Told) (status : ℕ) →
-        IsLastStation begun start closing mid after shown beside.old.record
+        IsLastStation asked begun start closing mid after shown beside.old.record
         (told_of E.contents err.old) err_new status →
         IsRound asked given start closing before after was beside.old.record
         (told_of E.contents err.old) err_new status) →
@@ -143,8 +155,8 @@ fn end_round<R: Threads + Wait, O: Write + Drop, T: Sink, A: Write, E: Write>(
         answers,
         written: ClosedOutput { out, has_failed },
     } = finished;
-    join_ended(rt, &inputs, paths.threads);
-    let status = tell_end(err, &answers, has_failed);
+    let told = tell_end(err, &answers, has_failed);
+    let status = tell_ends(rt, inputs, paths.threads, told, err);
     if is_last {
         return Round::Over(ended(status, out));
     }

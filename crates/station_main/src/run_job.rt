@@ -3,6 +3,8 @@ ghost use Rattle.std.specs.Prelude.{◌≡◌, ◌⊎◌, ◌-◌, ◌≤◌, No
 ghost use Rattle.std.specs.String.{string_bytes};
 ghost use Rattle.station_journal.specs.Resume.{IsSound};
 ghost use Rattle.station_main.specs.Command.{format_since};
+ghost use Rattle.station_main.specs.Inputs.{AllTakeFrom, AreFed, unknown};
+ghost use Rattle.station_portions.specs.Giving.{state_of};
 ghost use Rattle.station_main.specs.Limits.{forget_at, program_limits};
 ghost use Rattle.station_main.specs.Output.{buffered_of};
 ghost use Rattle.station_main.specs.Rounds.{EndsRound, IsFirst, RunsRounds, RunsAsked, begun_of, start_of, no_start};
@@ -14,6 +16,7 @@ use crate::duties::Duties;
 use crate::faults::Fault;
 use crate::kept::Kept;
 use crate::limits::{FORGET_AT, TABLE_ROOM};
+use crate::opened::Opened;
 use crate::output::{JobResult, without_output};
 use crate::path_host::PathHost;
 use crate::paths::{Paths, open_all, start_all};
@@ -25,6 +28,7 @@ use crate::shift::Shift;
 use crate::standard_error::StandardError;
 use crate::threads::Output;
 use crate::words::RunArguments;
+use modes_cpr::Reference;
 use station_report::{Sink, ToWrite};
 use std::alloc::Global;
 use std::fs::File;
@@ -53,6 +57,8 @@ pub struct RunOptions<'a> {
     pub paths: &'a Vec<String>,
     /// How many entries of its journal make a station hand over to the next.
     pub hand_over_at: u64,
+    /// The place of the receivers, if it is given.
+    pub site: Option<Reference>,
 }
 
 impl<'a> RunOptions<'a> {
@@ -69,6 +75,7 @@ impl<'a> RunOptions<'a> {
         ensures displays { result.displays.now ≡ arguments.entry.now.displays }
         ensures paths { result.paths.now ≡ arguments.entry.now.paths }
         ensures hand_over_at { result.hand_over_at ≡ forget_at }
+        ensures site { result.site ≡ arguments.entry.now.site }
     {
         RunOptions {
             tables: Tables {
@@ -82,6 +89,7 @@ impl<'a> RunOptions<'a> {
             displays: &arguments.displays,
             paths: &arguments.paths,
             hand_over_at: FORGET_AT,
+            site: arguments.site,
         }
     }
 }
@@ -93,8 +101,8 @@ impl<'a> RunOptions<'a> {
 /// - prints what each receiver counted, with its fault directly after it, and at last a failed write.
 ///
 /// Each round goes on from the last 70,000 ms of the one before. A fault ends the run after its round. A failed write of
-/// the record ends the record alone: it is reported to `alarm` at once, and the status is 1. Answers the output, unless
-/// nothing was read in the last round. `beside` has no record yet.
+/// the record ends the record alone: it is reported to `alarm` at once, and the status is 1. Answers the output, unless a
+/// round, or one of its stations, couldn't begin or be closed. `beside` has no record yet.
 pub fn run_paths<
     R: Threads + Wait + Clock + Files<File = File, Dir: Send> + Sync,
     W: Wait + Clock + PathHost + Copy + Send + 'static,
@@ -116,7 +124,7 @@ pub fn run_paths<
     requires unrecorded { beside.old.record ≡ None }
     ensures most { result.status ≤ 1 }
     ensures runs { RunsAsked (option_map string_bytes asked.entry.record.now)
-        (record { tables = asked.entry.tables; paths = map string_bytes asked.entry.paths.now.items; hand_over_at = asked.entry.hand_over_at })
+        (record { tables = asked.entry.tables; paths = map string_bytes asked.entry.paths.now.items; known = unknown (map string_bytes asked.entry.paths.now.items); hand_over_at = asked.entry.hand_over_at; site = asked.entry.site })
         (asked.entry.rounds - 1) (O.contents out) (option_map (λ left. O.contents left) result.out) (A.contents alarm)
         (told_of E.contents err.old) (told_of E.contents err.new) result.status }
 {
@@ -151,13 +159,13 @@ fn run_rounds<
     requires rounds { 1 ≤ asked.rounds }
     requires paths { length asked.paths.now.items ≤ 8 }
     ensures most { result.status ≤ 1 }
-    ensures runs { RunsRounds (record { tables = asked.entry.tables; paths = map string_bytes asked.entry.paths.now.items; hand_over_at = asked.entry.hand_over_at })
-        (asked.entry.rounds - 1) no_start (O.contents out) (option_map (λ left. O.contents left) result.out)
+    ensures runs { RunsRounds (record { tables = asked.entry.tables; paths = map string_bytes asked.entry.paths.now.items; known = unknown (map string_bytes asked.entry.paths.now.items); hand_over_at = asked.entry.hand_over_at; site = asked.entry.site })
+        (asked.entry.rounds - 1) (no_start asked.entry.site) (O.contents out) (option_map (λ left. O.contents left) result.out)
         beside.old.record beside.new.record
         (told_of E.contents err.old) (told_of E.contents err.new) result.status }
 {
     let start = Instant::now(rt).ok();
-    let mut kept = Kept::nothing(alloc);
+    let mut kept = Kept::nothing(alloc, asked.site);
     let mut out = out;
     let mut more = asked.rounds - 1;
     loop {
@@ -194,8 +202,8 @@ fn one_round<
     err: &mut StandardError<E>,
 ) -> Round<O>
     requires few { length asked.paths.now.items ≤ 8 }
-    requires sound { IsSound program_limits kept.recent.base (reverse kept.recent.entries.items) }
-    ensures { EndsRound O.contents (record { tables = asked.entry.tables; paths = map string_bytes asked.entry.paths.now.items; hand_over_at = asked.entry.hand_over_at })
+    requires sound { IsSound (program_limits kept.site) kept.recent.base (reverse kept.recent.entries.items) }
+    ensures { EndsRound O.contents (record { tables = asked.entry.tables; paths = map string_bytes asked.entry.paths.now.items; known = unknown (map string_bytes asked.entry.paths.now.items); hand_over_at = asked.entry.hand_over_at; site = asked.entry.site })
         is_last (start_of kept) (O.contents out)
         beside.old.record beside.new.record
         (told_of E.contents err.old) (told_of E.contents err.new) result }
@@ -214,13 +222,16 @@ fn prepare<'a, 'p, R: Threads + Wait + Files<File = File>, O: Write + Drop>(
     asked: RunOptions<'p>,
     kept: Kept,
     out: O,
-) -> Result<(Paths, Shift<'a, R, O>), Fault<'p>>
+) -> Result<(Paths<'p, Opened>, Shift<'a, R, O>), Fault<'p>>
     requires { length asked.paths.now.items ≤ 8 }
     ensures early { IfErr result (IsEarly (map string_bytes asked.entry.paths.now.items)) }
     ensures kept { IfOk result (λ made. made.1.kept ≡ kept) }
+    ensures take { IfOk result (λ made. AllTakeFrom (map (λ t. t.handle.promise) made.0.threads.items) (map state_of made.1.inputs.items)) }
+    ensures fed { IfOk result (λ made. AreFed (map string_bytes asked.entry.paths.now.items) (map (λ t. t.handle.promise) made.0.threads.items) (map state_of made.1.inputs.items)) }
+    ensures named { IfOk result (λ made. map (λ t. string_bytes t.path.now) made.0.threads.items ≡ map string_bytes asked.entry.paths.now.items) }
     ensures inputs { IfOk result (λ made. length made.1.inputs.items ≡ length asked.entry.paths.now.items) }
     ensures answers { IfOk result (λ made. length made.1.answers.items ≡ length asked.entry.paths.now.items) }
-    ensures first { IfOk result (λ made. IsFirst (record { tables = asked.entry.tables; paths = map string_bytes asked.entry.paths.now.items; hand_over_at = asked.entry.hand_over_at })
+    ensures first { IfOk result (λ made. IsFirst (record { tables = asked.entry.tables; paths = map string_bytes asked.entry.paths.now.items; known = unknown (map string_bytes asked.entry.paths.now.items); hand_over_at = asked.entry.hand_over_at; site = asked.entry.site })
         (start_of kept) (begun_of made.1)) }
     ensures out { IfOk result (λ made. buffered_of O.contents made.1.out
         ≡ record { taken = O.contents out; failures = 0 }) }

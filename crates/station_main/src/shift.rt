@@ -1,8 +1,11 @@
 //! One station of a round of the job `run`.
-ghost use Rattle.std.specs.Prelude.{◌≡◌, IfErr, IfOk, IfSome, Some, length};
+ghost use Rattle.std.specs.Prelude.{◌≡◌, IfErr, IfOk, None, cond, is_some, length, not, true};
+ghost use Rattle.std.specs.List.{list_any};
+ghost use Rattle.std.specs.Option.{option_map_or};
+ghost use Rattle.station_portions.specs.Giving.{left_of, state_of};
 ghost use Rattle.station_main.specs.Output.{buffered_of};
 ghost use Rattle.station_main.specs.Rounds.{EndsStation, MayBegin, begun_of, start_of};
-ghost use Rattle.station_main.specs.Run.{IsUnstarted};
+ghost use Rattle.station_main.specs.Run.{IsUnstarted, ends_run, is_open, may_work_on};
 
 mod ending;
 mod opening;
@@ -18,7 +21,7 @@ use crate::shift::ending::{finish, hand_over};
 use crate::shift::opening::begin;
 use crate::threads::{Input, Output, Receiver, run_threads};
 use station_journal::Journal;
-use station_portions::HandOver;
+use station_portions::{HandOver, PathEnd};
 use station_report::Sink;
 use station_shared::{Places, PumpFault, StationName, Tally};
 use std::alloc::Global;
@@ -67,8 +70,9 @@ pub struct Finished<'a, R, O> {
     pub written: ClosedOutput<O>,
 }
 
-/// Starts a station and runs its threads to their ends. If it hands over, the next one goes on from what is recent in its
-/// journal; else the last table is printed. The station is closed with all its seats.
+/// Starts a station and runs its threads to their ends. It hands over just where its reporter asked for it, a path goes on and
+/// no answer ends the run: then the next station goes on from what is recent in its journal. Else the last table is printed.
+/// The station is closed with all its seats.
 pub fn run_shift<
     'a,
     L: StationName + Send + Sync,
@@ -104,33 +108,69 @@ pub fn run_shift<
         return Err(Fault::ThreadNotStarted);
     };
     left.report.beside.report_limits(station.limits_met());
-    if let Some(_at) = hand_over_time(left.report.asked_at, &left.receivers) {
-        return hand_over(rt, alloc, station, left, shift.duties, answers, beside);
+    match hand_over_time(left.report.asked_at, &left.receivers) {
+        Some(_at) => hand_over(rt, alloc, station, left, shift.duties, answers, beside),
+        None => finish(rt, alloc, station, left, shift.duties, answers, beside),
     }
-    finish(rt, alloc, station, left, shift.duties, answers, beside)
 }
 
-// The time of a hand-over, unless no path goes on.
+// The time of a hand-over that was asked for, if a further station has something to do.
 fn hand_over_time<L: StationName, R: Wait>(
     asked_at: Option<u64>,
     receivers: &Vec<Receiver<'_, R, L>>,
 ) -> Option<u64>
-    ensures { IfSome result (λ at. asked_at ≡ Some at) }
+    ensures { result ≡ cond (may_work_on (λ r. state_of r.source) (λ r. r.answer) receivers.now.items) asked_at None }
 {
-    match asked_at {
-        Some(at) if goes_on(receivers) => Some(at),
-        _ => None,
-    }
+    if goes_on(receivers) { asked_at } else { None }
 }
 
 // Whether a path goes on, and no receiver ended by a fault that ends the run.
-fn goes_on<L: StationName, R: Wait>(receivers: &Vec<Receiver<'_, R, L>>) -> bool {
-    let mut is_open = false;
+fn goes_on<L: StationName, R: Wait>(receivers: &Vec<Receiver<'_, R, L>>) -> bool
+    ensures { result ≡ may_work_on (λ r. state_of r.source) (λ r. r.answer) receivers.now.items }
+{
+    !has_stopped(receivers) && is_any_open(receivers)
+}
+
+// Whether a receiver ended by a fault that ends the run.
+fn has_stopped<L: StationName, R: Wait>(receivers: &Vec<Receiver<'_, R, L>>) -> bool
+    ensures { result ≡ list_any (λ r. option_map_or ends_run r.answer true) receivers.now.items }
+{
     for receiver in receivers {
-        match &receiver.answer {
-            Some(Err(PumpFault::TooManyTurns(_) | PumpFault::NoMemory(_))) | None => return false,
-            Some(Ok(_) | Err(PumpFault::Read(_))) => is_open |= receiver.source.end().is_none(),
+        if stops_run(&receiver.answer) {
+            return true;
         }
     }
-    is_open
+    false
+}
+
+// Whether a path goes on.
+fn is_any_open<L: StationName, R: Wait>(receivers: &Vec<Receiver<'_, R, L>>) -> bool
+    ensures { result ≡ list_any (λ r. is_open (state_of r.source)) receivers.now.items }
+{
+    for receiver in receivers {
+        if goes_on_at(receiver.source.end()) {
+            return true;
+        }
+    }
+    false
+}
+
+// Whether a receiver that answers so ended by a fault that ends the run, or has no answer.
+fn stops_run(answer: &Option<Answer>) -> bool
+    ensures { result ≡ option_map_or ends_run answer.now true }
+{
+    match answer {
+        Some(Err(PumpFault::TooManyTurns(_) | PumpFault::NoMemory(_))) | None => true,
+        Some(Ok(_) | Err(PumpFault::Read(_))) => false,
+    }
+}
+
+// Whether a path with this end goes on: it has none.
+fn goes_on_at(end: Option<PathEnd>) -> bool
+    ensures { result ≡ not (is_some (left_of end)) }
+{
+    match end {
+        Some(_) => false,
+        None => true,
+    }
 }

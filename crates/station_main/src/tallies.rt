@@ -3,7 +3,7 @@ ghost use Rattle.std.specs.Prelude.{◌≡◌, ◌≤◌, ◌++◌, fold, max};
 ghost use Rattle.std.specs.List.{flat_map};
 ghost use Rattle.station_main.specs.Status.{fault_status, status_of};
 ghost use Rattle.station_lines.specs.Pump.{tally_of_pump};
-ghost use Rattle.station_main.specs.Sums.{AddsAnswer, AddsTally};
+ghost use Rattle.station_main.specs.Sums.{AddsAnswer, AddsTally, HasSameFault};
 ghost use Rattle.station_main.specs.Telling.{Tells, output_lines, pump_lines, told_of};
 
 use crate::faults::{Fault, tell, tell_after, write_tally};
@@ -58,12 +58,23 @@ fn tell_answer<E: Write>(err: &mut StandardError<E>, answer: &Answer) -> u8
     }
 }
 
-/// What was counted of a path before and since, and the fault since.
+/// What was counted of a path before and since, and the first fault.
 pub fn added(before: &Answer, since: &Answer) -> Answer
     ensures { AddsAnswer before.now since.now result }
 {
     let tally = sum(counted(before), counted(since));
-    match since {
+    match before {
+        Ok(_) => with_tally(since, tally),
+        Err(_) => with_tally(before, tally),
+    }
+}
+
+// The same fault, or none, with this count.
+fn with_tally(answer: &Answer, tally: Tally) -> Answer
+    ensures fault { HasSameFault answer.now result }
+    ensures tally { tally_of_pump result ≡ tally }
+{
+    match answer {
         Ok(_) => Ok(tally),
         Err(PumpFault::Read(_)) => Err(PumpFault::Read(tally)),
         Err(PumpFault::TooManyTurns(_)) => Err(PumpFault::TooManyTurns(tally)),

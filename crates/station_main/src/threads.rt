@@ -40,7 +40,7 @@ pub struct Outcome<W, P> {
     pub report: P,
 }
 
-/// The same, by what is written and where.
+/// The same of the program's threads, by the output and what is written beside it.
 pub type Left<'a, L, R, S, K> = Outcome<
     Receiver<'a, R, L>,
     ReporterResult<Seat<AIRCRAFT, L>, S, K>,

@@ -1,21 +1,27 @@
 //! The command line.
 ghost use Rattle.clap.specs.Words.{App, fault_of, found_of, rows_of, takes};
-ghost use Rattle.station_main.specs.Command.{AreFormatNames, AreInRange, GivesRun, IsGiven, IsInRange, IsStation, IsOwnFault, IsWordsFault, NamesJob, gives_both, station};
+ghost use Rattle.station_main.specs.Command.{AreFormatNames, AreInRange, GivesPlace, GivesRun, IsGiven, IsInRange, IsStation, IsOwnFault, IsPlaceFault, IsWordsFault, NamesJob, gives_both, station};
 ghost use Rattle.std.specs.Prelude.{◌≡◌, [], IfErr, IfOk, false, map, option_map, true};
 ghost use Rattle.std.specs.String.{string_bytes};
 
 use crate::commands::station_command;
 use crate::schedule::Pace;
+use crate::site::place_named;
 use crate::table_format::TableFormat;
 use clap::ArgMatches;
 use clap::error::ErrorKind;
+use modes_cpr::Reference;
 use std::alloc::{AllocError, Global};
 
 /// What the arguments ask for.
 #[derive(Debug, Drop)]
 pub enum Job {
     /// Read standard input, and write the tables that its lines ask for.
-    Replay { format: TableFormat },
+    Replay {
+        format: TableFormat,
+        /// The place of the receivers, if it is given.
+        site: Option<Reference>,
+    },
     /// Read the paths, each by a receiver of its own, and write a table at an interval.
     Run(RunArguments),
 }
@@ -36,6 +42,8 @@ pub struct RunArguments {
     pub format: TableFormat,
     /// The folder in which displays find the tables, if one is given.
     pub displays: Option<String>,
+    /// The place of the receivers, if it is given.
+    pub site: Option<Reference>,
 }
 
 /// Why there is no job.
@@ -47,6 +55,8 @@ pub enum WordsFault {
     Clap(clap::Error),
     /// `clap` accepts the arguments, but both `--reopen` and `--rounds` are given.
     ReopensRounds,
+    /// `clap` accepts the arguments, but this text of `--at` names no place.
+    NotAPlace(String),
 }
 
 impl From<AllocError> for WordsFault {
@@ -78,8 +88,8 @@ impl From<clap::Error> for WordsFault {
 }
 
 /// Reads a command line, which begins with the program's name, by `clap`: the subcommand, the format, and for `run` the
-/// values of its options and PATH. Arguments that `clap` accepts are refused only if out of memory, or if both `--reopen` and
-/// `--rounds` are given.
+/// values of its options and PATH. Arguments that `clap` accepts are refused only if out of memory, if both `--reopen` and
+/// `--rounds` are given, or if a text of `--at` names no place.
 pub fn read_words<'a>(alloc: Global, words: &'a [&'a str]) -> Result<Job, WordsFault>
     ensures job { (app : App) × IsStation app
         × IfOk result (λ job. (fault_of app (map (λ w. w.now) words.entry.now) ≡ [])
@@ -117,15 +127,31 @@ fn read_named<'a>(
     let Some((name, given)) = matches.subcommand() else {
         unreachable!()
     };
+    let site = read_place(alloc, given)?;
     if name == "run" {
         if has_both(given) {
             return Err(WordsFault::ReopensRounds);
         }
-        return Ok(Job::Run(read_run(alloc, given)?));
+        return Ok(Job::Run(read_run(alloc, given, site)?));
     }
     Ok(Job::Replay {
         format: TableFormat::named(given.get_str("format")),
+        site,
     })
+}
+
+// The place that `--at` names, if it is given.
+fn read_place(alloc: Global, given: &ArgMatches<'_>) -> Result<Option<Reference>, WordsFault>
+    ensures place { IfOk result (GivesPlace (rows_of (found_of given.now))) }
+    ensures refused { IfErr result (IsPlaceFault (rows_of (found_of given.now))) }
+{
+    let Some(text) = given.get_str("at") else {
+        return Ok(None);
+    };
+    match place_named(text) {
+        Some(site) => Ok(Some(site)),
+        None => Err(WordsFault::NotAPlace(String::from_str(alloc, text)?)),
+    }
 }
 
 // Whether both `--reopen` and `--rounds` are given.
@@ -138,8 +164,13 @@ fn has_both(given: &ArgMatches<'_>) -> bool
     reopen && rounds.is_some()
 }
 
-fn read_run(alloc: Global, given: &ArgMatches<'_>) -> Result<RunArguments, AllocError>
+fn read_run(
+    alloc: Global,
+    given: &ArgMatches<'_>,
+    site: Option<Reference>,
+) -> Result<RunArguments, AllocError>
     requires given { IsGiven (rows_of (found_of given.now)) }
+    requires place { GivesPlace (rows_of (found_of given.now)) site }
     requires not_both { gives_both (rows_of (found_of given.now)) ≡ false }
     ensures options { IfOk result (GivesRun (rows_of (found_of given.now))) }
     ensures range { IfOk result AreInRange }
@@ -165,6 +196,7 @@ fn read_run(alloc: Global, given: &ArgMatches<'_>) -> Result<RunArguments, Alloc
         record,
         format,
         displays,
+        site,
     })
 }
 

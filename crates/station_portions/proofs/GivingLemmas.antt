@@ -1,7 +1,8 @@
 -- The bytes of batches, given one part after another.
-use Rattle.std.proofs.Common.{◌≡◌, ℕ, ◌+◌, ◌-◌, ◌≤◌, inl, inr, List, [], ◌∷◌, ◌++◌, length, take, drop, nat_lt, not, true, refl, sym, ap, ◌∙◌, subst, append_assoc, take-append-drop, length-append, arith}
-use Rattle.std.proofs.lemmas.List.{take_at, drop-drop, drop-take, take-take, append-nil, nil_from_length, take_more}
+use Rattle.std.proofs.Common.{rules, ◌≡◌, ℕ, ◌+◌, ◌-◌, ◌<◌, ◌≤◌, ◌⊎◌, false, is_some, Option, Some, None, inl, inr, List, [], ◌∷◌, ◌++◌, length, take, drop, nat_lt, not, true, refl, sym, ap, ◌∙◌, subst, append_assoc, take-append-drop, length-append, arith}
+use Rattle.std.proofs.lemmas.List.{length-take-le, take_at, drop-drop, drop-take, take-take, append-nil, nil_from_length, take_more}
 use Rattle.std.proofs.lemmas.Bool.Decides.{nat_tests}
+use Rattle.station_portions.specs.Messages.{end_of, last_end}
 use Rattle.station_portions.proofs.Common.{IsBorder, bytes_of_messages, bytes_of_batch, bytes_before, Batch, Message, PathEnd, Lines, Over}
 
 -- the next bytes of a batch, copied before others
@@ -106,3 +107,42 @@ border_given all now none = rw none (subst IsBorder (sym (given_all all)) (ends_
 
 pub nothing_held : (held : List ℕ) → not (nat_lt 0 (length held)) ≡ true → held ≡ []
 nothing_held held none = nil_from_length held (grind (arith, nat_tests))
+
+-- nothing is given where nothing is left
+pub nothing_given : (held buffer now : List ℕ) (n : ℕ) → n ≤ length buffer → held ≡ [] → held ≡ take n buffer ++ now → n ≡ 0
+nothing_given held buffer now n within none is =
+    omega (arith, ap length none, ap length is, length-append (take n buffer) now, length-take-le n buffer within)
+
+-- the last message
+pub last_end-more : (all : List Message) (x : Message) → last_end (all ++ x ∷ []) ≡ end_of x
+last_end-more [] x = refl
+last_end-more (y ∷ []) x = refl
+last_end-more (y ∷ z ∷ all) x = last_end-more (z ∷ all) x
+
+-- the end after a batch, and after the message that tells it
+pub end_refilled : (old new : List Message) (batch : Batch) (end : Option PathEnd) → is_some end ≡ false → new ≡ old ++ Lines batch ∷ [] → end ≡ last_end new
+end_refilled old new batch None none is = sym (ap last_end is ∙ last_end-more old (Lines batch))
+end_refilled old new batch (Some end) none is = absurd (search rules)
+
+pub end_over : (old new : List Message) (end : PathEnd) → new ≡ old ++ Over end ∷ [] → Some end ≡ last_end new
+end_over old new end is = sym (ap last_end is ∙ last_end-more old (Over end))
+
+pub kept_over : (old new : List Message) (held : List ℕ) (end : PathEnd) → held ≡ [] → new ≡ old ++ Over end ∷ [] → bytes_before new held ++ held ≡ bytes_of_messages new
+kept_over old new held end none is = rw none (append-nil (bytes_before new []) ∙ given_all new)
+
+-- a batch has bytes
+pub some_refilled : (batch : Batch) → 0 < length (drop 0 (bytes_of_batch batch))
+some_refilled batch = omega (arith, batch.whole, batch.within, batch.buffer.size, length-take-le batch.count batch.buffer.bytes.items (omega (arith, batch.within, batch.buffer.size)))
+
+-- all was taken and given
+pub gave_whole : (taken known all : List Message) (held : List ℕ) → taken ++ known ≡ all → length known ≡ 0 → held ≡ [] → (taken ≡ all) × (bytes_before taken held ≡ bytes_of_messages all)
+gave_whole taken known all held fifo none given =
+    let same : taken ≡ all = sym (append-nil taken) ∙ ap (λ l. taken ++ l) (sym (nil_from_length known none)) ∙ fifo in
+    (same, ap (λ h. bytes_before taken h) given ∙ given_all taken ∙ ap bytes_of_messages same)
+
+-- why nothing is given: the path is at its end, or a hand-over was requested
+pub why_none : {Q : Type 0} (held : List ℕ) (end now : Option PathEnd) (asked asked_now : Option Q) (last : PathEnd) → held ≡ [] → now ≡ end → asked_now ≡ asked
+    → (is_some end ≡ true → end ≡ Some last) → ((0 < length held) ⊎ ((is_some end ≡ true) ⊎ (is_some asked ≡ true))) → (now ≡ Some last) ⊎ (is_some asked_now ≡ true)
+why_none held end now asked asked_now last none same same_asked ended (inl some) = absurd (omega (arith, some, ap length none))
+why_none held end now asked asked_now last none same same_asked ended (inr (inl over)) = inl (same ∙ ended over)
+why_none held end now asked asked_now last none same same_asked ended (inr (inr requested)) = inr (ap is_some same_asked ∙ requested)

@@ -3,3 +3,4 @@ pub mod GivingLemmas
 pub mod BacklogLemmas
 pub mod SendingLemmas
 pub mod WholeLemmas
+pub mod RingLemmas

@@ -2,12 +2,13 @@
 use Rattle.std.proofs.Common.{◌≡◌, ℕ, ◌<◌, ◌≤◌, nat_le, false, cond, List, [], ◌∷◌, ◌++◌, length, map, take, drop, inl, inr, refl, sym, ap, ◌∙◌, subst, append_assoc, take-append-drop, length-take-le, arith, Option, append-nil, take_all, option_to_list}
 use Rattle.std.proofs.lemmas.Bool.{cases_Bool}
 use Rattle.std.proofs.lemmas.Bool.Decides.{nat_tests}
+use Rattle.std.specs.Io.KnownBytes.{IsAtEnd}
 use Rattle.modes_frame.specs.declared.cutter.Cut.{Cut}
 use Rattle.modes_frame.specs.declared.cutter.Cut.TheVariants.{Whole, TooLong}
 use Rattle.modes_frame.specs.Lines.{pieces, cut_of, cuts, ended_cuts, last_line, pending, cut_after, cut_ended_by}
 use Rattle.modes_frame.proofs.LineLemmas.{none-before, pieces-line_feed, pending-push, ended-push, pending-lengthened_cut, ended-lengthened_cut}
 use Rattle.station_lines.proofs.DrawingLemmas.{cuts-ended}
-use Rattle.station_portions.proofs.Common.{HasNoLineFeed, IsBorder, longest_kept, bytes_of_messages, bytes_of_batch, ReadsOn, ended_line, KeepsLines, SendsOn, SendsPath, SentSoFar, Batch, Message, Lines, Over}
+use Rattle.station_portions.proofs.Common.{AreLines, HasNoLineFeed, IsBorder, longest_kept, bytes_of_messages, bytes_of_batch, ReadsOn, ended_line, KeepsLines, SendsOn, SendsPath, SentSoFar, Batch, Message, Lines, Over}
 use Rattle.std.proofs.KnownBytes.{Consumes-nil, Consumes-trans}
 use Rattle.station_portions.specs.declared.message.PathEnd.TheVariants.{AtEnd, ReadFailed}
 use Rattle.station_portions.proofs.GivingLemmas.{ends_border}
@@ -151,12 +152,18 @@ bytes_of_messages-append (Lines batch ∷ xs) ys =
     ap (λ l. bytes_of_batch batch ++ l) (bytes_of_messages-append xs ys) ∙ sym (append_assoc (bytes_of_batch batch) (bytes_of_messages xs) (bytes_of_messages ys))
 bytes_of_messages-append (Over end ∷ xs) ys = bytes_of_messages-append xs ys
 
+pub AreLines-append : (xs ys : List Message) → AreLines xs → AreLines ys → AreLines (xs ++ ys)
+AreLines-append [] ys a b = b
+AreLines-append (Lines batch ∷ xs) ys a b = AreLines-append xs ys a b
+AreLines-append (Over end ∷ xs) ys a b = absurd a
+
 -- a batch was sent
 pub sends_batch : (before after : List Message) (batch : Batch) (held rest : List ℕ) (border : ℕ) → after ≡ before ++ Lines batch ∷ []
     → bytes_of_batch batch ≡ take border held → rest ≡ drop border held → SendsOn before after held rest
 sends_batch before after batch held rest border is front back = record {
   more = Lines batch ∷ [];
   after_is = is;
+  only = tt;
   keeps = λ read sent at f.
       keeps_front read sent held (bytes_of_batch batch ++ []) rest at (ends_border (Lines batch ∷ []))
       (sym (take-append-drop border held) ∙ ap (λ l. l ++ drop border held) (sym front ∙ sym (append-nil (bytes_of_batch batch)))
@@ -169,6 +176,7 @@ pub sends_shorter : (before after : List Message) (held mid rest : List ℕ) →
 sends_shorter before after held mid rest none is on = record {
   more = on.more;
   after_is = on.after_is;
+  only = on.only;
   keeps = λ read sent at f.
       subst (λ l. KeepsLines read (sent ++ bytes_of_messages on.more) l) (sym is) (keeps_short read (sent ++ bytes_of_messages on.more) mid none (on.keeps read sent at f));
 }
@@ -188,6 +196,7 @@ so_far_nothing left before held none = record {
   more = [];
   given = Consumes-nil left;
   after_is = sym (append-nil before);
+  only = tt;
   keeps = subst (KeepsLines [] []) (sym none) (record { lines = refl; begun = refl });
 }
 
@@ -199,6 +208,7 @@ so_far_read left mid new before after held now n so_far on = record {
   more = so_far.more;
   given = Consumes-trans left mid new so_far.read on.bytes so_far.given on.given;
   after_is = so_far.after_is;
+  only = so_far.only;
   keeps = subst (KeepsLines (so_far.read ++ on.bytes) (bytes_of_messages so_far.more)) (sym on.held)
       (keeps_read so_far.read (bytes_of_messages so_far.more) held on.bytes so_far.keeps);
 }
@@ -211,14 +221,15 @@ so_far_sent left new before mid after held now so_far on = record {
   more = so_far.more ++ on.more;
   given = so_far.given;
   after_is = on.after_is ∙ ap (λ l. l ++ on.more) so_far.after_is ∙ append_assoc before so_far.more on.more;
+  only = AreLines-append so_far.more on.more so_far.only on.only;
   keeps = subst (λ l. KeepsLines so_far.read l now) (sym (bytes_of_messages-append so_far.more on.more))
       (on.keeps so_far.read (bytes_of_messages so_far.more) (ends_border so_far.more) so_far.keeps);
 }
 
 -- the path has ended: its last line was ended and sent
 pub path_sent : (left new : Option (List ℕ)) (before mid after : List Message) (held rest : List ℕ) → SentSoFar left new before mid held → HasNoLineFeed held
-    → SendsOn mid after (ended_line held) rest → HasNoLineFeed rest → SendsPath left new before after AtEnd
-path_sent left new before mid after held rest so_far none on none' =
+    → SendsOn mid after (ended_line held) rest → HasNoLineFeed rest → IsAtEnd new → SendsPath left new before after AtEnd
+path_sent left new before mid after held rest so_far none on none' over =
     let sent = bytes_of_messages so_far.more in
     let last = ended_line held in
     let border = ends_border so_far.more in
@@ -230,6 +241,7 @@ path_sent left new before mid after held rest so_far none on none' =
       more = so_far.more ++ on.more;
       given = so_far.given;
       after_is = on.after_is ∙ ap (λ l. l ++ on.more) so_far.after_is ∙ append_assoc before so_far.more on.more;
+      only = AreLines-append so_far.more on.more so_far.only on.only;
       lines = cuts_border (bytes_of_messages (so_far.more ++ on.more)) (ends_border (so_far.more ++ on.more))
           ∙ ap ended_cuts (bytes_of_messages-append so_far.more on.more)
           ∙ sym (append-nil (ended_cuts (sent ++ bytes_of_messages on.more)))
@@ -237,11 +249,15 @@ path_sent left new before mid after held rest so_far none on none' =
           ∙ sym done.lines
           ∙ sym (cuts_border (sent ++ last) ends)
           ∙ line_ended so_far.read sent held border none so_far.keeps;
+      over = λ _. over;
     }
   where
     border_last : (sent held : List ℕ) → IsBorder sent → IsBorder (sent ++ ended_line held)
     border_last sent [] border = subst IsBorder (sym (append-nil sent)) border
     border_last sent (c ∷ cs) border = inr (sent ++ c ∷ cs, sym (append_assoc sent (c ∷ cs) (10 ∷ [])))
+
+failed_there : ReadFailed ≡ AtEnd → ⊥
+failed_there e = cc
 
 -- a read failed
 pub sent_up_to_failure : (left new : Option (List ℕ)) (before after : List Message) (held : List ℕ) → SentSoFar left new before after held
@@ -251,10 +267,12 @@ sent_up_to_failure left new before after held so_far none = record {
   more = so_far.more;
   given = so_far.given;
   after_is = so_far.after_is;
+  only = so_far.only;
   lines = cuts_border (bytes_of_messages so_far.more) (ends_border so_far.more)
       ∙ sym (append-nil (ended_cuts (bytes_of_messages so_far.more)))
       ∙ ap (λ l. ended_cuts (bytes_of_messages so_far.more) ++ l) (sym (none_ended held none))
       ∙ sym so_far.keeps.lines;
+  over = λ e. absurd (failed_there e);
 }
 
 same_last : (one other : List ℕ) → cut_of one ≡ cut_of other → map cut_of (last_line one) ≡ map cut_of (last_line other)

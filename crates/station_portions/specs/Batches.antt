@@ -1,5 +1,6 @@
 -- Bytes that end a line, and the buffer with them.
-use Rattle.std.specs.Prelude.{◌≡◌, ◌≢◌, ℕ, ◌-◌, ◌<◌, ◌⊎◌, List, [], ◌∷◌, ◌++◌, length, slice_index_or}
+use Rattle.std.specs.Prelude.{◌≡◌, ◌≢◌, ℕ, ◌-◌, ◌<◌, List, length, slice_index_or}
+pub use Rattle.station_lines.specs.Source.{IsBorder}
 
 -- the bytes of a buffer
 abbrev pub buffer_size : ℕ
@@ -12,10 +13,6 @@ longest_kept = 512
 -- the first `count` bytes end with a line feed
 abbrev pub EndsLine : List ℕ → ℕ → Type 0
 EndsLine buffer count = (0 < count) × (slice_index_or buffer (count - 1) 0 ≡ 10)
-
--- no line is begun: no bytes, or the last one is a line feed
-abbrev pub IsBorder : List ℕ → Type 0
-IsBorder bytes = (bytes ≡ []) ⊎ ((front : List ℕ) × (bytes ≡ front ++ 10 ∷ []))
 
 -- none of the bytes is a line feed
 abbrev pub HasNoLineFeed : List ℕ → Type 0

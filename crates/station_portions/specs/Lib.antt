@@ -1,5 +1,6 @@
 pub mod Batches
 pub mod Messages
+pub mod Rings
 pub mod Giving
 pub mod Backlog
 pub mod Sending

@@ -1,7 +1,8 @@
 //! Both ends of a source of portions.
-ghost use Rattle.std.specs.Prelude.{◌≡◌, IfOk, []};
+ghost use Rattle.std.specs.Prelude.{◌≡◌, IfOk, None, []};
 ghost use Rattle.rtrb.specs.Ring.{IsPair, sent};
 ghost use Rattle.station_portions.specs.Giving.{given_bytes, taken_messages};
+ghost use Rattle.station_portions.specs.Rings.{reader_ring, source_ring};
 
 use crate::backlog::Backlog;
 use crate::hand_over::HandOver;
@@ -25,6 +26,8 @@ pub fn connect<R>(
     ensures taken { IfOk result (λ made. taken_messages made.1 ≡ []) }
     ensures sent { IfOk result (λ made. sent made.0.messages ≡ []) }
     ensures pair { IfOk result (λ made. IsPair made.0.messages made.1.messages) }
+    ensures ring { IfOk result (λ made. source_ring made.1.messages ≡ reader_ring made.0.messages) }
+    ensures left { IfOk result (λ made. made.1.end ≡ None) }
 {
     let hand_over = Arc::new(alloc, HandOver::new())?;
     let (to_source, messages) = RingBuffer::new(alloc, BUFFERS + 2)?;

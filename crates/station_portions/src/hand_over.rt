@@ -12,6 +12,12 @@ pub struct HandOver {
     buffer: Parker,
 }
 
+/// Shows that a hand-over was requested. Only [`HandOver::requested`] makes one.
+#[derive(Clone, Copy, Debug, PartialEq, Eq)]
+pub struct Requested {
+    seen: (),
+}
+
 impl HandOver {
     // Nothing requested.
     pub(crate) fn new() -> HandOver {
@@ -36,6 +42,14 @@ impl HandOver {
     /// Whether the end of the portion was requested.
     pub fn is_requested(&self) -> bool {
         self.is_requested.load(Ordering::SeqCst)
+    }
+
+    // What shows that the end of the portion was requested, if it was.
+    pub(crate) fn requested(&self) -> Option<Requested> {
+        if !self.is_requested() {
+            return None;
+        }
+        Some(Requested { seen: () })
     }
 
     // Wakes the source: a message was sent.

@@ -18,7 +18,7 @@ mod reopen;
 pub use connecting::connect;
 pub use finished_path::{FinishedPath, WholePath};
 pub use hand_over::HandOver;
-pub use laws::portions_have_the_lines_of_the_whole;
+pub use laws::{a_path_given_to_its_end_has_its_lines, portions_have_the_lines_of_the_whole};
 pub use message::PathEnd;
 pub use path_reader::PathReader;
 pub use portions::Portions;

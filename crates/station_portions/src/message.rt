@@ -2,8 +2,10 @@
 ghost use Rattle.std.specs.Prelude.{◌≡◌, ◌≤◌, length};
 ghost use Rattle.station_portions.specs.Batches.{EndsLine, buffer_size};
 
-use station_lines::PIECE;
 use std::alloc::{AllocError, Global};
+
+// The bytes of a buffer.
+const SIZE: usize = 131_072;
 
 /// A buffer of 131,072 bytes.
 #[derive(Drop)]
@@ -15,7 +17,7 @@ pub struct Buffer {
 impl Buffer {
     /// A buffer of zeros.
     pub fn new(alloc: Global) -> Result<Buffer, AllocError> {
-        let bytes = vec![in alloc; 0; PIECE]?;
+        let bytes = vec![in alloc; 0; SIZE]?;
         Ok(Buffer { bytes })
     }
 }

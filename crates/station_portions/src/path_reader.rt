@@ -55,11 +55,12 @@ fn spare<R: Wait>(rt: &R, hand_over: &HandOver, emptied: &mut Consumer<Buffer>) 
 }
 
 impl PathReader {
-    ghost use Rattle.std.specs.Prelude.{◌≡◌, ◌≤◌, ◌++◌, ◌∷◌, [], IfOk, length};
+    ghost use Rattle.std.specs.Prelude.{◌≡◌, ◌≤◌, ◌++◌, ◌∷◌, [], IfOk, OnOk, length};
+    ghost use Rattle.std.specs.Io.KnownBytes.{IsAtEnd};
     ghost use Rattle.rtrb.specs.Ring.{SameProducer, sent};
     ghost use Rattle.station_portions.specs.Batches.{HasNoLineFeed, longest_kept};
     ghost use Rattle.station_portions.specs.Backlog.{unsent_bytes};
-    ghost use Rattle.station_portions.specs.Sending.{SendsOn, SendsPath, SentSoFar};
+    ghost use Rattle.station_portions.specs.Sending.{SendsOn, SendsOpening, SendsPath, SentSoFar};
     ghost use Rattle.station_portions.specs.Whole.{SendsWhole};
     ghost use Rattle.station_portions.specs.declared.message.Message.TheVariants.{Over};
 
@@ -104,6 +105,7 @@ impl PathReader {
             (sent self.old.messages) (sent self.new.messages) (unsent_bytes self.new.backlog) }
         ensures none { HasNoLineFeed (unsent_bytes self.new.backlog) }
         ensures short { length (unsent_bytes self.new.backlog) ≤ longest_kept }
+        ensures over { OnOk result (IsAtEnd (I.remaining from.new)) }
     {
         for _ in rt.forever() {
             let count = self.backlog.read_more(from)?;
@@ -161,8 +163,25 @@ impl PathReader {
         }
     }
 
-    // Sends one opening of a path after another, for as long as the program runs. Each is closed before the next is made: a
-    // pipe that is open twice would take lines that nobody reads.
+    // Sends the lines of one opening of a path, and then has the path opened again. The opening is closed before that: a pipe
+    // that is open twice would take lines that nobody reads.
+    fn send_opening<R: Wait, I: Read + Drop, O: Reopen<I>>(
+        &mut self,
+        rt: &R,
+        from: I,
+        again: &mut O,
+    ) -> I
+        ensures ring { SameProducer self.old.messages self.new.messages }
+        ensures sends { SendsOpening O.opens (I.remaining from) (sent self.old.messages) (sent self.new.messages)
+            again.old again.new result }
+    {
+        let mut opening = from;
+        let end = self.send_path(rt, &mut opening);
+        drop(opening);
+        again.reopen(end)
+    }
+
+    // Sends one opening of a path after another, for as long as the program runs.
     fn run_again<R: Wait, I: Read + Drop, O: Reopen<I>>(
         self,
         rt: &R,
@@ -173,9 +192,7 @@ impl PathReader {
     {
         let (mut reader, mut from, mut again) = (self, from, again);
         for _ in rt.forever() {
-            let end = reader.send_path(rt, &mut from);
-            drop(from);
-            from = again.reopen(end);
+            from = reader.send_opening(rt, from, &mut again);
         }
         unreachable!()
     }

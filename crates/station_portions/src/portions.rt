@@ -1,11 +1,14 @@
 //! A source over the lines that a path's reader sends.
-ghost use Rattle.std.specs.Prelude.{◌≡◌, ◌<◌, ◌≤◌, ◌++◌, ◌∷◌, IfSome, IfNone, [], length, take};
-ghost use Rattle.rtrb.specs.Ring.{SameConsumer, received};
-ghost use Rattle.station_portions.specs.Messages.{bytes_of_messages, bytes_before, ungiven_of};
+ghost use Rattle.std.specs.Prelude.{◌≡◌, ◌<◌, ◌≤◌, ◌++◌, [], is_some, length, take, true};
+ghost use Rattle.rtrb.specs.Ring.{received};
+ghost use Rattle.station_portions.specs.Messages.{bytes_of_messages, bytes_before, last_end, ungiven_of};
 
-use crate::finished_path::FinishedPath;
-use crate::hand_over::HandOver;
+mod receiving;
+mod whole;
+
+use crate::hand_over::{HandOver, Requested};
 use crate::message::{Batch, Buffer, Message, PathEnd};
+use crate::portions::receiving::{give_back, next_message};
 use rtrb::{Consumer, Producer};
 use station_lines::Source;
 use station_report::Failed;
@@ -23,11 +26,15 @@ pub struct Portions<'a, R> {
     batch: Option<Batch>,
     at: usize,
     end: Option<PathEnd>,
+    // What shows that the last read found a hand-over requested.
+    asked: Option<Requested>,
     reads: u64,
     ends: u64,
     failures: u64,
     ghost kept: { bytes_before (received messages) (ungiven_of batch at) ++ ungiven_of batch at
         ≡ bytes_of_messages (received messages) },
+    ghost over: { is_some end ≡ true → ungiven_of batch at ≡ [] },
+    ghost told: { end ≡ last_end (received messages) },
 }
 
 // Gives what is left of a batch, as far as there is room.
@@ -50,43 +57,8 @@ fn give(batch: &Option<Batch>, at: &mut usize, buffer: &mut [u8]) -> usize
     count
 }
 
-// The next message, for which it may wait. `None` where there is none yet, or a hand-over is requested.
-fn next_message<R: Wait>(
-    rt: &R,
-    hand_over: &HandOver,
-    messages: &mut Consumer<Message>,
-    may_wait: bool,
-) -> Option<Message>
-    ensures ring { SameConsumer messages.old messages.new }
-    ensures some { IfSome result (λ m. received messages.new ≡ received messages.old ++ m ∷ []) }
-    ensures none { IfNone result (received messages.new ≡ received messages.old) }
-{
-    for _ in rt.forever() {
-        if hand_over.is_requested() {
-            return None;
-        }
-        if let Ok(message) = messages.pop() {
-            return Some(message);
-        }
-        if !may_wait {
-            return None;
-        }
-        hand_over.await_message(rt);
-    }
-    unreachable!()
-}
-
-// Gives the buffer of a batch back to the reader.
-fn give_back(hand_over: &HandOver, emptied: &mut Producer<Buffer>, batch: Option<Batch>) {
-    if let Some(batch) = batch {
-        let Batch { buffer, count: _ } = batch;
-        let _ = emptied.push(buffer);
-        hand_over.wake_reader();
-    }
-}
-
 impl<R: Wait> Portions<'_, R> {
-    ghost use Rattle.std.specs.Prelude.{◌≡◌, [], IfSome, Some};
+    ghost use Rattle.std.specs.Prelude.{◌≡◌, ◌<◌, ◌⊎◌, [], IfSome, Some, is_some, length, true};
     ghost use mathlib.Core.List.{IsPrefix};
     ghost use Rattle.rtrb.specs.Ring.{SameConsumer};
     ghost use Rattle.station_portions.specs.Giving.{given_bytes, state_of, taken_messages, ungiven_bytes};
@@ -101,13 +73,22 @@ impl<R: Wait> Portions<'_, R> {
         ensures reads { self.new.reads ≡ self.old.reads }
         ensures ends { self.new.ends ≡ self.old.ends }
         ensures failures { self.new.failures ≡ self.old.failures }
+        ensures found { may_wait ≡ true → (0 < length (ungiven_bytes self.new))
+            ⊎ ((is_some self.new.end ≡ true) ⊎ (is_some self.new.asked ≡ true)) }
     {
         if self.end.is_some() {
             return;
         }
         let emptied = self.batch.take();
         give_back(&self.hand_over, &mut self.emptied, emptied);
-        match next_message(self.rt, &self.hand_over, &mut self.messages, may_wait) {
+        let next = next_message(
+            self.rt,
+            &self.hand_over,
+            &mut self.messages,
+            may_wait,
+            &mut self.asked,
+        );
+        match next {
             None => {}
             Some(Message::Lines(batch)) => {
                 self.batch = Some(batch);
@@ -116,12 +97,31 @@ impl<R: Wait> Portions<'_, R> {
             Some(Message::Over(end)) => self.end = Some(end),
         }
     }
+
+    // Takes the next message where there is room for its bytes and none are left. It waits for it, unless a hand-over is
+    // requested or the path is over.
+    fn prepare(&mut self, has_room: bool)
+        ensures given { given_bytes self.new ≡ given_bytes self.old }
+        ensures ring { SameConsumer self.old.messages self.new.messages }
+        ensures taken { IsPrefix (taken_messages self.old) (taken_messages self.new) }
+        ensures over { IfSome self.old.end (λ e. (self.new.end ≡ Some e) × (taken_messages self.new ≡ taken_messages self.old)) }
+        ensures reads { self.new.reads ≡ self.old.reads }
+        ensures ends { self.new.ends ≡ self.old.ends }
+        ensures failures { self.new.failures ≡ self.old.failures }
+        ensures held { 0 < length (ungiven_bytes self.old) → 0 < length (ungiven_bytes self.new) }
+        ensures found { has_room ≡ true → (0 < length (ungiven_bytes self.new))
+            ⊎ ((is_some self.new.end ≡ true) ⊎ (is_some self.new.asked ≡ true)) }
+    {
+        if has_room && !self.has_bytes() {
+            self.refill(true);
+        }
+    }
 }
 
 impl<'a, R> Portions<'a, R> {
-    ghost use Rattle.std.specs.Prelude.{◌≡◌, ◌<◌, ◌≤◌, ◌++◌, IfSome, [], not, length, nat_lt, take, true};
-    ghost use Rattle.rtrb.specs.Ring.{IsFinishedOf, SameConsumer, all_sent, received};
-    ghost use Rattle.station_portions.specs.Messages.{bytes_of_messages};
+    ghost use Rattle.std.specs.Prelude.{◌≡◌, ◌<◌, ◌≤◌, ◌++◌, None, Some, [], false, is_some, not, length, nat_lt, take, true};
+    ghost use Rattle.rtrb.specs.Ring.{SameConsumer, received};
+    ghost use Rattle.station_portions.specs.declared.message.PathEnd.TheVariants.{AtEnd, ReadFailed};
     ghost use Rattle.station_portions.specs.Batches.{IsBorder};
     ghost use Rattle.station_portions.specs.Giving.{given_bytes, state_of, taken_messages, ungiven_bytes};
 
@@ -135,6 +135,7 @@ impl<'a, R> Portions<'a, R> {
         requires { received messages ≡ [] }
         ensures given { given_bytes result ≡ [] }
         ensures messages { result.messages ≡ messages }
+        ensures end { result.end ≡ None }
     {
         Portions {
             rt,
@@ -144,6 +145,7 @@ impl<'a, R> Portions<'a, R> {
             batch: None,
             at: 0,
             end: None,
+            asked: None,
             reads: 0,
             ends: 0,
             failures: 0,
@@ -165,22 +167,6 @@ impl<'a, R> Portions<'a, R> {
         !self.has_bytes()
     }
 
-    /// Whether every byte is given that this path's thread sent. It answers no where it can't know.
-    pub fn gave_all<I>(&mut self, path: &mut FinishedPath<I>) -> bool
-        requires { IfSome path.old.sent (λ f. IsFinishedOf f self.old.messages) }
-        ensures given { given_bytes self.new ≡ given_bytes self.old }
-        ensures end { self.new.end ≡ self.old.end }
-        ensures reads { self.new.reads ≡ self.old.reads }
-        ensures ends { self.new.ends ≡ self.old.ends }
-        ensures failures { self.new.failures ≡ self.old.failures }
-        ensures all { result ≡ true → IfSome path.old.sent (λ f. given_bytes self.new ≡ bytes_of_messages (all_sent f)) }
-    {
-        let Some(sent) = &mut path.sent else {
-            return false;
-        };
-        self.messages.slots_after(sent) == 0 && !self.has_bytes()
-    }
-
     // Whether bytes were received that aren't given yet.
     fn has_bytes(&self) -> bool
         ensures { result ≡ nat_lt 0 (length (ungiven_bytes self.now)) }
@@ -191,15 +177,31 @@ impl<'a, R> Portions<'a, R> {
         }
     }
 
+    // Whether a read of the path failed, and all before it is given.
+    fn has_failed(&self) -> bool
+        ensures failed { result ≡ true → self.now.end ≡ Some ReadFailed }
+        ensures held { 0 < length (ungiven_bytes self.now) → result ≡ false }
+        ensures ended { result ≡ false → ungiven_bytes self.now ≡ [] → is_some self.now.end ≡ true → self.now.end ≡ Some AtEnd }
+    {
+        match self.end {
+            Some(PathEnd::ReadFailed) => !self.has_bytes(),
+            Some(PathEnd::AtEnd) => false,
+            None => false,
+        }
+    }
+
     // Gives bytes that were received, as far as there is room.
     fn give_some(&mut self, buffer: &mut [u8]) -> usize
         ensures room { length buffer.new ≡ length buffer.old }
         ensures within { result ≤ length buffer.new }
         ensures given { given_bytes self.new ≡ given_bytes self.old ++ take result buffer.new }
         ensures border { result ≡ 0 → 0 < length buffer.new → IsBorder (given_bytes self.new) }
+        ensures none { result ≡ 0 → 0 < length buffer.new → ungiven_bytes self.old ≡ [] }
+        ensures still { ungiven_bytes self.old ≡ [] → result ≡ 0 }
         ensures ring { SameConsumer self.old.messages self.new.messages }
         ensures taken { taken_messages self.new ≡ taken_messages self.old }
         ensures end { self.new.end ≡ self.old.end }
+        ensures asked { self.new.asked ≡ self.old.asked }
         ensures reads { self.new.reads ≡ self.old.reads }
         ensures ends { self.new.ends ≡ self.old.ends }
         ensures failures { self.new.failures ≡ self.old.failures }
@@ -209,15 +211,16 @@ impl<'a, R> Portions<'a, R> {
 }
 
 impl<R: Wait> Source for Portions<'_, R> {
-    ghost use Rattle.std.specs.Prelude.{◌≡◌, ◌<◌, ◌≤◌, None, Some, nat_lt, length, IfOk, IfSome, OnErr, Ok, true, not, is_ok};
+    ghost use Rattle.std.specs.Prelude.{◌≡◌, ◌<◌, ◌≤◌, ◌⊎◌, Some, nat_lt, length, IfOk, IfSome, OnErr, Ok, true, not, is_ok, is_some};
     ghost use mathlib.Core.List.{IsPrefix};
     ghost use Rattle.rtrb.specs.Ring.{SameConsumer};
     ghost use Rattle.std.specs.Io.KnownBytes.{ReadConsumes, WriteAppends};
     ghost use Rattle.station_report.specs.Sink.{count_after};
     ghost use Rattle.station_lines.specs.Source.{is_end, one_more};
     ghost use Rattle.station_portions.specs.Batches.{IsBorder};
-    ghost use Rattle.station_portions.specs.Giving.{given_bytes, state_of, taken_messages, ungiven_bytes};
-    ghost use Rattle.station_portions.specs.declared.message.PathEnd.TheVariants.{ReadFailed};
+    ghost use Rattle.station_portions.specs.Giving.{given_bytes, left_of, state_of, taken_messages, ungiven_bytes};
+    ghost use Rattle.station_portions.specs.Rings.{source_ring};
+    ghost use Rattle.station_portions.specs.declared.message.PathEnd.TheVariants.{AtEnd, ReadFailed};
 
     ghost state = { state_of };
 
@@ -230,7 +233,7 @@ impl<R: Wait> Source for Portions<'_, R> {
     /// read. From the path's end on each read answers the same.
     fn read(&mut self, buffer: &mut [u8]) -> Result<usize, Failed>
         ensures within { IfOk result (λ n. n ≤ length buffer.new) }
-        ensures bytes { ReadConsumes None None result buffer.new }
+        ensures bytes { ReadConsumes (left_of self.old.end) (left_of self.new.end) result buffer.new }
         ensures given { WriteAppends (Some (given_bytes self.old)) (Some (given_bytes self.new)) result buffer.new }
         ensures reads { self.new.reads ≡ one_more self.old.reads }
         ensures ends { self.new.ends ≡ count_after (not (is_end result (length buffer.new))) self.old.ends }
@@ -241,12 +244,14 @@ impl<R: Wait> Source for Portions<'_, R> {
         ensures taken { IsPrefix (taken_messages self.old) (taken_messages self.new) }
         ensures over { IfSome self.old.end (λ e. (self.new.end ≡ Some e) × (taken_messages self.new ≡ taken_messages self.old)) }
         ensures failed { OnErr result (self.new.end ≡ Some ReadFailed) }
+        ensures why { result ≡ Ok 0 → 0 < length buffer.new →
+            (self.new.end ≡ Some AtEnd) ⊎ (is_some self.new.asked ≡ true) }
+        ensures same { Some (source_ring self.new.messages) ≡ Some (source_ring self.old.messages) }
     {
+        self.asked = None;
         self.reads = self.reads.saturating_add(1);
-        if !self.has_bytes() && !buffer.is_empty() {
-            self.refill(true);
-        }
-        if !self.has_bytes() && self.end == Some(PathEnd::ReadFailed) {
+        self.prepare(!buffer.is_empty());
+        if self.has_failed() {
             self.failures = self.failures.saturating_add(1);
             return Err(Failed);
         }

@@ -1,10 +1,10 @@
 -- The text of the table.
-use Rattle.std.specs.Prelude.{ℕ, ◌+◌, ◌-◌, ◌*◌, ◌/◌, ◌%◌, ◌≤◌, ◌==◌, ◌&&◌, nat_lt, Bool, List, [], ◌∷◌, ◌++◌, Option, Some, None, IfSome, if◌then◌else◌, codes, length, replicate, unsigned_abs}
+use Rattle.std.specs.Prelude.{ℕ, ◌+◌, ◌-◌, ◌*◌, ◌/◌, ◌%◌, ◌≤◌, ◌==◌, ◌&&◌, nat_lt, Bool, true, false, ℤ, List, [], ◌∷◌, ◌++◌, Option, Some, None, IfSome, if◌then◌else◌, codes, length, replicate, unsigned_abs}
 use Rattle.std.specs.List.{flat_map}
 use Rattle.std.specs.Int.{is_negative}
 use Rattle.std.specs.Fmt.{decimal, signed_decimal}
 use Rattle.modes_fields.specs.declared.velocity.Velocity.{Velocity}
-use Rattle.modes_fields.specs.declared.velocity.Velocity.TheVariants.{Ground, Air}
+use Rattle.modes_fields.specs.declared.velocity.Velocity.TheVariants.{Ground, Air, Surface}
 use Rattle.modes_cpr.specs.declared.points.Degrees.{Degrees}
 use Rattle.modes_cpr.specs.declared.points.Position.{Position}
 use Rattle.modes_cpr.specs.Pair.{IsWhole}
@@ -46,10 +46,25 @@ squawk_text s = (48 + s / 512 % 8) ∷ (48 + s / 64 % 8) ∷ (48 + s / 8 % 8) �
 abbrev pub airspeed_mark : Bool → List ℕ
 airspeed_mark is_true = if is_true then codes "T" else codes "I"
 
--- knots to the east and to the north, or the heading in 1/1024 of a turn and the airspeed in knots
+-- k/128 of a turn in whole degrees, to the nearest: floor(360 k/128 + 1/2)
+abbrev pub ground_track : ℕ → ℕ
+ground_track k = (45 * k + 8) / 16
+
+abbrev pub ground_track_text : ℕ → List ℕ
+ground_track_text k = decimal (ground_track k)
+
+-- knots to the east and to the north; or the heading in 1/1024 of a turn and the airspeed in knots; or, on the ground, whole
+-- knots, rounded down, and the track in whole degrees
 unfoldable pub velocity_text : Velocity → List ℕ
 velocity_text (Ground east north) = signed_decimal east ++ codes "/" ++ signed_decimal north
 velocity_text (Air heading is_true speed) = codes "H" ++ decimal heading ++ codes "/" ++ airspeed_mark is_true ++ decimal speed
+velocity_text (Surface speed track) = codes "G" ++ decimal (speed / 8) ++ codes "/" ++ or_dash ground_track_text track
+
+-- the altitude in feet, or that the aircraft is on the ground
+abbrev pub altitude_text : Option Bool → Option ℤ → List ℕ
+altitude_text (Some true) altitude = codes "ground"
+altitude_text (Some false) altitude = or_dash signed_decimal altitude
+altitude_text None altitude = or_dash signed_decimal altitude
 
 -- five decimal digits
 unfoldable pub five_digits : ℕ → List ℕ
@@ -84,7 +99,7 @@ longitude_text p = degrees_text p.lon
 unfoldable pub row_text : ℕ → Aircraft → List ℕ
 row_text now a = right 6 (address_text a.address)
     ++ 32 ∷ [] ++ left 8 (or_dash callsign_text a.callsign)
-    ++ 32 ∷ [] ++ right 6 (or_dash signed_decimal a.altitude)
+    ++ 32 ∷ [] ++ right 6 (altitude_text a.on_ground a.altitude)
     ++ 32 ∷ [] ++ right 4 (or_dash squawk_text a.squawk)
     ++ 32 ∷ [] ++ right 12 (or_dash velocity_text a.velocity)
     ++ 32 ∷ [] ++ right 6 (or_dash signed_decimal a.vertical)

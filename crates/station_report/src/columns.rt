@@ -5,7 +5,7 @@ ghost use Rattle.std.specs.Option.{ForSome};
 ghost use Rattle.std.specs.Fmt.{decimal, signed_decimal};
 ghost use Rattle.arrayvec.specs.ArrayVec.{array_vec_len};
 ghost use Rattle.modes_cpr.specs.Pair.{IsWhole};
-ghost use Rattle.station_report.specs.Text.{or_dash, left, hex_digit, address_text, callsign_text, squawk_text, velocity_text, latitude_text, longitude_text, degrees_text, degrees_sign, parts_text};
+ghost use Rattle.station_report.specs.Text.{altitude_text, ground_track, ground_track_text, or_dash, left, hex_digit, address_text, callsign_text, squawk_text, velocity_text, latitude_text, longitude_text, degrees_text, degrees_sign, parts_text};
 
 use crate::decimals::{
     Field, push_five_digits, push_number, push_short, push_signed, push_spaces, push_text,
@@ -109,7 +109,40 @@ pub(crate) fn push_octal<const CAP: usize>(to: &mut ArrayVec<u8, CAP>, squawk: S
     to.push(b'0' + (value % 8) as u8);
 }
 
-/// A velocity in knots: `east/north`, `Hheading/Tspeed` or `Hheading/Ispeed`.
+/// An altitude in feet, or `ground` for an aircraft on the ground.
+pub(crate) fn altitude_field(on_ground: Option<bool>, altitude: Option<i32>) -> Field
+    ensures { result.items ≡ altitude_text on_ground altitude }
+{
+    match on_ground {
+        Some(true) => {
+            let mut field = Field::new();
+            push_text(&mut field, b"ground");
+            field
+        }
+        Some(false) => or_dash(altitude, signed_field),
+        None => or_dash(altitude, signed_field),
+    }
+}
+
+/// The nearest whole degree of a track in 1/128 of a turn: 0 to 357.
+pub(crate) fn ground_track(track: u8) -> u16
+    ensures { result ≡ ground_track track }
+{
+    (45 * u16::from(track) + 8) / 16
+}
+
+// Appends a track in whole degrees, or a dash.
+fn push_ground_track(to: &mut Field, track: Option<u8>)
+    requires { array_vec_len to.old + 12 ≤ 32 }
+    ensures { to.new.items ≡ to.old.items ++ or_dash ground_track_text track }
+{
+    match track {
+        Some(track) => push_short(to, ground_track(track)),
+        None => to.push(b'-'),
+    }
+}
+
+/// A velocity in knots: `east/north`, `Hheading/Tspeed`, `Hheading/Ispeed` or `Gspeed/track`.
 #[tactic(auto, unfolding(crate::specs::Text::velocity_text))]
 pub(crate) fn velocity_field(velocity: Velocity) -> Field
     ensures { result.items ≡ velocity_text velocity }
@@ -132,12 +165,18 @@ pub(crate) fn velocity_field(velocity: Velocity) -> Field
             field.push(if is_true { b'T' } else { b'I' });
             push_short(&mut field, speed);
         }
+        Velocity::Surface { speed, track } => {
+            field.push(b'G');
+            push_short(&mut field, speed / 8);
+            field.push(b'/');
+            push_ground_track(&mut field, track);
+        }
     }
     field
 }
 
-/// A latitude in degrees.
-pub(crate) fn latitude_field(position: Position) -> Field
+/// A latitude in degrees, cut off after five decimals.
+pub fn latitude_field(position: Position) -> Field
     requires { IsWhole position }
     ensures { result.items ≡ latitude_text position }
 {
@@ -146,8 +185,8 @@ pub(crate) fn latitude_field(position: Position) -> Field
     field
 }
 
-/// A longitude in degrees.
-pub(crate) fn longitude_field(position: Position) -> Field
+/// A longitude in degrees, cut off after five decimals.
+pub fn longitude_field(position: Position) -> Field
     requires { IsWhole position }
     ensures { result.items ≡ longitude_text position }
 {

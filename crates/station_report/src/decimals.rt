@@ -9,7 +9,7 @@ use arrayvec::ArrayVec;
 use itoa::Buffer;
 
 /// The text of one field. The widest has 27 bytes.
-pub(crate) type Field = ArrayVec<u8, 32>;
+pub type Field = ArrayVec<u8, 32>;
 
 /// Appends a text that there is room for.
 pub(crate) fn push_text<const CAP: usize>(to: &mut ArrayVec<u8, CAP>, text: &[u8])

@@ -7,6 +7,7 @@ ghost use Rattle.station_report.specs.Json.{object, head, json};
 
 mod members;
 mod numbers;
+mod status;
 
 use crate::decimals::{push_number, push_text};
 use crate::sinks::{Sink, WriteFault, write_all};
@@ -15,6 +16,7 @@ use members::{
 };
 use numbers::{push_low_address, push_seconds, push_sum};
 use station_journal::{Aircraft, PlacedRows};
+use status::{push_category, push_emergency};
 
 /// Writes the table of `rows` as a line of JSON, with the keys of aircraft.json of readsb and dump1090.
 ///
@@ -67,11 +69,13 @@ fn item(is_first: bool, now: u64, aircraft: Aircraft, placed: Option<u64>) -> Ob
     push_low_address(&mut item, aircraft.address);
     push_text(&mut item, b"\"");
     push_flight(&mut item, aircraft.callsign);
-    push_altitude(&mut item, aircraft.altitude);
+    push_altitude(&mut item, aircraft.on_ground, aircraft.altitude);
     push_velocity(&mut item, aircraft.velocity);
-    push_rate(&mut item, aircraft.vertical);
+    push_rate(&mut item, aircraft.rate_source, aircraft.vertical);
     push_squawk(&mut item, aircraft.squawk);
     push_place(&mut item, now, placed, aircraft.position);
+    push_category(&mut item, aircraft.category);
+    push_emergency(&mut item, aircraft.emergency);
     push_text(&mut item, b",\"seen\":");
     push_seconds(&mut item, now - aircraft.heard);
     push_text(&mut item, b"}");

@@ -11,6 +11,8 @@ mod motion;
 mod sinks;
 mod to_write;
 
+pub use columns::{latitude_field, longitude_field};
+pub use decimals::Field;
 pub use formats::{Format, table_as};
 pub use json::table_json;
 pub use lines::table;

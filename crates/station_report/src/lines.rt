@@ -6,8 +6,8 @@ ghost use Rattle.station_report.specs.Sink.{TakesAll};
 ghost use Rattle.station_report.specs.Text.{IsPrintableRow, right, header, first_line, row_text, text};
 
 use crate::columns::{
-    address_field, callsign_field, decimal_field, latitude_field, longitude_field, or_dash,
-    signed_field, squawk_field, velocity_field,
+    address_field, altitude_field, callsign_field, decimal_field, latitude_field, longitude_field,
+    or_dash, signed_field, squawk_field, velocity_field,
 };
 use crate::decimals::{Field, push_number, push_spaces, push_text};
 use crate::sinks::{Sink, WriteFault, write_all};
@@ -59,7 +59,7 @@ fn row_line(now: u64, aircraft: Aircraft) -> Line
     push_column(
         &mut line,
         6,
-        &or_dash(aircraft.altitude, signed_field),
+        &altitude_field(aircraft.on_ground, aircraft.altitude),
         b' ',
     );
     push_column(&mut line, 4, &or_dash(aircraft.squawk, squawk_field), b' ');

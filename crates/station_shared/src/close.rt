@@ -100,6 +100,7 @@ impl<const N: usize, L: StationName> CountedDesk<N, L> {
             mut total,
             mut rest,
         } = self;
+        // What the desk promises of its journal, for the proof.
         let _known = desk.front();
         while let Some(seat) = seats.pop() {
             let account = seat.into_account();

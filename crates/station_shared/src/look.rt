@@ -35,7 +35,7 @@ impl<const N: usize, L: StationName> Model for Look<N, L>
 where
     PublishRule: Protocol<PublishedTable<N>, Option<Mark>>,
 {
-    ghost use Rattle.std.specs.Prelude.{true};
+    ghost use Rattle.std.specs.Prelude.{true, ◌≡◌};
     ghost use Rattle.left_right.specs.Sides.{view as view_of};
     ghost use Rattle.station_journal.specs.Log.{IsLegal};
     ghost use Rattle.station_book.specs.Matching.{Matches};
@@ -50,7 +50,8 @@ where
 
     ghost invariant = { λ l. IsOf L.start (view_of l.looking.place)
         × Matches N (base_of L.start.history) l.looking.part.value.book l.account.seen
-        × IsLegal (log_of L.start l.account.seen) };
+        × IsLegal (log_of L.start l.account.seen)
+        × (l.looking.part.value.book.site ≡ L.start.limits.site) };
 }
 
 // Lets a reader in at its place, to look at what is published.

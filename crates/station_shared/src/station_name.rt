@@ -15,13 +15,13 @@ pub trait StationName: Ledger {
 }
 
 impl StationName for Brand {
-    ghost use Rattle.std.specs.Prelude.{[]};
+    ghost use Rattle.std.specs.Prelude.{[], None};
 
     ghost seats = { 0 };
 
     ghost start = { record {
       history = record { book = record { number = 0; log_name = 0; cells_name = 0 }; names = [] };
-      limits = record { entries = 0; aircraft = 0 };
+      limits = record { entries = 0; aircraft = 0; site = None };
       resumed = 0;
     } };
 }

@@ -40,6 +40,7 @@ impl<const N: usize> Site<N> {
             limits: Limits {
                 entries,
                 aircraft: N as u32,
+                site: None,
             },
             seats,
             blank: Blank::new(u64::from(seats)),

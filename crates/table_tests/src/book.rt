@@ -6,12 +6,14 @@ mod copies;
 mod lists;
 mod positions;
 mod repeats;
+mod surface;
 
 use crate::calls::Call::{self, Hear, Tick};
 use crate::calls::{entry, once};
 use crate::comparing::{holds, same};
 use crate::journal::{REPLY_AT_A_FULL_TABLE, Script};
 use crate::known::{IDENTIFICATION, SHORT_AIR};
+use modes_cpr::{Degrees, Position, Reference};
 use station_book::Book;
 use station_journal::{Aircraft, Entry, Journal, Limits, PlacedRows, Refusal, Rows};
 use std::alloc::Global;
@@ -91,7 +93,22 @@ fn limits(aircraft: usize) -> Limits
     Limits {
         entries: 16,
         aircraft: u32::try_from(aircraft).unwrap_or(u32::MAX),
+        site: None,
     }
+}
+
+fn hundred_thousandths(degrees: Degrees) -> i128 {
+    let den = degrees.den as i128;
+    if den == 0 {
+        return 0;
+    }
+    (degrees.num as i128 * 200_000 + den).div_euclid(2 * den)
+}
+
+// Latitude and longitude in 1/100,000 degree, to the nearest.
+fn position(row: &Aircraft) -> Option<(i128, i128)> {
+    let Position { lat, lon } = row.position?;
+    Some((hundred_thousandths(lat), hundred_thousandths(lon)))
 }
 
 // The book after the calls. It shows what the journal does after each.
@@ -100,8 +117,18 @@ fn compare<const N: usize>(
     alloc: Global,
     calls: &[Call],
 ) -> Result<Book<N>, Fail> {
-    let mut journal = Journal::new(alloc, limits(N));
-    let mut book = Book::<N>::new();
+    compare_at(rt, alloc, None, calls)
+}
+
+// The same at a site.
+fn compare_at<const N: usize>(
+    rt: &impl Abort,
+    alloc: Global,
+    site: Option<Reference>,
+    calls: &[Call],
+) -> Result<Book<N>, Fail> {
+    let mut journal = Journal::new(alloc, Limits { site, ..limits(N) });
+    let mut book = Book::<N>::starting(site, 0);
     for call in calls {
         let _answer = make(rt, &mut journal, &mut book, *call, alloc)?;
     }

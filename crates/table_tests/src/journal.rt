@@ -18,16 +18,19 @@ use std::test::Fail;
 const MANY: Limits = Limits {
     entries: 16_777_216,
     aircraft: 512,
+    site: None,
 };
 
 const ONE_AIRCRAFT: Limits = Limits {
     entries: 16,
     aircraft: 1,
+    site: None,
 };
 
 const ONE_ENTRY: Limits = Limits {
     entries: 1,
     aircraft: 1,
+    site: None,
 };
 
 /// Calls, each with its answer: the place of its entry, or why it is refused.

@@ -22,10 +22,14 @@ const HEADER: &str = "  ADDR CALLSIGN    ALT SQWK     VELOCITY   VERT        LAT
 const BARE: Aircraft = Aircraft {
     address: 0x4840D6,
     callsign: None,
+    category: None,
     altitude: None,
     squawk: None,
+    emergency: None,
     velocity: None,
     vertical: None,
+    rate_source: None,
+    on_ground: None,
     position: None,
     heard: 0,
 };
@@ -67,6 +71,17 @@ fn through_air(is_true: bool) -> Aircraft {
         speed,
     };
     moving(0xA05F21, air, -2304)
+}
+
+// An aircraft on the ground, whose last altitude isn't shown.
+fn taxiing(speed: u16, track: Option<u8>) -> Aircraft {
+    Aircraft {
+        address: 0x484175,
+        altitude: Some(1000),
+        velocity: Some(Velocity::Surface { speed, track }),
+        on_ground: Some(true),
+        ..BARE
+    }
 }
 
 // An aircraft at a latitude and a longitude, each as a numerator and a denominator.
@@ -137,6 +152,9 @@ fn each_field_has_its_column(rt: HostRuntime) -> Result<(), Fail> {
         over_ground(-8, -159),
         through_air(true),
         through_air(false),
+        taxiing(136, Some(33)),
+        taxiing(1400, Some(127)),
+        taxiing(7, None),
     ];
     let lines = concat!(
         "4840D6 KLM1023       -    -            -      -          -          -   0\n",
@@ -144,6 +162,9 @@ fn each_field_has_its_column(rt: HostRuntime) -> Result<(), Fail> {
         "485020 -             -    -      -8/-159   -832          -          -   0\n",
         "A05F21 -             -    -    H694/T375  -2304          -          -   0\n",
         "A05F21 -             -    -    H694/I375  -2304          -          -   0\n",
+        "484175 -        ground    -       G17/93      -          -          -   0\n",
+        "484175 -        ground    -     G175/357      -          -          -   0\n",
+        "484175 -        ground    -         G0/-      -          -          -   0\n",
     );
     are_lines(&rt, rt.alloc(), rows, 0, lines)
 }

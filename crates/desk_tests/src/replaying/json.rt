@@ -11,7 +11,7 @@ pub(super) const OVER_GROUND: &str = "*8D485020994409940838175B284F;\n?";
 
 pub(super) const TABLE_OVER_GROUND: &str = concat!(
     r#"{"now":0.000,"messages":1,"aircraft":[{"hex":"485020","gs":159.2,"speed":159,"track":183,"#,
-    "\"baro_rate\":-832,\"vert_rate\":-832,\"seen\":0.000}]}\n",
+    "\"geom_rate\":-832,\"vert_rate\":-832,\"seen\":0.000}]}\n",
 );
 
 const EMPTY: &str = "{\"now\":0.000,\"messages\":0,\"aircraft\":[]}\n";
@@ -67,7 +67,7 @@ const REPLAYS_FROM_AN_ORIGIN: &[Known] = &[
         concat!(
             r#"{"now":1700000002.000,"messages":4,"aircraft":["#,
             r#"{"hex":"4840d6","flight":"KLM1023","seen":0.000},"#,
-            r#"{"hex":"485020","gs":159.2,"speed":159,"track":183,"baro_rate":-832,"vert_rate":-832,"#,
+            r#"{"hex":"485020","gs":159.2,"speed":159,"track":183,"geom_rate":-832,"vert_rate":-832,"#,
             "\"seen\":0.766}]}\n",
         ),
     ),

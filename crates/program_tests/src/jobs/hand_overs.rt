@@ -98,7 +98,12 @@ fn kept(alloc: Global, count: u8, last_tick: u64) -> Result<Kept, AllocError> {
         entries.push(Entry::Tick { seat: 0, at })?;
     }
     let recent = Recent { base: 0, entries };
-    Ok(Kept { recent, last_tick })
+    let site = None;
+    Ok(Kept {
+        recent,
+        last_tick,
+        site,
+    })
 }
 
 #[test]
@@ -176,6 +181,7 @@ impl<R: System, W: Own> Trials<'_, R, W> {
             displays: &None,
             paths: &paths,
             hand_over_at: LIMIT,
+            site: None,
         };
         let (mut ran, mut out, mut err) = (Ran::nothing(alloc), Vec::new(alloc), Vec::new(alloc));
         let alarms = Alarms {

@@ -38,6 +38,7 @@ const RUN_HELP: &str = concat!(
     "      --rounds <R>       How often to read the paths, 1 to 1000 [default: 1]\n",
     "      --reopen           Open each path again 1 s after it ended or failed\n",
     "      --record <FILE>    File to record the run to, for replay\n",
+    "      --at <LAT,LON>     Place of the receivers, for aircraft on the ground\n",
     "  -h, --help             Print help\n\n",
     "Lines of a path, one of each kind:\n",
 );
@@ -48,6 +49,9 @@ const REPLAY_HELP_END: &str = concat!(
     "\nAt a + line, once there are 12582912 accepted frames and + lines, those that\n",
     "are more than 70 s old are forgotten. There is room for 16777216. When it is\n",
     "full, all that comes is refused, and 'now' stands still.\n",
+    "With --at aircraft on the ground have positions too. LAT and LON are the place\n",
+    "of the receivers in degrees, right to some 100 km. A latitude of the south needs\n",
+    "the = sign: --at=-33.9,151.2\n",
     "Formats: docs/FORMATS.md.\n",
 );
 

@@ -23,7 +23,7 @@ const SPEEDS: &[u8] = b"*8D485020994409940838175B284F;\n?\n";
 const TABLE_OF_SPEEDS: &str = concat!(
     "{\"now\":0.000,\"messages\":1,\"aircraft\":[",
     "{\"hex\":\"485020\",\"gs\":159.2,\"speed\":159,\"track\":183,",
-    "\"baro_rate\":-832,\"vert_rate\":-832,\"seen\":0.000}]}\n",
+    "\"geom_rate\":-832,\"vert_rate\":-832,\"seen\":0.000}]}\n",
 );
 
 /// The table of the two files at the start of a run.
@@ -31,7 +31,7 @@ pub const JSON_OF_BOTH: &str = concat!(
     "{\"now\":1700000000.000,\"messages\":2,\"aircraft\":[",
     "{\"hex\":\"4840d6\",\"flight\":\"KLM1023\",\"seen\":0.000},",
     "{\"hex\":\"485020\",\"gs\":159.2,\"speed\":159,\"track\":183,",
-    "\"baro_rate\":-832,\"vert_rate\":-832,\"seen\":0.000}]}\n",
+    "\"geom_rate\":-832,\"vert_rate\":-832,\"seen\":0.000}]}\n",
 );
 
 impl<R: Host, W: Own> Trials<'_, R, W> {

@@ -184,7 +184,7 @@ fn tables_are_text_where_no_format_is_given(rt: HostRuntime) -> Result<(), Words
     ] {
         let found = match job_of(rt.alloc(), line)? {
             Job::Run(options) => options.format,
-            Job::Replay { format } => format,
+            Job::Replay { format, .. } => format,
         };
         same_at(&rt, found, format, line);
     }

@@ -55,12 +55,12 @@ impl<const N: usize> Book<N> {
     /// Applies the entries in their order, as long as they fit. `Err` has the place of the first that doesn't. The book has
     /// then applied those before it.
     pub fn take_all(&mut self, base: u64, entries: &[Entry]) -> Result<(), u64>
-        requires starts { self.old ≡ starting base }
+        requires starts { self.old ≡ starting self.old.site base }
         requires few { length entries.now ≤ most_entries }
-        ensures ok { OnOk result (self.new ≡ book_after base entries.now) }
+        ensures ok { OnOk result (self.new ≡ book_after self.old.site base entries.now) }
         ensures matches { OnOk result (Matches N base self.new entries.now) }
         ensures err { IfErr result (λ place. IsFirstUnsound N base entries.now place) }
-        ensures kept { IfErr result (λ place. (self.new ≡ book_after base (take place entries.now))
+        ensures kept { IfErr result (λ place. (self.new ≡ book_after self.old.site base (take place entries.now))
             × Matches N base self.new (take place entries.now)) }
     {
         for entry in entries {
@@ -114,6 +114,7 @@ impl<const N: usize> Book<N> {
     pub fn copy_from(&mut self, other: &Book<N>)
         ensures { self.new ≡ other.now }
     {
+        self.site = other.site;
         self.clock = other.clock;
         self.count = other.count;
         self.table.copy_from(&other.table);
@@ -164,7 +165,8 @@ impl<const N: usize> Book<N> {
         ensures { self.new ≡ applied_book self.old (call.Heard frame.now) }
     {
         self.count += 1;
-        self.table.hear(place, self.clock, claim.address, frame);
+        self.table
+            .hear(place, self.site, self.clock, claim.address, frame);
         self.first_frames.hear(frame);
     }
 }

@@ -8,7 +8,7 @@ ghost use Rattle.station_main.specs.Output.{buffered_of};
 ghost use Rattle.station_main.specs.Recorded.{Recording};
 ghost use Rattle.station_main.specs.Reporter.{ReportsByAClock};
 ghost use Rattle.station_main.specs.Rounds.{Begun, EndsStation, IsServedBy};
-ghost use Rattle.station_main.specs.Run.{CanClose, IsClosed, IsUnstarted};
+ghost use Rattle.station_main.specs.Run.{CanClose, IsClosed, IsUnstarted, may_work_on};
 ghost use Rattle.station_main.specs.Sums.{AddsAll};
 
 use crate::beside::Beside;
@@ -64,6 +64,7 @@ pub(super) fn hand_over<
         ReportsByAClock L.start duties left.entry.report.due (Some at)
         (newcomer begun.given.entries (length begun.sources)) left.entry.report.seat
         before (buffered_of O.contents left.entry.report.out) was left.entry.report.beside.record false →
+        may_work_on (λ r. state_of r.source) (λ r. r.answer) left.entry.receivers.items ≡ true →
         IfOk result (EndsStation O.contents begun before was beside.new.record) }
 {
     let Outcome { receivers, report } = left;
@@ -106,6 +107,8 @@ pub(super) fn finish<
         ReportsByAClock L.start duties left.entry.report.due left.entry.report.asked_at
         (newcomer begun.given.entries (length begun.sources)) left.entry.report.seat
         before (buffered_of O.contents left.entry.report.out) was left.entry.report.beside.record left.entry.report.has_failed →
+        (is_some left.entry.report.asked_at ≡ true →
+        may_work_on (λ r. state_of r.source) (λ r. r.answer) left.entry.receivers.items ≡ false) →
         IfOk result (EndsStation O.contents begun before was beside.new.record) }
 {
     let (reporter, written) = print_last(rt, &station, duties.tables.format, left.report, beside);

@@ -6,7 +6,7 @@ ghost use Rattle.station_main.specs.Run.{IsUnstarted};
 
 use crate::faults::Fault;
 use crate::kept::Kept;
-use crate::limits::{AIRCRAFT, LIMITS};
+use crate::limits::{AIRCRAFT, limits};
 use crate::threads::{Input, Receiver};
 use station_journal::{NoMemory, ResumeFault};
 use station_shared::{Places, Seat, Station, StationName, Worker};
@@ -41,7 +41,16 @@ pub(super) fn begin<'a, L: StationName, R: Wait>(
         made.2 ≡ newcomer kept.recent.entries.items (length inputs.entry.items)) }
 {
     let count = inputs.len() as u8 + 1;
-    let made = Station::<AIRCRAFT, L>::resume(rt, alloc, LIMITS, count, kept.recent, blank, places);
+    let site = kept.site;
+    let made = Station::<AIRCRAFT, L>::resume(
+        rt,
+        alloc,
+        limits(site),
+        count,
+        kept.recent,
+        blank,
+        places,
+    );
     let (station, mut seats) = match made {
         Ok(made) => made,
         Err(refused) => match refused.fault {

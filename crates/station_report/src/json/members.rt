@@ -2,18 +2,20 @@
 
 ghost use Rattle.std.specs.Prelude.{◌≡◌, ◌+◌, ◌≤◌, ◌++◌, length, IfSome};
 ghost use Rattle.std.specs.Fmt.{signed_decimal};
+ghost use Rattle.std.specs.Option.{option_map};
+ghost use Rattle.station_report.specs.Text.{ground_track};
 ghost use Rattle.arrayvec.specs.ArrayVec.{array_vec_len};
 ghost use Rattle.modes_cpr.specs.Pair.{IsWhole};
-ghost use Rattle.station_report.specs.Json.{if_known, flight, altitude_members, track_member, ground, airspeed_key, air, moving, rate, squawk, seen_pos, place};
+ghost use Rattle.station_report.specs.Json.{shown_altitude, surface, if_known, flight, altitude_members, track_member, ground, airspeed_key, air, moving, rate_key, rate, squawk, seen_pos, place};
 
-use crate::columns::{push_degrees, push_octal};
+use crate::columns::{ground_track, push_degrees, push_octal};
 use crate::decimals::{push_number, push_text};
 use crate::json::numbers::{push_seconds, push_tenths};
 use crate::motion::{speed_tenths, track};
 use arrayvec::ArrayVec;
 use itoa::Buffer;
 use modes_cpr::Position;
-use modes_fields::{Callsign, Squawk, Velocity};
+use modes_fields::{Callsign, RateSource, Squawk, Velocity};
 
 /// The text of an aircraft.
 pub(crate) type Object = ArrayVec<u8, 640>;
@@ -21,9 +23,9 @@ pub(crate) type Object = ArrayVec<u8, 640>;
 /// Appends `flight`.
 #[tactic(auto, unfolding(crate::specs::Json::flight))]
 pub(crate) fn push_flight(object: &mut Object, callsign: Option<Callsign>)
-    requires { array_vec_len object.old + 48 ≤ 640 }
+    requires { array_vec_len object.old + 24 ≤ 640 }
     ensures items { object.new.items ≡ object.old.items ++ if_known flight callsign }
-    ensures len { array_vec_len object.new ≤ array_vec_len object.old + 48 }
+    ensures len { array_vec_len object.new ≤ array_vec_len object.old + 24 }
 {
     if let Some(callsign) = callsign {
         push_text(object, b",\"flight\":\"");
@@ -32,15 +34,29 @@ pub(crate) fn push_flight(object: &mut Object, callsign: Option<Callsign>)
     }
 }
 
-/// Appends `alt_baro` and `altitude`, in feet.
+// Appends `alt_baro` and `altitude`, in feet.
 #[tactic(auto, unfolding(crate::specs::Json::altitude_members))]
-pub(crate) fn push_altitude(object: &mut Object, feet: Option<i32>)
+fn push_feet(object: &mut Object, feet: Option<i32>)
     requires { array_vec_len object.old + 96 ≤ 640 }
     ensures items { object.new.items ≡ object.old.items ++ if_known altitude_members feet }
     ensures len { array_vec_len object.new ≤ array_vec_len object.old + 96 }
 {
     if let Some(feet) = feet {
         push_twice(object, b",\"alt_baro\":", b",\"altitude\":", feet);
+    }
+}
+
+/// Appends `alt_baro` and `altitude`: feet, or `ground` for an aircraft on the ground.
+#[tactic(auto, unfolding(crate::specs::Json::ground_members))]
+pub(crate) fn push_altitude(object: &mut Object, on_ground: Option<bool>, feet: Option<i32>)
+    requires { array_vec_len object.old + 96 ≤ 640 }
+    ensures items { object.new.items ≡ object.old.items ++ shown_altitude on_ground feet }
+    ensures len { array_vec_len object.new ≤ array_vec_len object.old + 96 }
+{
+    match on_ground {
+        Some(true) => push_text(object, b",\"alt_baro\":\"ground\",\"altitude\":\"ground\""),
+        Some(false) => push_feet(object, feet),
+        None => push_feet(object, feet),
     }
 }
 
@@ -74,6 +90,7 @@ pub(crate) fn push_velocity(object: &mut Object, velocity: Option<Velocity>)
                 speed,
             },
         ) => push_air(object, heading, is_true, speed),
+        Some(Velocity::Surface { speed, track }) => push_surface(object, speed, track),
     }
 }
 
@@ -89,6 +106,29 @@ fn push_ground(object: &mut Object, east: i16, north: i16)
     push_text(object, b",\"speed\":");
     push_number(object, u64::from(speed / 10));
     push_track(object, track(east, north));
+}
+
+#[tactic(auto, unfolding(crate::specs::Json::surface))]
+fn push_surface(object: &mut Object, speed: u16, track: Option<u8>)
+    requires { array_vec_len object.old + 128 ≤ 640 }
+    ensures items { object.new.items ≡ object.old.items ++ surface speed track }
+    ensures len { array_vec_len object.new ≤ array_vec_len object.old + 128 }
+{
+    push_text(object, b",\"gs\":");
+    push_tenths(object, u32::from(speed) * 10 / 8);
+    push_text(object, b",\"speed\":");
+    push_number(object, u64::from(speed / 8));
+    push_track(object, degrees(track));
+}
+
+// The track in whole degrees, if it is given.
+fn degrees(track: Option<u8>) -> Option<u16>
+    ensures { result ≡ option_map ground_track track }
+{
+    match track {
+        Some(track) => Some(ground_track(track)),
+        None => None,
+    }
 }
 
 #[tactic(auto, unfolding(crate::specs::Json::track_member))]
@@ -124,24 +164,35 @@ fn airspeed_key(is_true: bool) -> &'static [u8]
     if is_true { b",\"tas\":" } else { b",\"ias\":" }
 }
 
-/// Appends `baro_rate` and `vert_rate`, in feet per minute.
+/// Appends `geom_rate` for a rate from GNSS and `baro_rate` for any other, and `vert_rate`, in feet per minute.
 #[tactic(auto, unfolding(crate::specs::Json::rate))]
-pub(crate) fn push_rate(object: &mut Object, feet: Option<i32>)
+pub(crate) fn push_rate(object: &mut Object, source: Option<RateSource>, feet: Option<i32>)
     requires { array_vec_len object.old + 96 ≤ 640 }
-    ensures items { object.new.items ≡ object.old.items ++ if_known rate feet }
+    ensures items { object.new.items ≡ object.old.items ++ if_known (rate source) feet }
     ensures len { array_vec_len object.new ≤ array_vec_len object.old + 96 }
 {
     if let Some(feet) = feet {
-        push_twice(object, b",\"baro_rate\":", b",\"vert_rate\":", feet);
+        push_twice(object, rate_key(source), b",\"vert_rate\":", feet);
+    }
+}
+
+fn rate_key(source: Option<RateSource>) -> &'static [u8]
+    ensures key { result.now ≡ rate_key source }
+    ensures len { length result.now ≤ 13 }
+{
+    match source {
+        Some(RateSource::Gnss) => b",\"geom_rate\":",
+        Some(RateSource::Barometric) => b",\"baro_rate\":",
+        None => b",\"baro_rate\":",
     }
 }
 
 /// Appends `squawk`.
 #[tactic(auto, unfolding(crate::specs::Json::squawk))]
 pub(crate) fn push_squawk(object: &mut Object, code: Option<Squawk>)
-    requires { array_vec_len object.old + 48 ≤ 640 }
+    requires { array_vec_len object.old + 24 ≤ 640 }
     ensures items { object.new.items ≡ object.old.items ++ if_known squawk code }
-    ensures len { array_vec_len object.new ≤ array_vec_len object.old + 48 }
+    ensures len { array_vec_len object.new ≤ array_vec_len object.old + 24 }
 {
     if let Some(code) = code {
         push_text(object, b",\"squawk\":\"");

@@ -19,6 +19,7 @@ use std::sync::ledger::Blank;
 const MANY: Limits = Limits {
     entries: 131_072,
     aircraft: 2,
+    site: None,
 };
 
 // The lines of the ticks after the first `recorded`, and the one that asks for the table.
@@ -62,7 +63,7 @@ fn tick_and_write<L: StationName, R: Wait + Abort>(
     requires seats { (L.parts ≡ 2) × (L.seats ≡ 2) × (places.places ≡ 2) }
     requires start { (L.start.history ≡ places.history) × (L.start.resumed ≡ 0) }
     requires base { base_of places.history ≡ 0 }
-    requires limits { L.start.limits ≡ record { entries = 131072; aircraft = 2 } }
+    requires limits { L.start.limits ≡ record { entries = 131072; aircraft = 2; site = None } }
 {
     let Ok((station, mut seats)) = Station::<2, L>::new(rt, alloc, MANY, 2, blank, places) else {
         panic!(rt; "no station");

@@ -7,7 +7,7 @@ use crate::fakes::{Site, push};
 use crate::station::read_frame;
 use modes_frame::{Frame, remainder};
 use station_journal::{Entry, Journal};
-use station_lines::{FromBuffer, PIECE};
+use station_lines::FromBuffer;
 use station_shared::{Seat, Station, StationName, Worker, run_receivers};
 use std::alloc::Global;
 use std::io;
@@ -27,7 +27,7 @@ const COMPARED: u16 = 256;
 const WIDTH: usize = 31;
 
 // The bytes that a receiver has at hand at once: more than all its lines, and so more than a piece.
-const AT_HAND: usize = 3 * PIECE;
+const AT_HAND: usize = 393_216;
 
 // The lines of the receivers, by the numbers of their seats.
 const LINES_OF: [&'static str; 8] = [

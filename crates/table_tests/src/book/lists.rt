@@ -10,7 +10,7 @@ use std::test::Fail;
 
 #[test]
 fn what_does_not_fit_leaves_a_book_as_it_was(rt: HostRuntime) -> Result<(), Fail> {
-    let mut book = Book::<4>::starting(7);
+    let mut book = Book::<4>::starting(None, 7);
     for call in [Tick(7), Hear(NOBODY), Hear(SPOILED)] {
         let entry = entry(call)?;
         holds(&rt, !book.fits(&entry));
@@ -37,18 +37,22 @@ fn an_overlaid_frame_fits_whoever_is_live(rt: HostRuntime) -> Result<(), Fail> {
 
 #[test]
 fn a_list_is_taken_up_to_the_first_that_does_not_fit(rt: HostRuntime) -> Result<(), Fail> {
-    let mut book = Book::<1>::starting(5);
+    let mut book = Book::<1>::starting(None, 5);
     let (heard, other) = (entry(Hear(IDENTIFICATION))?, entry(Hear(EVEN))?);
     let fitting = [heard, entry(Tick(60_006))?, other, other];
     same(&rt, book.take_all(5, &fitting), Ok(()));
     let shown = (book.entries(), book.now(), book.len());
     same(&rt, shown, (4, 60_006, 1));
     holds(&rt, book.get(0x40621D).is_some());
-    let early = Book::<1>::starting(5).take_all(5, &[entry(Tick(5))?]);
+    let early = Book::<1>::starting(None, 5).take_all(5, &[entry(Tick(5))?]);
     same(&rt, early, Err(0));
-    let full = Book::<1>::starting(5).take_all(5, &[heard, other]);
+    let full = Book::<1>::starting(None, 5).take_all(5, &[heard, other]);
     same(&rt, full, Err(1));
     let spoiled = [entry(Tick(6))?, heard, entry(Hear(SPOILED))?];
-    same(&rt, Book::<1>::starting(5).take_all(5, &spoiled), Err(2));
+    same(
+        &rt,
+        Book::<1>::starting(None, 5).take_all(5, &spoiled),
+        Err(2),
+    );
     Ok(())
 }

@@ -1,29 +1,14 @@
 //! Positions of pairs of places, and their times: that of the newest place that gave one.
 
-use crate::book::compare;
+use crate::book::{compare, position};
 use crate::calls::Call::{self, Hear, Tick};
 use crate::comparing::same;
 use crate::known::{EVEN, FAR, IDENTIFICATION, ODD};
-use modes_cpr::{Degrees, Position};
 use station_book::Book;
-use station_journal::{Aircraft, PlacedRows, Rows};
+use station_journal::{PlacedRows, Rows};
 use std::alloc::Global;
 use std::process::Abort;
 use std::test::Fail;
-
-fn hundred_thousandths(degrees: Degrees) -> i128 {
-    let den = degrees.den as i128;
-    if den == 0 {
-        return 0;
-    }
-    (degrees.num as i128 * 200_000 + den).div_euclid(2 * den)
-}
-
-// Latitude and longitude in 1/100,000 degree.
-fn position(row: &Aircraft) -> Option<(i128, i128)> {
-    let Position { lat, lon } = row.position?;
-    Some((hundred_thousandths(lat), hundred_thousandths(lon)))
-}
 
 const NEWEST_ODD: (i128, i128) = (5_226_578, 393_891);
 

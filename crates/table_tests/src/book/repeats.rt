@@ -13,6 +13,7 @@ use std::test::Fail;
 const LIMITS: Limits = Limits {
     entries: 600,
     aircraft: 4,
+    site: None,
 };
 
 // An identity reply of 4840D6: this byte, and then the parity with the address overlaid.

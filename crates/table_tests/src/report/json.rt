@@ -4,9 +4,10 @@ ghost use Rattle.std.specs.Prelude.{All};
 ghost use Rattle.station_report.specs.Text.{IsPrintableRow};
 
 use super::{
-    BARE, climbing, identified, is_printable, over_ground, placed, squawking, through_air,
+    BARE, climbing, identified, is_printable, over_ground, placed, squawking, taxiing, through_air,
 };
 use crate::comparing::{holds, holds_at, same_at};
+use modes_fields::{Category, CategorySet, Emergency, RateSource};
 use station_journal::{Aircraft, Rows};
 use station_report::{PlacedRows, ToWrite, table_json};
 use std::alloc::Global;
@@ -136,6 +137,72 @@ fn velocities_have_their_members(rt: HostRuntime) -> Result<(), Fail> {
         (
             (through_air(false), None, 0, "0.000"),
             r#"{"hex":"a05f21","mag_heading":243.9,"ias":375,"baro_rate":-2304,"vert_rate":-2304,"seen":0.000}"#,
+        ),
+    ];
+    have_their_objects(&rt, rt.alloc(), &rows)
+}
+
+#[test]
+fn aircraft_on_the_ground_have_their_members(rt: HostRuntime) -> Result<(), Fail> {
+    let rows = [
+        (
+            (taxiing(14, Some(64)), None, 0, "0.000"),
+            r#"{"hex":"484175","alt_baro":"ground","altitude":"ground","gs":1.7,"speed":1,"track":180,"seen":0.000}"#,
+        ),
+        (
+            (taxiing(1, None), None, 0, "0.000"),
+            r#"{"hex":"484175","alt_baro":"ground","altitude":"ground","gs":0.1,"speed":0,"seen":0.000}"#,
+        ),
+    ];
+    have_their_objects(&rt, rt.alloc(), &rows)
+}
+
+// A rate, and what measured it.
+fn sinking(source: RateSource) -> Aircraft {
+    Aircraft {
+        vertical: Some(-832),
+        rate_source: Some(source),
+        ..BARE
+    }
+}
+
+#[test]
+fn rates_have_the_key_of_their_source(rt: HostRuntime) -> Result<(), Fail> {
+    let rows = [
+        (
+            (sinking(RateSource::Gnss), None, 0, "0.000"),
+            r#"{"hex":"4840d6","geom_rate":-832,"vert_rate":-832,"seen":0.000}"#,
+        ),
+        (
+            (sinking(RateSource::Barometric), None, 0, "0.000"),
+            r#"{"hex":"4840d6","baro_rate":-832,"vert_rate":-832,"seen":0.000}"#,
+        ),
+    ];
+    have_their_objects(&rt, rt.alloc(), &rows)
+}
+
+// Both are after the time of the position, and before that of the newest frame. A report of none has no member.
+#[test]
+fn categories_and_emergencies_have_their_members(rt: HostRuntime) -> Result<(), Fail> {
+    let set = CategorySet::A;
+    let category = Some(Category { set, number: 3 });
+    let aircraft = Aircraft { category, ..west() };
+    let distressed = Aircraft {
+        emergency: Some(Emergency::General),
+        ..aircraft
+    };
+    let relieved = Aircraft {
+        emergency: Some(Emergency::NoEmergency),
+        ..aircraft
+    };
+    let rows = [
+        (
+            (distressed, Some(50), 50, "0.050"),
+            r#"{"hex":"4840d6","lat":-0.00001,"lon":-180.00000,"seen_pos":0.000,"category":"A3","emergency":"general","seen":0.050}"#,
+        ),
+        (
+            (relieved, None, 0, "0.000"),
+            r#"{"hex":"4840d6","lat":-0.00001,"lon":-180.00000,"category":"A3","seen":0.000}"#,
         ),
     ];
     have_their_objects(&rt, rt.alloc(), &rows)

@@ -27,6 +27,7 @@ loop-path-preserved g c =
     let at : path ≡ get_or paths i path = cc in
     let pushed : c.push.new.self.items ≡ before ++ file ∷ [] = search rules in
     record {
-      opened = ap (map path_of) pushed ∙ map_push path_of before file ∙ ap₂ (λ (l : List (List ℕ)) (p : List ℕ). l ++ p ∷ []) c.loop-path.invariant.opened (c.in_ok-file.ensures.path ∙ ap string_bytes at) ∙ sym (map_more string_bytes paths i path inside);
+      opened = ap (map (λ f. path_of f.opened)) pushed ∙ map_push (λ f. path_of f.opened) before file ∙ ap₂ (λ (l : List (List ℕ)) (p : List ℕ). l ++ p ∷ []) c.loop-path.invariant.opened (c.in_ok-file.ensures.path ∙ ap string_bytes at) ∙ sym (map_more string_bytes paths i path inside);
+      named = ap (map (λ f. string_bytes f.path.now)) pushed ∙ map_push (λ f. string_bytes f.path.now) before file ∙ ap₂ (λ (l : List (List ℕ)) (p : List ℕ). l ++ p ∷ []) c.loop-path.invariant.named (ap string_bytes (c.in_ok-file.ensures.named ∙ at)) ∙ sym (map_more string_bytes paths i path inside);
       many = ap length pushed ∙ length_push before file ∙ ap (λ n. n + 1) c.loop-path.invariant.many;
     }

@@ -6,7 +6,7 @@ use Rattle.station_main.proofs.round.one_shift.Given as goal
 abbrev pub ghosts-run_shift-L-StationName : goal.ghosts-run_shift-L-StationName
 ghosts-run_shift-L-StationName g a = record {
   seats = length a.shift.inputs.items + 1;
-  start = record { history = a.places.history; limits = program_limits; resumed = length a.shift.kept.recent.entries.items };
+  start = record { history = a.places.history; limits = program_limits a.shift.kept.site; resumed = length a.shift.kept.recent.entries.items };
 }
 
 abbrev pub ghosts-run_shift-L-Ledger : goal.ghosts-run_shift-L-Ledger

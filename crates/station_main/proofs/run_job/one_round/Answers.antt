@@ -1,4 +1,14 @@
+use Rattle.std.proofs.Common.{◌≡◌, ◌∙◌, List, ap, map, length, sym, string_bytes}
+use Rattle.std.proofs.lemmas.List.{length-map}
+use Rattle.station_main.proofs.Common.{RunPlan, unknown}
+use Rattle.station_main.proofs.PartLemmas.{unknown_is}
 use Rattle.station_main.proofs.run_job.one_round.Goals as goal
 
 pub returns-in-Ok : goal.returns-in-Ok
-returns-in-Ok g c = c.run_round.ensures _ _ _ c.in-Ok.ensures.first c.in-Ok.ensures.out
+returns-in-Ok g c =
+    let made = c.in-Ok.ensures in
+    let threads = c.in-Ok.paths.threads.items in
+    let paths : List _ = map string_bytes c.args.asked.paths.now.items in
+    let many : length threads ≡ length paths = sym (length-map threads (λ t. string_bytes t.path.now)) ∙ ap length made.named in
+    let asked : RunPlan = record { tables = c.args.asked.tables; paths = paths; known = unknown paths; hand_over_at = c.args.asked.hand_over_at; site = c.args.asked.site } in
+    c.run_round.ensures asked _ _ (sym made.named) (unknown_is paths threads many) made.first made.out

@@ -3,6 +3,7 @@ use Rattle.std.proofs.lemmas.List.{length-map}
 use Rattle.station_portions.specs.Giving.{state_of}
 use Rattle.station_shared.specs.Seats.{newcomer}
 use Rattle.station_main.proofs.Common.{buffered_of, Begun, IsServedBy, begun_of}
+use Rattle.station_main.proofs.GoingOnLemmas.{made, not-made}
 use Rattle.station_main.proofs.ReceiverLemmas.{all_answered, answers_of, hand_over_reports, are_numbered, have_pumped, reports_from}
 use Rattle.station_main.proofs.SeatNumberLemmas.{reporter_numbered}
 use Rattle.station_main.proofs.shift.run_shift.Goals as goal
@@ -53,10 +54,11 @@ returns-in-Some-hand_over_time-clause-ended g c =
     let reports = rw c.take.ensures at c.in-Some.ensures.reporter in
     let reported = reports_from _ _ _ _ _ _ _ _ _ _ _ _ first reports in
     c.hand_over.ensures.ended begun c.in-Some-hand_over_time._at (buffered_of g.O.Write.contents c.args.shift.out) c.args.beside.now.record refl refl served
-    (rw c.report_limits.ensures (hand_over_reports _ _ _ _ _ _ _ _ _ _ _ _ c.in-Some-hand_over_time.ensures reported))
+    (rw c.report_limits.ensures (hand_over_reports _ _ _ _ _ _ _ _ _ _ _ _ (made _ _ _ c.in-Some-hand_over_time.ensures).1 reported))
+    (made _ _ _ c.in-Some-hand_over_time.ensures).0
 
-pub returns-clause-ended : goal.returns-clause-ended
-returns-clause-ended g c =
+pub returns-in-None-clause-ended : goal.returns-in-None-clause-ended
+returns-in-None-clause-ended g c =
     let start = g.L.StationName.start in
     let entries = c.args.shift.kept.recent.entries.items in
     let inputs = c.args.shift.inputs.items in
@@ -74,4 +76,4 @@ returns-clause-ended g c =
     let first : c.in_ok-station.seat ≡ newcomer entries (length begun.sources) = c.in_ok-station.ensures.reporter ∙ ap (newcomer entries) (sym (length-map inputs state_of)) in
     let reports = rw c.take.ensures at c.in-Some.ensures.reporter in
     let reported = reports_from _ _ _ _ _ _ _ _ _ _ _ _ first reports in
-    c.finish.ensures.ended begun (buffered_of g.O.Write.contents c.args.shift.out) c.args.beside.now.record refl refl served (rw c.report_limits.ensures reported)
+    c.finish.ensures.ended begun (buffered_of g.O.Write.contents c.args.shift.out) c.args.beside.now.record refl refl served (rw c.report_limits.ensures reported) (not-made _ _ c.in-None.ensures)

@@ -43,6 +43,7 @@ returns-clause-options c =
       file_is = c.in_ok-record.ensures ∙ c.get_str-2.ensures ∙ first_value-rows found (codes "record");
       folder_is = c.in_ok-displays.ensures ∙ c.get_str-3.ensures ∙ first_value-rows found (codes "json");
       format_is = c.named-format.ensures ∙ ap format_named (c.get_str.ensures ∙ first_value-rows found (codes "format"));
+      place = c.requires.place;
     }
 
 pub returns-clause-range : goal.returns-clause-range

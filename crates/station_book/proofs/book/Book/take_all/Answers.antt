@@ -16,7 +16,7 @@ returns-then-not-fits-clause-kept g c =
     let i = c.loop-entry.entry-index in
     let taken = c.loop-entry.invariant in
     let at : i ≡ c.self.inside.count = sym (count_is g.row.N c.args.base book entries i c.entry-item.result c.loop-entry-test.true c.entry-item.is taken.matched) ∙ sym (ap (λ (s : BookState). s.entries) c.self.view_is) in
-    subst (λ (k : ℕ). (book ≡ book_after c.args.base (take k entries)) × Matches g.row.N c.args.base book (take k entries)) at (taken.after, taken.matched)
+    subst (λ (k : ℕ). (book ≡ book_after c.args.self.now.site c.args.base (take k entries)) × Matches g.row.N c.args.base book (take k entries)) at (taken.after, taken.matched)
 
 pub fits-requires : goal.fits-requires
 fits-requires g c = search

@@ -4,6 +4,6 @@ use Rattle.station_book.proofs.book.Book.take_all.Given as goal
 
 abbrev pub invariant-loop-entry : goal.invariant-loop-entry
 invariant-loop-entry g l = record {
-  after : l.self ≡ book_after l.base (take l.entry-index l.entries);
+  after : l.self ≡ book_after l.fn.self.site l.base (take l.entry-index l.entries);
   matched : Matches g.row.N l.base l.self (take l.entry-index l.entries);
 }

@@ -14,9 +14,9 @@ invariant_of-self g c =
     let i = c.in-Ok.rank in
     let stood = c.index-deref_mut-rank.result in
     let place : StandsAt tracks c.args.address (Ok i) = rw (c.in-Ok.is, ← c.self.view_is) at c.requires.place in
-    let t = updated_track c.args.now (fields_of c.args.frame.now) (get_or tracks i stood) in
+    let t = updated_track c.args.site c.args.now (fields_of c.args.frame.now) (get_or tracks i stood) in
     let is : c.update.new.track ≡ t = rw c.deref_mut.ensures.value at c.update.ensures in
-    let put = update_there c.args.address i c.args.now (fields_of c.args.frame.now) tracks stood place in
+    let put = update_there c.args.site c.args.address i c.args.now (fields_of c.args.frame.now) tracks stood place in
     let whole : refill (length tracks) tracks (set c.deref_mut.result.now i c.update.new.track) ≡ set tracks i t = rw (c.deref_mut.ensures.value, is) (refill_same tracks (set tracks i t) (length-set tracks i t)) in
     let before : c.lower.new.time ≤ c.self.inside.oldest = grind (arith, c.lower.ensures) in
     let now : c.lower.new.time ≤ c.args.now = grind (arith, c.lower.ensures) in
@@ -32,7 +32,7 @@ returns-in-Ok g c =
     let i = c.in-Ok.rank in
     let stood = c.index-deref_mut-rank.result in
     let place : StandsAt tracks c.args.address (Ok i) = rw (c.in-Ok.is, ← c.self.view_is) at c.requires.place in
-    let t = updated_track c.args.now (fields_of c.args.frame.now) (get_or tracks i stood) in
+    let t = updated_track c.args.site c.args.now (fields_of c.args.frame.now) (get_or tracks i stood) in
     let is : c.update.new.track ≡ t = rw c.deref_mut.ensures.value at c.update.ensures in
     let whole : refill (length tracks) tracks (set c.deref_mut.result.now i c.update.new.track) ≡ set tracks i t = rw (c.deref_mut.ensures.value, is) (refill_same tracks (set tracks i t) (length-set tracks i t)) in
-    rw (← c.self.view_is) (whole ∙ update_there c.args.address i c.args.now (fields_of c.args.frame.now) tracks stood place)
+    rw (← c.self.view_is) (whole ∙ update_there c.args.site c.args.address i c.args.now (fields_of c.args.frame.now) tracks stood place)

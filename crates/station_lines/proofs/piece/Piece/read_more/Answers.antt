@@ -1,4 +1,4 @@
-use Rattle.std.proofs.Common.{take, length, length-take-le, ap, ◌∙◌, arith}
+use Rattle.std.proofs.Common.{Ok, take, length, length-take-le, ap, ◌∙◌, arith}
 use Rattle.station_report.specs.Sink.{count_after}
 use Rattle.station_report.specs.declared.sinks.Failed.{Failed}
 use Rattle.station_lines.proofs.PieceLemmas.{grown, some_given}
@@ -14,10 +14,10 @@ returns-clause-ok g c =
       bytes = take n room;
       held = grown piece.bytes room piece.count _ n (omega arith) told.within;
       many = length-take-le n room told.within;
-      given = (told.bytes.0, told.given);
+      given = (told.bytes.0, told.given, told.ring);
       reads = told.reads;
       ends = told.ends ∙ ap (λ b. count_after b (g.S.Source.state c.args.from.now).ends) (some_given Failed n (length room) (omega (arith, c.read.auto.buffer)));
-      over = λ e. told.bytes.1 e (omega (arith, c.read.auto.buffer));
+      over = λ e. (told.bytes.1 e (omega (arith, c.read.auto.buffer)), told.border (ap Ok e) (omega (arith, c.read.auto.buffer)));
       failures = told.failures;
       asked = omega (arith, told.within, c.read.auto.buffer);
     }

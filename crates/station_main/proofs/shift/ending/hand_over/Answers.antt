@@ -1,18 +1,23 @@
-use Rattle.std.proofs.Common.{◌∙◌, ℕ, ap, length, map, subst, sym}
+use Rattle.std.proofs.Common.{◌≡◌, ◌∙◌, ℕ, List, ap, length, map, subst, sym, true}
 use Rattle.station_portions.specs.Giving.{state_of}
-use Rattle.station_main.proofs.Common.{not_before, Closing, AddsAll, Duties}
+use Rattle.station_lines.specs.Source.{SourceState}
+use Rattle.station_main.proofs.Common.{not_before, Closing, AddsAll, Duties, may_go_on}
+use Rattle.station_main.proofs.GoingOnLemmas.{work-on}
 use Rattle.station_main.proofs.ReceiverLemmas.{reports_by, serves_by}
 use Rattle.station_main.proofs.shift.ending.hand_over.Goals as goal
 
 pub returns-clause-ended : goal.returns-clause-ended
-returns-clause-ended g c = λ begun at before was duties_are answers_are served reports.
+returns-clause-ended g c = λ begun at before was duties_are answers_are served reports going.
     let receivers = c.args.left.receivers.items in
     let closing : Closing = record { reporter = c.args.left.report.seat; receivers = map (λ r. r.seat) receivers; journal = c.in_ok-closed.closed.journal.log.entries } in
+    let serves = serves_by begun g.L.StationName.start closing (map state_of (map (λ r. r.source) receivers)) (map state_of c.in_ok-closed.closed.inputs.items) (map (λ r. r.answer) receivers) c.in_ok-closed.closed.answers.items served
+    c.in_ok-closed.ensures.inputs (subst (λ before. AddsAll before (map (λ r. r.answer) receivers) c.in_ok-closed.closed.answers.items) (sym answers_are) c.in_ok-closed.ensures.sums) c.in_ok-closed.ensures.closed in
     record {
       start = g.L.StationName.start;
       closing = closing;
-      serves = serves_by begun g.L.StationName.start closing (map state_of (map (λ r. r.source) receivers)) (map state_of c.in_ok-closed.closed.inputs.items) (map (λ r. r.answer) receivers) c.in_ok-closed.closed.answers.items served
-          c.in_ok-closed.ensures.inputs (subst (λ before. AddsAll before (map (λ r. r.answer) receivers) c.in_ok-closed.closed.answers.items) (sym answers_are) c.in_ok-closed.ensures.sums) c.in_ok-closed.ensures.closed;
+      serves = serves.0;
+      more = subst (λ (ss : List SourceState). may_go_on ss serves.0.counted ≡ true) (sym c.in_ok-closed.ensures.inputs)
+          (ap (may_go_on (map state_of (map (λ r. r.source) receivers))) serves.1 ∙ sym (work-on (λ r. r.source) (λ r. r.answer) receivers served.counted served.answers_are) ∙ going);
       at = at;
       shown = c.args.left.report.beside.record;
       reports = reports_by _ _ _ _ _ _ _ _ _ _ _ _ _ duties_are c.after_hand_over.ensures.due reports;

@@ -5,7 +5,7 @@ use Rattle.station_main.proofs.RunJobLemmas.{length_new_seats}
 use Rattle.station_main.proofs.shift.opening.begin.Goals as goal
 
 pub unreachable-requires : goal.unreachable-requires
-unreachable-requires g c = wants_memory program_limits c.args.kept.recent.base c.args.kept.recent.entries.items c.in-Err.refused.fault c.requires.may.sound c.in-Err.ensures.refused.1 c.in_default.not-NoMemory
+unreachable-requires g c = wants_memory (program_limits c.args.kept.site) c.args.kept.recent.base c.args.kept.recent.entries.items c.in-Err.refused.fault c.requires.may.sound (rw c.limits.ensures at c.in-Err.ensures.refused.1) c.in_default.not-NoMemory
 
 pub unreachable-requires-in_default-pop : goal.unreachable-requires-in_default-pop
 unreachable-requires-in_default-pop g c = omega (arith, c.in_default-pop.ensures.cases.0, ap length c.in-Ok.ensures.made, length_new_seats c.args.kept.recent.entries.items (c.len.result + 1 - c.args.places.places) (c.len.result + 1))

@@ -13,7 +13,7 @@ returns-in-Ok-clause-sends g c =
     path_sent left new (sent c.args.self.now.messages) (sent up.messages) (sent done.messages) (unsent_bytes up.backlog) (unsent_bytes done.backlog)
     c.send_up_to_end.ensures.so_far c.send_up_to_end.ensures.none
     (subst (λ l. SendsOn (sent up.messages) (sent done.messages) l (unsent_bytes done.backlog)) c.end_line.ensures c.send_lines.ensures.sends)
-    c.send_lines.ensures.none
+    c.send_lines.ensures.none (rw c.in-Ok.is at c.send_up_to_end.ensures.over)
 
 pub returns-in-Err-clause-sends : goal.returns-in-Err-clause-sends
 returns-in-Err-clause-sends g c =

@@ -8,7 +8,7 @@ use Rattle.station_shared.proofs.RoomLemmas.{few}
 use Rattle.station_shared.proofs.look.Look.get.Goals as goal
 
 pub returns : goal.returns
-returns g c = c.get-2.ensures ∙ ap (find_row c.args.address) (ap (λ s. rows s.book) c.get.ensures ∙ table_looked g.row.N g.L.StationName.start _ _ c.args.self.now c.self.invariant.1 (ap (λ (s : Seated). s.seen) c.self.view_is))
+returns g c = c.get-2.ensures ∙ ap (find_row c.args.address) (ap (λ s. rows s.book) c.get.ensures ∙ table_looked g.row.N g.L.StationName.start _ _ c.args.self.now c.self.invariant.1 c.self.invariant.3 (ap (λ (s : Seated). s.seen) c.self.view_is))
 
 pub get-requires : goal.get-requires
 get-requires g c κs = let fits = copy_fits g.row.N (few g.row.N c.self.inside.small) in search none_within
