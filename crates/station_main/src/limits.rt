@@ -30,8 +30,9 @@ pub const TURNS: u32 = u32::MAX;
 pub const TABLE_ROOM: usize = 147_456;
 
 // The most bytes of a row as JSON, with its comma: 112 of the address, callsign, altitude `ground` and velocity over ground, 54 of
-// the vertical rate and squawk, 51 of the position, 40 of the category and emergency, and 16 of the time that it was heard.
-const LONGEST_ROW: usize = 273;
+// the vertical rate and squawk, 51 of the position, 40 of the category and emergency, 13 of the level, and 16 of the time that it
+// was heard.
+const LONGEST_ROW: usize = 286;
 
 // The most bytes of a table as JSON before and after its rows.
 const AROUND_ROWS: usize = 112;

@@ -134,6 +134,10 @@ emergency NoCommunications = codes ",\"emergency\":\"nordo\""
 emergency UnlawfulInterference = codes ",\"emergency\":\"unlawful\""
 emergency Downed = codes ",\"emergency\":\"downed\""
 
+-- a level in decibels that no receiver gave: readsb writes it where there is none, and dump1090's page reads it
+unfoldable pub unknown_level : List ℕ
+unknown_level = codes ",\"rssi\":-49.5"
+
 -- ---- the whole
 
 -- an aircraft at a time in milliseconds, and the time of its position
@@ -147,6 +151,7 @@ object now (a, placed) = codes "{\"hex\":\"" ++ low_address a.address ++ codes "
     ++ if_known (place now placed) a.position
     ++ if_known category a.category
     ++ if_known emergency a.emergency
+    ++ unknown_level
     ++ codes ",\"seen\":" ++ seconds (now - a.heard) ++ codes "}"
 
 -- the text of each element, with a comma between two

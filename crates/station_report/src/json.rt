@@ -16,7 +16,7 @@ use members::{
 };
 use numbers::{push_low_address, push_seconds, push_sum};
 use station_journal::{Aircraft, PlacedRows};
-use status::{push_category, push_emergency};
+use status::{push_category, push_emergency, push_level};
 
 /// Writes the table of `rows` as a line of JSON, with the keys of aircraft.json of readsb and dump1090.
 ///
@@ -76,6 +76,7 @@ fn item(is_first: bool, now: u64, aircraft: Aircraft, placed: Option<u64>) -> Ob
     push_place(&mut item, now, placed, aircraft.position);
     push_category(&mut item, aircraft.category);
     push_emergency(&mut item, aircraft.emergency);
+    push_level(&mut item);
     push_text(&mut item, b",\"seen\":");
     push_seconds(&mut item, now - aircraft.heard);
     push_text(&mut item, b"}");

@@ -11,7 +11,7 @@ pub(super) const OVER_GROUND: &str = "*8D485020994409940838175B284F;\n?";
 
 pub(super) const TABLE_OVER_GROUND: &str = concat!(
     r#"{"now":0.000,"messages":1,"aircraft":[{"hex":"485020","gs":159.2,"speed":159,"track":183,"#,
-    "\"geom_rate\":-832,\"vert_rate\":-832,\"seen\":0.000}]}\n",
+    "\"geom_rate\":-832,\"vert_rate\":-832,\"rssi\":-49.5,\"seen\":0.000}]}\n",
 );
 
 const EMPTY: &str = "{\"now\":0.000,\"messages\":0,\"aircraft\":[]}\n";
@@ -27,7 +27,7 @@ const REPLAYS: &[Known] = &[
         "*8DA05F219B06B6AF189400CBC33F;\n?",
         concat!(
             r#"{"now":0.000,"messages":1,"aircraft":[{"hex":"a05f21","mag_heading":243.9,"tas":375,"#,
-            "\"baro_rate\":-2304,\"vert_rate\":-2304,\"seen\":0.000}]}\n",
+            "\"baro_rate\":-2304,\"vert_rate\":-2304,\"rssi\":-49.5,\"seen\":0.000}]}\n",
         ),
     ),
     (
@@ -35,9 +35,9 @@ const REPLAYS: &[Known] = &[
         "+1\n*8D40621D58C382D690C8AC2863A7;\n+5000\n*8D40621D58C386435CC412692AD6;\n?\n+6234\n?",
         concat!(
             r#"{"now":5.000,"messages":4,"aircraft":[{"hex":"40621d","alt_baro":38000,"altitude":38000,"#,
-            "\"lat\":52.26578,\"lon\":3.93891,\"seen_pos\":0.000,\"seen\":0.000}]}\n",
+            "\"lat\":52.26578,\"lon\":3.93891,\"seen_pos\":0.000,\"rssi\":-49.5,\"seen\":0.000}]}\n",
             r#"{"now":6.234,"messages":5,"aircraft":[{"hex":"40621d","alt_baro":38000,"altitude":38000,"#,
-            "\"lat\":52.26578,\"lon\":3.93891,\"seen_pos\":1.234,\"seen\":1.234}]}\n",
+            "\"lat\":52.26578,\"lon\":3.93891,\"seen_pos\":1.234,\"rssi\":-49.5,\"seen\":1.234}]}\n",
         ),
     ),
     (
@@ -45,11 +45,11 @@ const REPLAYS: &[Known] = &[
         FAILED_PAIR,
         concat!(
             r#"{"now":2.000,"messages":5,"aircraft":[{"hex":"40621d","alt_baro":38000,"altitude":38000,"#,
-            "\"lat\":52.26578,\"lon\":3.93891,\"seen_pos\":1.000,\"seen\":0.000}]}\n",
+            "\"lat\":52.26578,\"lon\":3.93891,\"seen_pos\":1.000,\"rssi\":-49.5,\"seen\":0.000}]}\n",
             r#"{"now":61.000,"messages":6,"aircraft":[{"hex":"40621d","alt_baro":38000,"altitude":38000,"#,
-            "\"lat\":52.26578,\"lon\":3.93891,\"seen_pos\":60.000,\"seen\":59.000}]}\n",
+            "\"lat\":52.26578,\"lon\":3.93891,\"seen_pos\":60.000,\"rssi\":-49.5,\"seen\":59.000}]}\n",
             r#"{"now":61.001,"messages":7,"aircraft":[{"hex":"40621d","alt_baro":38000,"altitude":38000,"#,
-            "\"seen\":59.001}]}\n",
+            "\"rssi\":-49.5,\"seen\":59.001}]}\n",
         ),
     ),
 ];
@@ -66,9 +66,9 @@ const REPLAYS_FROM_AN_ORIGIN: &[Known] = &[
         "+1234\n*8D485020994409940838175B284F;\n+2000\n*8D4840D6202CC371C32CE0576098;\n?",
         concat!(
             r#"{"now":1700000002.000,"messages":4,"aircraft":["#,
-            r#"{"hex":"4840d6","flight":"KLM1023","seen":0.000},"#,
+            r#"{"hex":"4840d6","flight":"KLM1023","rssi":-49.5,"seen":0.000},"#,
             r#"{"hex":"485020","gs":159.2,"speed":159,"track":183,"geom_rate":-832,"vert_rate":-832,"#,
-            "\"seen\":0.766}]}\n",
+            "\"rssi\":-49.5,\"seen\":0.766}]}\n",
         ),
     ),
 ];

@@ -138,7 +138,7 @@ const JSON: &[KnownAt] = &[
         "+1234\n*8C4841753AAB238733C8CD4020B1;\n+2000\n*8C4841753A8A35323FAEBDAC702D;\n?",
         concat!(
             r#"{"now":2.000,"messages":4,"aircraft":["#,
-            r#"{"hex":"484175","alt_baro":"ground","altitude":"ground","gs":16.0,"speed":16,"track":98,"lat":52.32060,"lon":4.73473,"seen_pos":0.000,"seen":0.000}"#,
+            r#"{"hex":"484175","alt_baro":"ground","altitude":"ground","gs":16.0,"speed":16,"track":98,"lat":52.32060,"lon":4.73473,"seen_pos":0.000,"rssi":-49.5,"seen":0.000}"#,
             "]}\n",
         ),
     ),
@@ -147,7 +147,7 @@ const JSON: &[KnownAt] = &[
         "*903C0003391003851FCAC1D515C5;\n*903C000338085531D7AFC9E16975;\n?",
         concat!(
             r#"{"now":0.000,"messages":2,"aircraft":["#,
-            r#"{"hex":"3c0003","alt_baro":"ground","altitude":"ground","gs":4.0,"speed":4,"lat":52.32000,"lon":4.73999,"seen_pos":0.000,"seen":0.000}"#,
+            r#"{"hex":"3c0003","alt_baro":"ground","altitude":"ground","gs":4.0,"speed":4,"lat":52.32000,"lon":4.73999,"seen_pos":0.000,"rssi":-49.5,"seen":0.000}"#,
             "]}\n",
         ),
     ),
@@ -156,7 +156,7 @@ const JSON: &[KnownAt] = &[
         "*8C3C000438CC02D690C8AC26FD5C;\n?",
         concat!(
             r#"{"now":0.000,"messages":1,"aircraft":["#,
-            r#"{"hex":"3c0004","alt_baro":"ground","altitude":"ground","gs":1.7,"speed":1,"track":180,"seen":0.000}"#,
+            r#"{"hex":"3c0004","alt_baro":"ground","altitude":"ground","gs":1.7,"speed":1,"track":180,"rssi":-49.5,"seen":0.000}"#,
             "]}\n",
         ),
     ),
@@ -165,7 +165,7 @@ const JSON: &[KnownAt] = &[
         "*8C3C0004382C02D690C8ACA45541;\n?",
         concat!(
             r#"{"now":0.000,"messages":1,"aircraft":["#,
-            r#"{"hex":"3c0004","alt_baro":"ground","altitude":"ground","gs":0.1,"speed":0,"track":180,"seen":0.000}"#,
+            r#"{"hex":"3c0004","alt_baro":"ground","altitude":"ground","gs":0.1,"speed":0,"track":180,"rssi":-49.5,"seen":0.000}"#,
             "]}\n",
         ),
     ),
@@ -174,7 +174,7 @@ const JSON: &[KnownAt] = &[
         "*8C4841753AAB238733C8CD4020B1;\n*8C4841753A8A35323FAEBDAC702D;\n?",
         concat!(
             r#"{"now":0.000,"messages":2,"aircraft":["#,
-            r#"{"hex":"484175","seen":0.000}"#,
+            r#"{"hex":"484175","rssi":-49.5,"seen":0.000}"#,
             "]}\n",
         ),
     ),

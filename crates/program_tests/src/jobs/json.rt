@@ -12,9 +12,9 @@ const LINES: &[u8] = b"*8D4840D6202CC371C32CE0576098;\n?\n+5432\n?\n";
 
 const TABLES_OF_LINES: &str = concat!(
     "{\"now\":0.000,\"messages\":1,\"aircraft\":[",
-    "{\"hex\":\"4840d6\",\"flight\":\"KLM1023\",\"seen\":0.000}]}\n",
+    "{\"hex\":\"4840d6\",\"flight\":\"KLM1023\",\"rssi\":-49.5,\"seen\":0.000}]}\n",
     "{\"now\":5.432,\"messages\":2,\"aircraft\":[",
-    "{\"hex\":\"4840d6\",\"flight\":\"KLM1023\",\"seen\":5.432}]}\n",
+    "{\"hex\":\"4840d6\",\"flight\":\"KLM1023\",\"rssi\":-49.5,\"seen\":5.432}]}\n",
 );
 
 // A velocity and the table.
@@ -23,15 +23,15 @@ const SPEEDS: &[u8] = b"*8D485020994409940838175B284F;\n?\n";
 const TABLE_OF_SPEEDS: &str = concat!(
     "{\"now\":0.000,\"messages\":1,\"aircraft\":[",
     "{\"hex\":\"485020\",\"gs\":159.2,\"speed\":159,\"track\":183,",
-    "\"geom_rate\":-832,\"vert_rate\":-832,\"seen\":0.000}]}\n",
+    "\"geom_rate\":-832,\"vert_rate\":-832,\"rssi\":-49.5,\"seen\":0.000}]}\n",
 );
 
 /// The table of the two files at the start of a run.
 pub const JSON_OF_BOTH: &str = concat!(
     "{\"now\":1700000000.000,\"messages\":2,\"aircraft\":[",
-    "{\"hex\":\"4840d6\",\"flight\":\"KLM1023\",\"seen\":0.000},",
+    "{\"hex\":\"4840d6\",\"flight\":\"KLM1023\",\"rssi\":-49.5,\"seen\":0.000},",
     "{\"hex\":\"485020\",\"gs\":159.2,\"speed\":159,\"track\":183,",
-    "\"geom_rate\":-832,\"vert_rate\":-832,\"seen\":0.000}]}\n",
+    "\"geom_rate\":-832,\"vert_rate\":-832,\"rssi\":-49.5,\"seen\":0.000}]}\n",
 );
 
 impl<R: Host, W: Own> Trials<'_, R, W> {

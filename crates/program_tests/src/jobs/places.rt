@@ -26,7 +26,7 @@ const JSON_WITH_PLACE: &str = concat!(
     "{\"now\":2.000,\"messages\":4,\"aircraft\":[",
     "{\"hex\":\"484175\",\"alt_baro\":\"ground\",\"altitude\":\"ground\",",
     "\"gs\":16.0,\"speed\":16,\"track\":98,",
-    "\"lat\":52.32060,\"lon\":4.73473,\"seen_pos\":0.000,\"seen\":0.000}]}\n",
+    "\"lat\":52.32060,\"lon\":4.73473,\"seen_pos\":0.000,\"rssi\":-49.5,\"seen\":0.000}]}\n",
 );
 
 const RECEIVER: &str = concat!(

@@ -1,8 +1,9 @@
-//! What an aircraft is, and which emergency it reports: members behind a comma. An absent field has none.
+//! What an aircraft is, which emergency it reports, and its signal level: members behind a comma. An absent field has none, but
+//! for the level.
 
 ghost use Rattle.std.specs.Prelude.{◌≡◌, ◌+◌, ◌≤◌, ◌++◌, length};
 ghost use Rattle.arrayvec.specs.ArrayVec.{array_vec_len};
-ghost use Rattle.station_report.specs.Json.{if_known, category_letter, category, emergency};
+ghost use Rattle.station_report.specs.Json.{if_known, category_letter, category, emergency, unknown_level};
 
 use crate::decimals::{push_number, push_text};
 use crate::json::members::Object;
@@ -50,4 +51,15 @@ pub(crate) fn push_emergency(object: &mut Object, reported: Option<Emergency>)
         Some(Emergency::UnlawfulInterference) => push_text(object, b",\"emergency\":\"unlawful\""),
         Some(Emergency::Downed) => push_text(object, b",\"emergency\":\"downed\""),
     }
+}
+
+/// Appends `rssi`, the level of the signal in decibels: -49.5, as readsb writes where no receiver gave one. The lines have no level,
+/// and dump1090's page needs the key of an aircraft that is selected.
+#[tactic(auto, unfolding(crate::specs::Json::unknown_level))]
+pub(crate) fn push_level(object: &mut Object)
+    requires { array_vec_len object.old + 16 ≤ 640 }
+    ensures items { object.new.items ≡ object.old.items ++ unknown_level }
+    ensures len { array_vec_len object.new ≤ array_vec_len object.old + 16 }
+{
+    push_text(object, b",\"rssi\":-49.5");
 }

@@ -109,11 +109,11 @@ fn callsigns_and_squawks_have_their_members(rt: HostRuntime) -> Result<(), Fail>
     let rows = [
         (
             (identified(1000), None, 61_000, "61.000"),
-            r#"{"hex":"4840d6","flight":"KLM1023","seen":60.000}"#,
+            r#"{"hex":"4840d6","flight":"KLM1023","rssi":-49.5,"seen":60.000}"#,
         ),
         (
             (squawking(), None, 1, "0.001"),
-            r#"{"hex":"510af9","squawk":"0356","seen":0.001}"#,
+            r#"{"hex":"510af9","squawk":"0356","rssi":-49.5,"seen":0.001}"#,
         ),
     ];
     have_their_objects(&rt, rt.alloc(), &rows)
@@ -124,19 +124,19 @@ fn velocities_have_their_members(rt: HostRuntime) -> Result<(), Fail> {
     let rows = [
         (
             (over_ground(-8, -159), None, 0, "0.000"),
-            r#"{"hex":"485020","gs":159.2,"speed":159,"track":183,"baro_rate":-832,"vert_rate":-832,"seen":0.000}"#,
+            r#"{"hex":"485020","gs":159.2,"speed":159,"track":183,"baro_rate":-832,"vert_rate":-832,"rssi":-49.5,"seen":0.000}"#,
         ),
         (
             (over_ground(0, 0), None, 0, "0.000"),
-            r#"{"hex":"485020","gs":0.0,"speed":0,"baro_rate":-832,"vert_rate":-832,"seen":0.000}"#,
+            r#"{"hex":"485020","gs":0.0,"speed":0,"baro_rate":-832,"vert_rate":-832,"rssi":-49.5,"seen":0.000}"#,
         ),
         (
             (through_air(true), None, 0, "0.000"),
-            r#"{"hex":"a05f21","mag_heading":243.9,"tas":375,"baro_rate":-2304,"vert_rate":-2304,"seen":0.000}"#,
+            r#"{"hex":"a05f21","mag_heading":243.9,"tas":375,"baro_rate":-2304,"vert_rate":-2304,"rssi":-49.5,"seen":0.000}"#,
         ),
         (
             (through_air(false), None, 0, "0.000"),
-            r#"{"hex":"a05f21","mag_heading":243.9,"ias":375,"baro_rate":-2304,"vert_rate":-2304,"seen":0.000}"#,
+            r#"{"hex":"a05f21","mag_heading":243.9,"ias":375,"baro_rate":-2304,"vert_rate":-2304,"rssi":-49.5,"seen":0.000}"#,
         ),
     ];
     have_their_objects(&rt, rt.alloc(), &rows)
@@ -147,11 +147,11 @@ fn aircraft_on_the_ground_have_their_members(rt: HostRuntime) -> Result<(), Fail
     let rows = [
         (
             (taxiing(14, Some(64)), None, 0, "0.000"),
-            r#"{"hex":"484175","alt_baro":"ground","altitude":"ground","gs":1.7,"speed":1,"track":180,"seen":0.000}"#,
+            r#"{"hex":"484175","alt_baro":"ground","altitude":"ground","gs":1.7,"speed":1,"track":180,"rssi":-49.5,"seen":0.000}"#,
         ),
         (
             (taxiing(1, None), None, 0, "0.000"),
-            r#"{"hex":"484175","alt_baro":"ground","altitude":"ground","gs":0.1,"speed":0,"seen":0.000}"#,
+            r#"{"hex":"484175","alt_baro":"ground","altitude":"ground","gs":0.1,"speed":0,"rssi":-49.5,"seen":0.000}"#,
         ),
     ];
     have_their_objects(&rt, rt.alloc(), &rows)
@@ -171,11 +171,11 @@ fn rates_have_the_key_of_their_source(rt: HostRuntime) -> Result<(), Fail> {
     let rows = [
         (
             (sinking(RateSource::Gnss), None, 0, "0.000"),
-            r#"{"hex":"4840d6","geom_rate":-832,"vert_rate":-832,"seen":0.000}"#,
+            r#"{"hex":"4840d6","geom_rate":-832,"vert_rate":-832,"rssi":-49.5,"seen":0.000}"#,
         ),
         (
             (sinking(RateSource::Barometric), None, 0, "0.000"),
-            r#"{"hex":"4840d6","baro_rate":-832,"vert_rate":-832,"seen":0.000}"#,
+            r#"{"hex":"4840d6","baro_rate":-832,"vert_rate":-832,"rssi":-49.5,"seen":0.000}"#,
         ),
     ];
     have_their_objects(&rt, rt.alloc(), &rows)
@@ -198,11 +198,11 @@ fn categories_and_emergencies_have_their_members(rt: HostRuntime) -> Result<(), 
     let rows = [
         (
             (distressed, Some(50), 50, "0.050"),
-            r#"{"hex":"4840d6","lat":-0.00001,"lon":-180.00000,"seen_pos":0.000,"category":"A3","emergency":"general","seen":0.050}"#,
+            r#"{"hex":"4840d6","lat":-0.00001,"lon":-180.00000,"seen_pos":0.000,"category":"A3","emergency":"general","rssi":-49.5,"seen":0.050}"#,
         ),
         (
             (relieved, None, 0, "0.000"),
-            r#"{"hex":"4840d6","lat":-0.00001,"lon":-180.00000,"category":"A3","seen":0.000}"#,
+            r#"{"hex":"4840d6","lat":-0.00001,"lon":-180.00000,"category":"A3","rssi":-49.5,"seen":0.000}"#,
         ),
     ];
     have_their_objects(&rt, rt.alloc(), &rows)
@@ -219,19 +219,19 @@ fn positions_have_their_times(rt: HostRuntime) -> Result<(), Fail> {
     let rows = [
         (
             (climbing(1000), Some(0), 1234, "1.234"),
-            r#"{"hex":"40621d","alt_baro":38000,"altitude":38000,"lat":52.26578,"lon":3.93891,"seen_pos":1.234,"seen":0.234}"#,
+            r#"{"hex":"40621d","alt_baro":38000,"altitude":38000,"lat":52.26578,"lon":3.93891,"seen_pos":1.234,"rssi":-49.5,"seen":0.234}"#,
         ),
         (
             (west(), Some(60), 50, "0.050"),
-            r#"{"hex":"4840d6","lat":-0.00001,"lon":-180.00000,"seen_pos":0.000,"seen":0.050}"#,
+            r#"{"hex":"4840d6","lat":-0.00001,"lon":-180.00000,"seen_pos":0.000,"rssi":-49.5,"seen":0.050}"#,
         ),
         (
             (west(), None, 0, "0.000"),
-            r#"{"hex":"4840d6","lat":-0.00001,"lon":-180.00000,"seen":0.000}"#,
+            r#"{"hex":"4840d6","lat":-0.00001,"lon":-180.00000,"rssi":-49.5,"seen":0.000}"#,
         ),
         (
             (BARE, Some(0), 0, "0.000"),
-            r#"{"hex":"4840d6","seen":0.000}"#,
+            r#"{"hex":"4840d6","rssi":-49.5,"seen":0.000}"#,
         ),
     ];
     have_their_objects(&rt, rt.alloc(), &rows)
@@ -244,8 +244,8 @@ fn two_aircraft_have_a_comma_between_them(rt: HostRuntime) {
     holds(&rt, are_printable);
     let line = concat!(
         r#"{"now":1700000001.234,"messages":3,"aircraft":["#,
-        r#"{"hex":"4840d6","seen":1.234},"#,
-        "{\"hex\":\"510af9\",\"squawk\":\"0356\",\"seen\":1.234}]}\n",
+        r#"{"hex":"4840d6","rssi":-49.5,"seen":1.234},"#,
+        "{\"hex\":\"510af9\",\"squawk\":\"0356\",\"rssi\":-49.5,\"seen\":1.234}]}\n",
     );
     is_line(&rt, rt.alloc(), &table, 1234, 1_700_000_000_000, 3, line);
 }
@@ -258,7 +258,7 @@ fn the_sum_of_the_largest_times_does_not_wrap(rt: HostRuntime) {
     };
     let line = concat!(
         r#"{"now":36893488147419103.230,"messages":18446744073709551615,"aircraft":["#,
-        "{\"hex\":\"4840d6\",\"seen\":0.000}]}\n",
+        "{\"hex\":\"4840d6\",\"rssi\":-49.5,\"seen\":0.000}]}\n",
     );
     let (table, largest) = (One(heard_last, None), u64::MAX);
     holds(&rt, is_printable(largest, table.0));
