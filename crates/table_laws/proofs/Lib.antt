@@ -1,0 +1,9 @@
+pub mod ShownLemmas
+pub mod FieldLemmas
+pub mod VelocityLemmas
+pub mod PlaceLemmas
+pub mod CallsignLemmas
+pub mod FrameLemmas
+pub mod RowLemmas
+pub mod WidthLemmas
+pub mod ColumnLemmas
