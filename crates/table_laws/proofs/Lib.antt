@@ -7,3 +7,8 @@ pub mod FrameLemmas
 pub mod RowLemmas
 pub mod WidthLemmas
 pub mod ColumnLemmas
+pub mod NumberLemmas
+pub mod TextLemmas
+pub mod VelocityTextLemmas
+pub mod DegreeTextLemmas
+pub mod ReadLemmas

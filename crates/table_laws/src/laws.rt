@@ -1,11 +1,13 @@
 //! Laws over the definitions alone: the lines of a table have their columns, and its values are read back from its bytes.
 
-ghost use Rattle.std.specs.Prelude.{All};
+ghost use Rattle.std.specs.Prelude.{◌≡◌, All};
+ghost use Rattle.std.specs.List.{Contains};
 ghost use Rattle.station_journal.specs.Log.{Log, IsLegal, clock_of, table_of};
 ghost use Rattle.station_journal.specs.declared.aircraft.Aircraft.{Aircraft};
 ghost use Rattle.station_report.specs.Text.{row_text};
 ghost use Rattle.table_laws.specs.Ranges.{IsInRange};
 ghost use Rattle.table_laws.specs.Columns.{IsLaidOut};
+ghost use Rattle.table_laws.specs.Reading.{read_row, shown_row};
 
 /// In the table of a legal journal each field is in the range that frames can carry.
 pub fn rows_are_in_range()
@@ -16,4 +18,15 @@ pub fn rows_are_in_range()
 pub fn rows_have_columns()
     ensures { (log : Log) → IsLegal log →
         All (λ (row : Aircraft). IsLaidOut (clock_of log) row (row_text (clock_of log) row)) (table_of log) }
+{}
+
+/// All that a row of the table of a legal journal shows is read back from the bytes of its line. So two rows with the same
+/// line, of any two tables, show the same.
+pub fn rows_read_back()
+    ensures reading { (log : Log) → IsLegal log →
+        All (λ (row : Aircraft). read_row (row_text (clock_of log) row) ≡ shown_row (clock_of log) row) (table_of log) }
+    ensures same { (log other : Log) → IsLegal log → IsLegal other → (row found : Aircraft) →
+        Contains (table_of log) row → Contains (table_of other) found →
+        row_text (clock_of log) row ≡ row_text (clock_of other) found →
+        shown_row (clock_of log) row ≡ shown_row (clock_of other) found }
 {}
