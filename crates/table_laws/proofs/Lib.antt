@@ -12,3 +12,7 @@ pub mod TextLemmas
 pub mod VelocityTextLemmas
 pub mod DegreeTextLemmas
 pub mod ReadLemmas
+pub mod JsonTextLemmas
+pub mod JsonNumberLemmas
+pub mod JsonFieldLemmas
+pub mod JsonLineLemmas

@@ -1,3 +1,5 @@
 pub mod Ranges
 pub mod Columns
 pub mod Reading
+pub mod JsonValue
+pub mod JsonLine

@@ -1,13 +1,16 @@
 //! Laws over the definitions alone: the lines of a table have their columns, and its values are read back from its bytes.
 
-ghost use Rattle.std.specs.Prelude.{◌≡◌, All};
+ghost use Rattle.std.specs.Prelude.{◌≡◌, ℕ, ◌<◌, ◌^◌, All};
 ghost use Rattle.std.specs.List.{Contains};
-ghost use Rattle.station_journal.specs.Log.{Log, IsLegal, clock_of, table_of};
+ghost use Rattle.station_journal.specs.Log.{Log, IsLegal, clock_of, table_of, placed_of};
 ghost use Rattle.station_journal.specs.declared.aircraft.Aircraft.{Aircraft};
+ghost use Rattle.station_report.specs.Json.{json};
 ghost use Rattle.station_report.specs.Text.{row_text};
 ghost use Rattle.table_laws.specs.Ranges.{IsInRange};
 ghost use Rattle.table_laws.specs.Columns.{IsLaidOut};
 ghost use Rattle.table_laws.specs.Reading.{read_row, shown_row};
+ghost use Rattle.table_laws.specs.JsonLine.{IsJsonLine};
+ghost use Rattle.table_laws.specs.JsonValue.{table_value};
 
 /// In the table of a legal journal each field is in the range that frames can carry.
 pub fn rows_are_in_range()
@@ -29,4 +32,13 @@ pub fn rows_read_back()
         Contains (table_of log) row → Contains (table_of other) found →
         row_text (clock_of log) row ≡ row_text (clock_of other) found →
         shown_row (clock_of log) row ≡ shown_row (clock_of other) found }
+{}
+
+/// The JSON of the table of a legal journal is one value and a line feed. The grammar of the crate `json` (RFC 8259) reads
+/// it, and what it reads is the table's value, member by member. Times in milliseconds and the number of entries are those
+/// of 64 bits.
+pub fn json_reads_back()
+    ensures { (log : Log) (origin entries : ℕ) → IsLegal log → clock_of log < 2 ^ 64 → origin < 2 ^ 64 → entries < 2 ^ 64 →
+        IsJsonLine (json (table_of log) (placed_of log) (clock_of log) origin entries)
+        (table_value (table_of log) (placed_of log) (clock_of log) origin entries) }
 {}
