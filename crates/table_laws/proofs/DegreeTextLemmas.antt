@@ -8,15 +8,15 @@ use Rattle.modes_cpr.specs.declared.points.Degrees.{Degrees}
 use Rattle.modes_cpr.specs.declared.points.Position.{Position}
 use Rattle.station_report.specs.Text.{five_digits, hundred_thousandths, degrees_sign, parts_text, degrees_text, latitude_text, longitude_text}
 use Rattle.table_laws.specs.Ranges.{IsWithin, IsOnEarth}
-use Rattle.table_laws.specs.Reading.{shown_degrees, shown_latitude, shown_longitude, read_number, read_signed, read_degrees}
+use Rattle.table_laws.specs.Reading.{shown_degrees, shown_latitude, shown_longitude, read_number, read_signed, read_units}
 use Rattle.table_laws.proofs.NumberLemmas.{IsDecimal, AreDecimals, each_append, decimal_digits, digits-five, read_digits, read_number-decimal, read_number-five}
 use Rattle.table_laws.proofs.TextLemmas.{IsNoSpace, StartsAs, IsReadAs, starts_weaker, starts_before, decimal_starts, long_is_no_dash}
 use Rattle.table_laws.proofs.WidthLemmas.{hundred_thousandths-lt, within_more}
 
-abbrev is_no_point : ℕ → Bool
+abbrev pub is_no_point : ℕ → Bool
 is_no_point c = not (c == 46)
 
-digits_stay : (ds : List ℕ) → AreDecimals ds → filter is_no_point ds ≡ ds
+pub digits_stay : (ds : List ℕ) → AreDecimals ds → filter is_no_point ds ≡ ds
 digits_stay [] h = refl
 digits_stay (c ∷ cs) h =
     let digit = h.0 in
@@ -65,7 +65,7 @@ module _ (whole part : ℕ) (few : whole < 1000) (small : part < 100000) where
       let p = eqb-true part 0 both.1 in
       omega arith
 
-  pub parts_back : (negative : Bool) → read_degrees (parts_text negative whole part) ≡ (if negative then neg_ℤ (pos (100000 * whole + part)) else pos (100000 * whole + part))
+  pub parts_back : (negative : Bool) → read_units (parts_text negative whole part) ≡ (if negative then neg_ℤ (pos (100000 * whole + part)) else pos (100000 * whole + part))
   parts_back negative = ap read_signed (pointless negative) ∙ signed_by negative (whole == 0 && part == 0) nothing
 
   starts_by : (negative is_zero : Bool) → StartsAs IsNoSpace (degrees_sign negative is_zero ++ decimal whole)
@@ -83,7 +83,7 @@ module _ (whole part : ℕ) (few : whole < 1000) (small : part < 100000) where
   unfolding five_digits
   parts_long negative = omega (arith, length-append (degrees_sign negative (whole == 0 && part == 0) ++ decimal whole ++ codes ".") (five_digits part))
 
-degrees_back : (angle : Degrees) → IsWithin 180 angle → IsReadAs (degrees_text angle) read_degrees (shown_degrees angle)
+degrees_back : (angle : Degrees) → IsWithin 180 angle → IsReadAs (degrees_text angle) read_units (shown_degrees angle)
 unfolding degrees_text
 degrees_back angle h =
     let n = hundred_thousandths angle in
@@ -98,8 +98,8 @@ degrees_back angle h =
       gives = parts_back (n / 100000) (n % 100000) few below negative ∙ ap (λ m. if negative then neg_ℤ (pos m) else pos m) whole;
     }
 
-pub latitude_back : (position : Position) → IsOnEarth position → IsReadAs (latitude_text position) read_degrees (shown_latitude position)
+pub latitude_back : (position : Position) → IsOnEarth position → IsReadAs (latitude_text position) read_units (shown_latitude position)
 latitude_back position h = degrees_back position.lat (within_more position.lat h.lat)
 
-pub longitude_back : (position : Position) → IsOnEarth position → IsReadAs (longitude_text position) read_degrees (shown_longitude position)
+pub longitude_back : (position : Position) → IsOnEarth position → IsReadAs (longitude_text position) read_units (shown_longitude position)
 longitude_back position h = degrees_back position.lon h.lon

@@ -16,3 +16,4 @@ pub mod JsonTextLemmas
 pub mod JsonNumberLemmas
 pub mod JsonFieldLemmas
 pub mod JsonLineLemmas
+pub mod NumberTextLemmas

@@ -1,12 +1,12 @@
 -- Numbers are read back from their digits.
-use Rattle.std.proofs.Common.{◌≡◌, ℕ, suc, ◌+◌, ◌-◌, ◌*◌, ◌/◌, ◌%◌, ◌^◌, ◌<◌, ◌≤◌, nat_lt, if◌then◌else◌, List, [], ◌∷◌, ◌++◌, length, ℤ, pos, negsuc, neg_ℤ, unsigned_abs, ap, ◌∙◌, arith, decimal, ne_eqb}
+use Rattle.std.proofs.Common.{◌≡◌, ℕ, suc, ◌+◌, ◌-◌, ◌*◌, ◌/◌, ◌%◌, ◌^◌, ◌<◌, ◌≤◌, if◌then◌else◌, List, [], ◌∷◌, ◌++◌, length, ℤ, pos, negsuc, neg_ℤ, unsigned_abs, ap, ◌∙◌, arith, decimal, ne_eqb}
 use Rattle.std.specs.Fmt.{signed_decimal}
 use Rattle.std.specs.List.{AllByRecursion}
 use Rattle.std.proofs.lemmas.Bool.Decides.{nat_tests}
 use Rattle.std.proofs.lemmas.Fmt.{decimal_by_steps, decimal_nonempty}
 use Rattle.std.proofs.lemmas.List.Sums.{fold-append}
 use Rattle.station_report.specs.Text.{hex_digit, address_text, squawk_text, five_digits}
-use Rattle.table_laws.specs.Reading.{read_number, read_octal, read_hex, read_signed}
+use Rattle.table_laws.specs.Reading.{read_number, read_octal, read_hex, hex_value, read_signed}
 
 -- ---- digits
 
@@ -49,22 +49,27 @@ read_signed-signed (negsuc n) small = ap (λ m. neg_ℤ (pos m)) (read_number-de
 
 -- ---- of other bases
 
-hex_back : (d : ℕ) → d < 16 → (if nat_lt (hex_digit d) 58 then hex_digit d - 48 else hex_digit d - 55) ≡ d
-hex_back d small = grind (arith, nat_tests)
+module _ (digit : ℕ → ℕ) (back : (d : ℕ) → d < 16 → hex_value (digit d) ≡ d) where
+  six : (a b c d e f : ℕ) → a < 16 → b < 16 → c < 16 → d < 16 → e < 16 → f < 16
+      → read_hex (digit a ∷ digit b ∷ digit c ∷ digit d ∷ digit e ∷ digit f ∷ []) ≡ 16 * (16 * (16 * (16 * (16 * a + b) + c) + d) + e) + f
+  unfolding read_hex
+  six a b c d e f la lb lc ld le lf =
+      let step : ℕ → ℕ → ℕ = λ n v. 16 * n + v in
+      (λ i. step (step (step (step (step (step 0 (back a la i)) (back b lb i)) (back c lc i)) (back d ld i)) (back e le i)) (back f lf i))
+      ∙ omega arith
 
-six : (a b c d e f : ℕ) → a < 16 → b < 16 → c < 16 → d < 16 → e < 16 → f < 16
-    → read_hex (hex_digit a ∷ hex_digit b ∷ hex_digit c ∷ hex_digit d ∷ hex_digit e ∷ hex_digit f ∷ []) ≡ 16 * (16 * (16 * (16 * (16 * a + b) + c) + d) + e) + f
-unfolding read_hex
-six a b c d e f la lb lc ld le lf =
-    let step : ℕ → ℕ → ℕ = λ n v. 16 * n + v in
-    (λ i. step (step (step (step (step (step 0 (hex_back a la i)) (hex_back b lb i)) (hex_back c lc i)) (hex_back d ld i)) (hex_back e le i)) (hex_back f lf i))
-    ∙ omega arith
+  pub read_six : (a : ℕ) → a < 2 ^ 24
+      → read_hex (digit (a / 1048576 % 16) ∷ digit (a / 65536 % 16) ∷ digit (a / 4096 % 16) ∷ digit (a / 256 % 16) ∷ digit (a / 16 % 16) ∷ digit (a % 16) ∷ []) ≡ a
+  read_six a small =
+      six (a / 1048576 % 16) (a / 65536 % 16) (a / 4096 % 16) (a / 256 % 16) (a / 16 % 16) (a % 16) (omega arith) (omega arith) (omega arith) (omega arith) (omega arith) (omega arith)
+      ∙ omega arith
+
+upper_back : (d : ℕ) → d < 16 → hex_value (hex_digit d) ≡ d
+upper_back d small = grind (arith, nat_tests)
 
 pub read_hex-address : (a : ℕ) → a < 2 ^ 24 → read_hex (address_text a) ≡ a
 unfolding address_text
-read_hex-address a small =
-    six (a / 1048576 % 16) (a / 65536 % 16) (a / 4096 % 16) (a / 256 % 16) (a / 16 % 16) (a % 16) (omega arith) (omega arith) (omega arith) (omega arith) (omega arith) (omega arith)
-    ∙ omega arith
+read_hex-address a small = read_six hex_digit upper_back a small
 
 pub read_octal-squawk : (code : ℕ) → code < 4096 → read_octal (squawk_text code) ≡ code
 unfolding squawk_text read_octal

@@ -8,7 +8,7 @@ use Rattle.station_journal.specs.declared.aircraft.Aircraft.{Aircraft}
 use Rattle.station_journal.proofs.Common.{IsLegal, Log, clock_of, table_of}
 use Rattle.station_report.specs.Text.{right, or_dash, altitude_text, squawk_text, velocity_text, latitude_text, longitude_text, row_text}
 use Rattle.table_laws.specs.Ranges.{IsAltitude, IsRate, IsVelocity, IsOnEarth, IsInRange}
-use Rattle.table_laws.specs.Reading.{shown_velocity, shown_latitude, shown_longitude, shown_row, is_on_ground, after_spaces, starts_with, read_field, read_number, read_octal, read_hex, read_signed, read_degrees, read_velocity, read_altitude, read_row}
+use Rattle.table_laws.specs.Reading.{shown_velocity, shown_latitude, shown_longitude, shown_row, is_on_ground, after_spaces, starts_with, read_field, read_number, read_octal, read_hex, read_signed, read_units, read_velocity, read_altitude, read_row}
 use Rattle.table_laws.proofs.NumberLemmas.{IsDecimal, read_number-decimal, read_hex-address, read_octal-squawk, read_signed-signed}
 use Rattle.table_laws.proofs.TextLemmas.{IsNoSpace, StartsAs, IsReadAs, IsNumeric, after_spaces-right, read_right, mapped_itself, starts_weaker, decimal_starts, signed_starts, signed_is_no_dash, read_callsign}
 use Rattle.table_laws.proofs.VelocityTextLemmas.{velocity_back}
@@ -100,8 +100,8 @@ row_back now row h =
     let squawk = ap (λ text. read_field read_octal (after_spaces text)) at.squawk ∙ read_squawk row.squawk h.squawk in
     let velocity = ap (λ text. read_field read_velocity (after_spaces text)) at.velocity ∙ read_right IsVelocity velocity_text read_velocity shown_velocity 12 velocity_back row.velocity h.velocity in
     let vertical = ap (λ text. read_field read_signed (after_spaces text)) at.vertical ∙ read_rate row.vertical h.vertical in
-    let latitude = ap (λ text. read_field read_degrees (after_spaces text)) at.latitude ∙ read_right IsOnEarth latitude_text read_degrees shown_latitude 10 latitude_back row.position h.position in
-    let longitude = ap (λ text. read_field read_degrees (after_spaces text)) at.longitude ∙ read_right IsOnEarth longitude_text read_degrees shown_longitude 10 longitude_back row.position h.position in
+    let latitude = ap (λ text. read_field read_units (after_spaces text)) at.latitude ∙ read_right IsOnEarth latitude_text read_units shown_latitude 10 latitude_back row.position h.position in
+    let longitude = ap (λ text. read_field read_units (after_spaces text)) at.longitude ∙ read_right IsOnEarth longitude_text read_units shown_longitude 10 longitude_back row.position h.position in
     let age = ap (λ text. read_number (after_spaces text)) at.age ∙ read_age ((now - row.heard) / 1000) (omega arith) in
     λ i. record {
       address = address i;

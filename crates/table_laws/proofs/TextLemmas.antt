@@ -84,17 +84,17 @@ decimal_starts n small = starts_from_each IsDecimal (decimal n) (decimal_nonempt
 
 -- a digit or a minus sign
 abbrev pub IsNumeric : ℕ → Type 0
-IsNumeric c = (45 ≤ c) × (c ≤ 57) × (c ≢ 47)
+IsNumeric c = (45 ≤ c) × (c ≤ 57) × (c ≢ 47) × (c ≢ 46)
 
 numeric_digit : (c : ℕ) → IsDecimal c → IsNumeric c
-numeric_digit c h = let low = h.0 in let high = h.1 in (omega arith, omega arith, λ e. omega (arith, e))
+numeric_digit c h = let low = h.0 in let high = h.1 in (omega arith, omega arith, λ e. omega (arith, e), λ e. omega (arith, e))
 
 pub decimal_numeric : (n : ℕ) → n < 2 ^ 64 → AllByRecursion IsNumeric (decimal n)
 decimal_numeric n small = each_weaker IsDecimal IsNumeric numeric_digit (decimal n) (decimal_digits n small)
 
 pub signed_numeric : (z : ℤ) → unsigned_abs z < 2 ^ 63 → AllByRecursion IsNumeric (signed_decimal z)
 signed_numeric (pos n) small = decimal_numeric n (omega arith)
-signed_numeric (negsuc n) small = ((omega arith, omega arith, λ e. omega (arith, e)), decimal_numeric (suc n) (omega arith))
+signed_numeric (negsuc n) small = ((omega arith, omega arith, λ e. omega (arith, e), λ e. omega (arith, e)), decimal_numeric (suc n) (omega arith))
 
 pub signed_nonempty : (z : ℤ) → unsigned_abs z < 2 ^ 63 → 0 < length (signed_decimal z)
 signed_nonempty (pos n) small = decimal_nonempty n (omega arith)

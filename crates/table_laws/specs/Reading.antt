@@ -109,18 +109,23 @@ read_number digits = fold (λ n c. 10 * n + (c - 48)) 0 digits
 unfoldable pub read_octal : List ℕ → ℕ
 read_octal digits = fold (λ n c. 8 * n + (c - 48)) 0 digits
 
--- of hexadecimal digits, letters in upper case
+-- a hexadecimal digit, a letter in upper or in lower case
+abbrev pub hex_value : ℕ → ℕ
+hex_value c = if nat_lt c 58 then c - 48 else (if nat_lt c 97 then c - 55 else c - 87)
+
+-- of hexadecimal digits
 unfoldable pub read_hex : List ℕ → ℕ
-read_hex digits = fold (λ n c. 16 * n + (if nat_lt c 58 then c - 48 else c - 55)) 0 digits
+read_hex digits = fold (λ n c. 16 * n + hex_value c) 0 digits
 
 -- of decimal digits, with a minus sign before them or none
 abbrev pub read_signed : List ℕ → ℤ
 read_signed [] = pos 0
 read_signed (c ∷ cs) = if c == 45 then neg_ℤ (pos (read_number cs)) else pos (read_number (c ∷ cs))
 
--- degrees with five decimals, in 1/100,000 degree: the same without the point
-abbrev pub read_degrees : List ℕ → ℤ
-read_degrees text = read_signed (filter (λ c. not (c == 46)) text)
+-- of decimal digits with a point among them or none, and a minus sign before them or none, in units of the last decimal: the
+-- same without the point
+abbrev pub read_units : List ℕ → ℤ
+read_units text = read_signed (filter (λ c. not (c == 46)) text)
 
 -- H and the heading, a slash, T or I and the airspeed; or G and the speed, a slash, and the track or a dash; or the speeds to the
 -- east and to the north with a slash between them
@@ -150,7 +155,7 @@ read_row line = record {
   squawk = read_field read_octal (right_column 24 27 line);
   velocity = read_field read_velocity (right_column 29 40 line);
   vertical = read_field read_signed (right_column 42 47 line);
-  latitude = read_field read_degrees (right_column 49 58 line);
-  longitude = read_field read_degrees (right_column 60 69 line);
+  latitude = read_field read_units (right_column 49 58 line);
+  longitude = read_field read_units (right_column 60 69 line);
   age = read_number (right_column 71 73 line);
 }

@@ -1,15 +1,17 @@
 //! Laws over the definitions alone: the lines of a table have their columns, and its values are read back from its bytes.
 
-ghost use Rattle.std.specs.Prelude.{◌≡◌, ℕ, ◌<◌, ◌^◌, All};
+ghost use Rattle.std.specs.Prelude.{◌≡◌, ℕ, ◌<◌, ◌^◌, ℤ, pos, unsigned_abs, All};
+ghost use Rattle.std.specs.Fmt.{decimal, signed_decimal};
 ghost use Rattle.std.specs.List.{Contains};
 ghost use Rattle.station_journal.specs.Log.{Log, IsLegal, clock_of, table_of, placed_of};
 ghost use Rattle.station_journal.specs.declared.aircraft.Aircraft.{Aircraft};
-ghost use Rattle.station_report.specs.Json.{json};
-ghost use Rattle.station_report.specs.Text.{row_text};
-ghost use Rattle.table_laws.specs.Ranges.{IsInRange};
+ghost use Rattle.modes_cpr.specs.declared.points.Position.{Position};
+ghost use Rattle.station_report.specs.Json.{json, low_address, seconds, tenths};
+ghost use Rattle.station_report.specs.Text.{latitude_text, longitude_text, row_text, squawk_text};
+ghost use Rattle.table_laws.specs.Ranges.{IsInRange, IsOnEarth};
 ghost use Rattle.table_laws.specs.Columns.{IsLaidOut};
-ghost use Rattle.table_laws.specs.Reading.{read_row, shown_row};
-ghost use Rattle.table_laws.specs.JsonLine.{IsJsonLine};
+ghost use Rattle.table_laws.specs.Reading.{read_hex, read_octal, read_row, shown_latitude, shown_longitude, shown_row};
+ghost use Rattle.table_laws.specs.JsonLine.{IsJsonLine, Spells};
 ghost use Rattle.table_laws.specs.JsonValue.{table_value};
 
 /// In the table of a legal journal each field is in the range that frames can carry.
@@ -41,4 +43,17 @@ pub fn json_reads_back()
     ensures { (log : Log) (origin entries : ℕ) → IsLegal log → clock_of log < 2 ^ 64 → origin < 2 ^ 64 → entries < 2 ^ 64 →
         IsJsonLine (json (table_of log) (placed_of log) (clock_of log) origin entries)
         (table_value (table_of log) (placed_of log) (clock_of log) origin entries) }
+{}
+
+/// What the texts of that value say. A number is read back from its text, with its decimals, and so are an address and a
+/// squawk.
+pub fn values_read_back()
+    ensures whole { (z : ℤ) → unsigned_abs z < 2 ^ 63 → Spells (signed_decimal z) z 0 }
+    ensures natural { (n : ℕ) → n < 2 ^ 64 → Spells (decimal n) (pos n) 0 }
+    ensures tenths { (n : ℕ) → n < 2 ^ 64 → Spells (tenths n) (pos n) 1 }
+    ensures thousandths { (n : ℕ) → n < 2 ^ 65 → Spells (seconds n) (pos n) 3 }
+    ensures latitude { (p : Position) → IsOnEarth p → Spells (latitude_text p) (shown_latitude p) 5 }
+    ensures longitude { (p : Position) → IsOnEarth p → Spells (longitude_text p) (shown_longitude p) 5 }
+    ensures address { (a : ℕ) → a < 2 ^ 24 → read_hex (low_address a) ≡ a }
+    ensures squawk { (code : ℕ) → code < 4096 → read_octal (squawk_text code) ≡ code }
 {}
