@@ -17,3 +17,4 @@ pub mod JsonNumberLemmas
 pub mod JsonFieldLemmas
 pub mod JsonLineLemmas
 pub mod NumberTextLemmas
+pub mod TableTextLemmas

@@ -1,5 +1,5 @@
 -- What a row shows, and how it is read from the bytes of its line.
-use Rattle.std.specs.Prelude.{ℕ, ◌+◌, ◌-◌, ◌*◌, ◌/◌, nat_lt, ◌==◌, not, Bool, false, ℤ, pos, neg_ℤ, List, [], ◌∷◌, drop, Option, Some, None, if◌then◌else◌}
+use Rattle.std.specs.Prelude.{ℕ, zero, suc, length, take, map, ◌+◌, ◌-◌, ◌*◌, ◌/◌, nat_lt, ◌==◌, not, Bool, false, ℤ, pos, neg_ℤ, List, [], ◌∷◌, drop, Option, Some, None, if◌then◌else◌}
 use Rattle.std.specs.Int.{is_negative}
 use Rattle.std.specs.List.{fold, filter}
 use Rattle.std.specs.Option.{option_map}
@@ -159,3 +159,20 @@ read_row line = record {
   longitude = read_field read_units (right_column 60 69 line);
   age = read_number (right_column 71 73 line);
 }
+
+-- ---- whole tables
+
+-- what comes after the first line
+abbrev pub after_line : List ℕ → List ℕ
+after_line [] = []
+after_line (c ∷ cs) = if c == 10 then cs else after_line cs
+
+-- the text in at most n lines of 74 bytes each
+abbrev pub row_lines : ℕ → List ℕ → List (List ℕ)
+row_lines zero text = []
+row_lines (suc n) [] = []
+row_lines (suc n) (c ∷ cs) = take 74 (c ∷ cs) ∷ row_lines n (drop 74 (c ∷ cs))
+
+-- the rows of a table, which begin after its first two lines
+abbrev pub read_table : List ℕ → List ShownRow
+read_table text = map read_row (row_lines (length text) (after_line (after_line text)))

@@ -1,16 +1,16 @@
 //! Laws over the definitions alone: the lines of a table have their columns, and its values are read back from its bytes.
 
-ghost use Rattle.std.specs.Prelude.{◌≡◌, ℕ, ◌<◌, ◌^◌, ℤ, pos, unsigned_abs, All};
+ghost use Rattle.std.specs.Prelude.{◌≡◌, ℕ, ◌<◌, ◌^◌, ℤ, pos, unsigned_abs, map, All};
 ghost use Rattle.std.specs.Fmt.{decimal, signed_decimal};
 ghost use Rattle.std.specs.List.{Contains};
 ghost use Rattle.station_journal.specs.Log.{Log, IsLegal, clock_of, table_of, placed_of};
 ghost use Rattle.station_journal.specs.declared.aircraft.Aircraft.{Aircraft};
 ghost use Rattle.modes_cpr.specs.declared.points.Position.{Position};
 ghost use Rattle.station_report.specs.Json.{json, low_address, seconds, tenths};
-ghost use Rattle.station_report.specs.Text.{latitude_text, longitude_text, row_text, squawk_text};
+ghost use Rattle.station_report.specs.Text.{latitude_text, longitude_text, row_text, squawk_text, text};
 ghost use Rattle.table_laws.specs.Ranges.{IsInRange, IsOnEarth};
 ghost use Rattle.table_laws.specs.Columns.{IsLaidOut};
-ghost use Rattle.table_laws.specs.Reading.{read_hex, read_octal, read_row, shown_latitude, shown_longitude, shown_row};
+ghost use Rattle.table_laws.specs.Reading.{read_hex, read_octal, read_row, read_table, shown_latitude, shown_longitude, shown_row};
 ghost use Rattle.table_laws.specs.JsonLine.{IsJsonLine, Spells};
 ghost use Rattle.table_laws.specs.JsonValue.{table_value};
 
@@ -34,6 +34,13 @@ pub fn rows_read_back()
         Contains (table_of log) row → Contains (table_of other) found →
         row_text (clock_of log) row ≡ row_text (clock_of other) found →
         shown_row (clock_of log) row ≡ shown_row (clock_of other) found }
+{}
+
+/// So the rows that a table of a legal journal shows are read back, in their order, from its text: of two tables with the
+/// same text both show the same. Its time is one of 64 bits.
+pub fn tables_are_read()
+    ensures { (log : Log) → IsLegal log → clock_of log < 2 ^ 64 →
+        read_table (text (table_of log) (clock_of log)) ≡ map (shown_row (clock_of log)) (table_of log) }
 {}
 
 /// The JSON of the table of a legal journal is one value and a line feed. The grammar of the crate `json` (RFC 8259) reads
