@@ -1,9 +1,9 @@
 //! Pumps over a desk.
 use crate::comparing::{same, same_at};
 use crate::fakes::{IDENTIFICATION_BYTES, Pieces, counted, frame_of, new_desk, new_desk_or_again};
-use station_desk::{Desk, DeskFeed, pump_desk};
 use station_journal::{Entry, Journal, Rows};
 use station_lines::{PumpFault, Tally, pump};
+use station_replay::{Desk, DeskFeed, pump_desk};
 use std::alloc::Global;
 use std::process::Abort;
 use std::sync::Wait;

@@ -1,13 +1,13 @@
 //! Sources, sinks and desks for tests, and what is counted of their lines.
 ghost use Rattle.std.specs.Prelude.{◌≡◌, ◌≤◌, None, false};
-ghost use Rattle.station_desk.specs.Desk.{most_aircraft};
+ghost use Rattle.station_book.specs.JournalBook.{most_aircraft};
 
 use arrayvec::ArrayVec;
 use modes_cpr::Reference;
 use modes_frame::Frame;
-use station_desk::Desk;
 use station_journal::Limits;
 use station_lines::{Source, Tally};
+use station_replay::Desk;
 use station_report::{Failed, Sink};
 use std::alloc::Global;
 use std::process::Abort;

@@ -1,4 +1,4 @@
-//! Tests of station_lines and station_desk by their public calls.
+//! Tests of station_lines and station_replay by their public calls.
 #![tactic(auto)]
 
 #[cfg(test)]

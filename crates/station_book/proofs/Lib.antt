@@ -13,4 +13,5 @@ pub mod PaddedLemmas
 pub mod DigestLemmas
 pub mod CatchingLemmas
 pub mod ForgettingLemmas
+pub mod JournalBookLemmas
 pub mod RoomLemmas

@@ -3,3 +3,4 @@ pub mod Tracks
 pub mod Digests
 pub mod State
 pub mod Matching
+pub mod JournalBook

@@ -8,6 +8,8 @@ mod copying;
 mod first_frames;
 pub mod laws;
 mod table;
+mod verdicts;
 
 pub use book::Book;
 pub use call::{Call, Change};
+pub use verdicts::verdict;

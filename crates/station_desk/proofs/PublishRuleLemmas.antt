@@ -6,7 +6,7 @@ use lib.ListN.{get_elem?}
 use Rattle.crossbeam_utils.specs.Register.{Admits, TurnsAt, Turns, Forks, Merges}
 use Rattle.atomic_table.proofs.Lists.{at_set, at_snoc, set_again}
 use Rattle.station_desk.proofs.Common.{Sheet, IsPublished, IsOfSheet, SawPublished, GoesOn, Follows, mark_of, Mark, Origin}
-use Rattle.station_desk.proofs.FrontLemmas.{prefix_refl, prefix_trans}
+use Rattle.station_history.proofs.FrontLemmas.{prefix_refl, prefix_trans}
 
 some_mark : (k l : Mark) → Some k ≡ Some l → k ≡ l
 some_mark k l e = cc

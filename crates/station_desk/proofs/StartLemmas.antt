@@ -6,7 +6,8 @@ use Rattle.station_journal.proofs.Common.{IsFirstUnsound, Sound, IsSound, LegalF
 use Rattle.station_journal.specs.declared.limits.Limits.{Limits}
 use Rattle.station_journal.proofs.SoundLemmas.{sound_by_counts, sound_by_fits, legal_resumed}
 use Rattle.station_book.proofs.Common.{BookState, Matches}
-use Rattle.station_desk.proofs.Common.{Known, base_of, Sheet, sheet, Follows, BeginsWith, Origin}
+use Rattle.station_history.proofs.Common.{Known, base_of}
+use Rattle.station_desk.proofs.Common.{Sheet, sheet, Follows, BeginsWith, Origin}
 
 -- the older part of a sound past is sound
 sound_behind : (n base : ℕ) (newer past : List Entry) → Sound n base (newer ++ past) → Sound n base past

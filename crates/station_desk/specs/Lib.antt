@@ -1,13 +1,2 @@
 pub mod Desk
-pub mod DeskFeed
-pub mod DeskPump
-pub mod History
-pub mod Replay
-pub mod ReplayLaws
-pub mod FullLimits
-pub mod FullLimitLaws
-pub mod Forgetting
-pub mod ForgettingReplay
-pub mod ForgettingLaws
 pub mod Published
-pub mod Start

@@ -9,8 +9,8 @@ use Rattle.station_book.specs.State.{BookState, caught_up, book_offered}
 use Rattle.station_book.specs.declared.call.Change.{Change}
 use Rattle.station_book.specs.declared.call.Call.{Call}
 use Rattle.station_book.specs.Matching.{Matches}
-use Rattle.station_desk.specs.History.{Known, Name, base_of}
-use Rattle.station_desk.specs.Start.{Start, log_of, origin_of, start_at}
+use Rattle.station_history.specs.History.{Known, Name, base_of}
+use Rattle.station_history.specs.Start.{Start, log_of}
 use Rattle.station_desk.specs.declared.publisher.NextCopy.{NextCopy}
 use Rattle.station_desk.specs.declared.published.Mark.{Mark}
 use Rattle.station_desk.specs.declared.published.Origin.{Origin}
@@ -37,6 +37,14 @@ sheet_of copy = sheet copy.book copy.front copy.origin
 -- what is published next: the spare copy, brought up to date, with one call more
 abbrev pub next_sheet : {n : ℕ} → PublishedTable n → PublishedTable n → Call → NextCopy → Sheet
 next_sheet {n} shown spare call next = sheet (book_offered n (brought_up n shown.book next.missing_change spare.book) call) next.front shown.origin
+
+-- what is published of a station beside its history
+abbrev pub origin_of : Start → Origin
+origin_of start = record { limits = start.limits; resumed = start.resumed }
+
+-- how the station of this history began
+abbrev pub start_at : Name → Origin → Start
+start_at history origin = record { history = history; limits = origin.limits; resumed = origin.resumed }
 
 -- the entries are legal for the station, where there is one
 abbrev pub LegalUnder : Name → Option Origin → List Entry → Type 0

@@ -5,16 +5,16 @@ ghost use Rattle.left_right.specs.Sides.{view};
 ghost use Rattle.station_journal.specs.Log.{most_entries};
 ghost use Rattle.station_journal.specs.Resume.{Refuses};
 ghost use Rattle.station_book.specs.Matching.{Matches};
-ghost use Rattle.station_desk.specs.History.{base_of};
+ghost use Rattle.station_history.specs.History.{base_of};
 ghost use Rattle.station_desk.specs.Published.{IsOf};
-ghost use Rattle.station_desk.specs.Desk.{most_aircraft};
+ghost use Rattle.station_book.specs.JournalBook.{most_aircraft};
 
-use crate::history::History;
 use crate::publish_rule::{PublishRule, ReaderPlace};
 use crate::published::{Mark, NoOperation, Origin, PublishedTable};
 use crate::publisher::{Publisher, begin, blank, give_up, new_place};
 use crossbeam_utils::rule::Protocol;
 use left_right::Absorb;
+use station_history::History;
 use station_journal::{Entry, Limits, NoMemory, ResumeFault};
 use std::alloc::{AllocError, Global};
 use std::marker::Model;
@@ -71,7 +71,7 @@ where
 {
     ghost use Rattle.std.specs.Prelude.{◌≡◌, [], None, drop, vec_len};
     ghost use Rattle.station_book.specs.State.{starting};
-    ghost use Rattle.station_desk.specs.History.{base_of};
+    ghost use Rattle.station_history.specs.History.{base_of};
     ghost use Rattle.station_desk.specs.Published.{Prepared};
 
     ghost Value = { Prepared };

@@ -1,7 +1,7 @@
 //! What is published to readers. There are two copies of it, and the desk changes the one that nobody reads.
-use crate::history::Front;
 use left_right::Absorb;
 use station_book::Book;
+use station_history::Front;
 use station_journal::Limits;
 use std::alloc::AllocError;
 

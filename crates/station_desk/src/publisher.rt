@@ -5,15 +5,15 @@ ghost use Rattle.station_book.specs.State.{starting};
 ghost use Rattle.station_book.specs.Matching.{Matches, book_after};
 ghost use Rattle.station_journal.specs.Follow.{IsFirstUnsound};
 ghost use Rattle.station_journal.specs.Log.{most_entries};
-ghost use Rattle.station_desk.specs.History.{base_of};
+ghost use Rattle.station_history.specs.History.{base_of};
 ghost use Rattle.station_desk.specs.Published.{Follows, sheet, sheet_of, next_sheet, brought_up, mark_of, BeginsWith};
 
-use crate::history::{Front, History};
 use crate::publish_rule::{PassesView, PublishRule, ReaderPlace, SeesPublished};
 use crate::published::{Mark, NoOperation, Origin, PublishedTable};
 use core::mem::replace_with;
 use left_right::writer::Writer;
 use station_book::{Book, Call, Change};
+use station_history::{Front, History};
 use station_journal::Entry;
 use std::alloc::AllocError;
 use std::sync::Wait;

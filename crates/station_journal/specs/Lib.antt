@@ -6,6 +6,7 @@ pub mod Table
 pub mod Airborne
 pub mod Repeats
 pub mod Verdict
+pub mod FullLimit
 pub mod Log
 pub mod Follow
 pub mod Track

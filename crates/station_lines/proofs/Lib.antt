@@ -5,4 +5,5 @@ pub mod DrawingLemmas
 pub mod ParsedLemmas
 pub mod PieceLemmas
 pub mod PumpLemmas
+pub mod FeedLemmas
 pub mod TallyLemmas

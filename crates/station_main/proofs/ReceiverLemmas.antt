@@ -8,7 +8,7 @@ use Rattle.station_lines.specs.Source.{SourceState}
 use Rattle.station_report.specs.Sink.{SinkState}
 use native.Mathlib.Decide.{dec_lt}
 use Rattle.station_journal.specs.declared.entry.Entry.{Entry}
-use Rattle.station_desk.specs.Start.{Start}
+use Rattle.station_history.specs.Start.{Start}
 use Rattle.station_shared.proofs.Common.{Closes, EachOnce, Seated, new_seat, new_seats, newcomer, newcomers, Works}
 use Rattle.station_portions.specs.declared.portions.Portions.{Portions}
 use Rattle.station_lines.specs.declared.pumping.PumpFault.{PumpFault}

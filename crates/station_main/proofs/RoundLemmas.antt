@@ -9,7 +9,7 @@ use Rattle.station_journal.specs.declared.recent.ResumeFault.TheVariants.{TooMan
 use Rattle.station_journal.proofs.Common.{Site, IsSound, Refuses, recent_base, IsLegal}
 use Rattle.station_journal.proofs.SoundLemmas.{sound_by_fits}
 use Rattle.station_journal.proofs.StandsLemmas.{length_sound, recent_stands, sound_from_legal}
-use Rattle.station_desk.proofs.Common.{base_of, Start, log_of}
+use Rattle.station_history.proofs.Common.{base_of, Start, log_of}
 use Rattle.station_shared.specs.Seats.{Seated, new_seats, newcomer, newcomers}
 use Rattle.station_shared.proofs.NewcomerLemmas.{one_place}
 use Rattle.station_lines.specs.declared.pumping.PumpFault.{PumpFault}

@@ -5,7 +5,7 @@ use Rattle.std.proofs.Math.Seq.{take-append_seam}
 use Rattle.station_report.specs.Sink.{SinkState}
 use Rattle.station_journal.specs.declared.entry.Entry.{Entry}
 use Rattle.station_report.specs.declared.sinks.WriteFault.{WriteFault}
-use Rattle.station_desk.specs.Start.{Start}
+use Rattle.station_history.specs.Start.{Start}
 use Rattle.station_shared.specs.Seats.{Seated, Looks, new_seat, new_seats}
 use Rattle.station_main.proofs.Common.{IfRecording, Recording, Records, seen_by, MayHandOver, ReportsByAClock, looks_of, LastLook, ReporterLeaves, PrintsLast, TakesTexts, Duties, Due}
 use Rattle.station_main.proofs.RecordedLemmas.{one-more-look}

@@ -5,7 +5,7 @@ use Rattle.std.proofs.lemmas.Bool.Decides.{eqb_tells}
 use Rattle.std.proofs.lemmas.List.Sums.{sum_by-cons}
 use Rattle.station_report.specs.Sink.{SinkState}
 use native.Mathlib.Decide.{dec_lt}
-use Rattle.station_desk.specs.Start.{Start}
+use Rattle.station_history.specs.Start.{Start}
 use Rattle.station_shared.proofs.Common.{EachOnce, Seated, Looks}
 use Rattle.station_report.specs.declared.formats.Format.{Format}
 use Rattle.station_report.specs.declared.sinks.WriteFault.{WriteFault}

@@ -8,9 +8,9 @@ use Rattle.station_journal.specs.declared.entry.Entry.{Entry}
 use Rattle.station_journal.specs.Log.{clock_of}
 use Rattle.station_journal.specs.Past.{Site}
 use Rattle.station_journal.specs.Resume.{IsSound, recent_base, recent_of}
-use Rattle.station_desk.specs.History.{base_of}
+use Rattle.station_history.specs.History.{base_of}
 use Rattle.station_desk.specs.Published.{Prepared}
-use Rattle.station_desk.specs.Start.{Start, log_of}
+use Rattle.station_history.specs.Start.{Start, log_of}
 use Rattle.station_lines.specs.declared.pumping.PumpFault.{PumpFault}
 use Rattle.station_lines.specs.declared.tally.Tally.{Tally}
 use Rattle.station_shared.specs.Seats.{Seated, newcomer}

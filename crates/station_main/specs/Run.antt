@@ -10,7 +10,7 @@ use Rattle.station_report.specs.declared.formats.Format.{Format}
 use Rattle.station_report.specs.declared.sinks.WriteFault.{WriteFault}
 use Rattle.station_portions.specs.Giving.{state_of}
 use Rattle.station_portions.specs.declared.portions.Portions.{Portions}
-use Rattle.station_desk.specs.Start.{Start}
+use Rattle.station_history.specs.Start.{Start}
 use Rattle.station_shared.specs.Seats.{Seated, Looks, new_seat}
 use Rattle.station_shared.specs.Closing.{Closes, EachOnce}
 use Rattle.station_shared.specs.Workers.{Worked, Works}

@@ -5,8 +5,8 @@ use Rattle.station_journal.specs.declared.entry.Entry.{Entry}
 use Rattle.station_report.specs.Sink.{SinkState, TakesAll, count_after}
 use Rattle.station_report.specs.declared.formats.Format.{Format}
 use Rattle.station_report.specs.declared.sinks.WriteFault.{WriteFault}
-use Rattle.station_desk.specs.Replay.{table_in}
-use Rattle.station_desk.specs.Start.{Start, log_of}
+use Rattle.station_replay.specs.Replay.{table_in}
+use Rattle.station_history.specs.Start.{Start, log_of}
 use Rattle.station_shared.specs.Seats.{Seated, Looks}
 
 -- the table of these entries, in a format

@@ -5,8 +5,8 @@ use Rattle.std.specs.Fmt.{decimal}
 use Rattle.std.specs.Io.KnownBytes.{Appends}
 use Rattle.station_lines.specs.declared.pumping.PumpFault.{PumpFault}
 use Rattle.station_lines.specs.declared.pumping.PumpFault.TheVariants as pump
-use Rattle.station_desk.specs.declared.replaying.ReplayFault.{ReplayFault}
-use Rattle.station_desk.specs.declared.replaying.ReplayFault.TheVariants as replay
+use Rattle.station_replay.specs.declared.replaying.ReplayFault.{ReplayFault}
+use Rattle.station_replay.specs.declared.replaying.ReplayFault.TheVariants as replay
 use Rattle.station_lines.specs.declared.tally.Tally.{Tally}
 use Rattle.station_main.specs.declared.faults.Fault.{Fault}
 use Rattle.station_main.specs.declared.faults.Fault.TheVariants as fault

@@ -1,8 +1,8 @@
 //! The folder in which displays find the tables.
 ghost use Rattle.std.specs.Prelude.{◌≡◌, ◌≤◌, IfOk, IfSome, codes, false, is_some, true};
 ghost use Rattle.std.specs.String.{string_bytes};
-ghost use Rattle.station_desk.specs.Replay.{table_in};
-ghost use Rattle.station_desk.specs.Start.{log_of};
+ghost use Rattle.station_replay.specs.Replay.{table_in};
+ghost use Rattle.station_history.specs.Start.{log_of};
 ghost use Rattle.station_report.specs.declared.formats.Format.TheVariants as Formats;
 ghost use Rattle.station_main.specs.Displays.{cannot_write, have_failed, in_folder};
 ghost use Rattle.station_main.specs.Status.{fault_status};

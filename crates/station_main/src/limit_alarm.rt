@@ -2,7 +2,8 @@
 
 use crate::faults::{Fault, tell};
 use crate::standard_error::StandardError;
-use station_desk::{FullLimit, LimitObserver};
+use station_journal::FullLimit;
+use station_replay::LimitObserver;
 use station_shared::LimitsMet;
 use std::io::Write;
 

@@ -13,7 +13,7 @@ use crate::limits::{AIRCRAFT, FORGET_AT, TURNS, limits};
 use crate::output::{ClosedOutput, JobResult, drop_unwritten, unbuffered, without_output};
 use crate::standard_error::StandardError;
 use modes_cpr::Reference;
-use station_desk::replay_forgetting;
+use station_replay::replay_forgetting;
 use station_report::{Format, ToWrite};
 use station_shared::{Desk, FromBuffer, ReplayFault, Tally};
 use std::alloc::Global;

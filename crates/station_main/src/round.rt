@@ -6,7 +6,7 @@ ghost use Rattle.station_journal.specs.Resume.{IsSound};
 ghost use Rattle.station_main.specs.Inputs.{AllTakeFrom};
 ghost use Rattle.station_main.specs.Limits.{program_limits};
 ghost use Rattle.station_main.specs.Output.{buffered_of};
-ghost use Rattle.station_desk.specs.Start.{Start};
+ghost use Rattle.station_history.specs.Start.{Start};
 ghost use Rattle.station_main.specs.Recorded.{Recording};
 ghost use Rattle.station_main.specs.Rounds.{RunPlan, Begun, EndsRound, EndsStation, RoundStart, IsFirst, IsLastStation, IsRound, IsServed, begun_of};
 ghost use Rattle.station_main.specs.Run.{Closing, IsUnstarted};

@@ -5,7 +5,7 @@ use Rattle.station_journal.specs.Log.{table_of, placed_of}
 use Rattle.station_journal.proofs.Common.{Site, table, placed_table}
 use Rattle.station_book.proofs.Common.{BookState, rows, placed_rows, Matches, Shows}
 use Rattle.station_book.proofs.LawLemmas.{shows_from_match}
-use Rattle.station_desk.proofs.Common.{base_of, Start, log_of}
+use Rattle.station_history.proofs.Common.{base_of, Start, log_of}
 use Rattle.station_shared.specs.Seats.{Seated}
 
 module _ (n : ℕ) (start : Start) (book : BookState) (entries : List Entry) (seen : Seated) (matched : Matches n (base_of start.history) book entries) (site : book.site ≡ start.limits.site) (is : entries ≡ seen.seen) where

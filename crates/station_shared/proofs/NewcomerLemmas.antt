@@ -4,7 +4,8 @@ use Rattle.std.proofs.lemmas.Bool.Decides.{nat_tests}
 use Rattle.station_journal.specs.declared.entry.Entry.{Entry}
 use Rattle.station_journal.specs.declared.limits.Limits.{Limits}
 use Rattle.station_journal.specs.Log.{Log, resumed_log}
-use Rattle.station_desk.proofs.Common.{Name, base_of, Start, start_at, log_of}
+use Rattle.station_history.proofs.Common.{Name, base_of, Start, log_of}
+use Rattle.station_desk.proofs.Common.{start_at}
 use Rattle.station_shared.specs.Seats.{new_seat, new_seats, newcomer, newcomers}
 
 pub new_seats_more : (entries : List Entry) (blind n : ℕ) → new_seats entries blind n ++ new_seat entries (not (nat_lt n blind)) n ∷ [] ≡ new_seats entries blind (n + 1)

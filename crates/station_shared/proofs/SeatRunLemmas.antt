@@ -4,11 +4,11 @@ use Rattle.station_journal.specs.declared.entry.Entry.{Entry}
 use Rattle.station_journal.specs.declared.entry.Entry.TheVariants.{Heard}
 use Rattle.station_journal.specs.declared.refusal.Refusal.{Refusal}
 use Rattle.station_lines.proofs.Common.{frames_of, Feeds, PumpsAll, SourceState}
-use Rattle.station_desk.specs.Start.{Start}
+use Rattle.station_history.specs.Start.{Start}
 use Rattle.station_shared.proofs.Common.{Seated, SeatSteps, Within, accepted_frames, heard_by, Fed, Works}
 use Rattle.station_lines.specs.declared.pumping.PumpFault.{PumpFault}
 use Rattle.station_lines.specs.declared.tally.Tally.{Tally}
-use Rattle.station_desk.proofs.CallLemmas.{count_first}
+use Rattle.station_lines.proofs.FeedLemmas.{count_first}
 
 within_here : (zs : List Entry) (x : Entry) (xs ys : List Entry) → Within xs ys → Within (x ∷ xs) ((zs ++ x ∷ []) ++ ys)
 within_here [] x xs ys w = inl (refl, w)

@@ -4,7 +4,7 @@ use Rattle.std.specs.List.{AllByRecursion}
 use mathlib.Core.List.{IsPrefix}
 use Rattle.station_journal.specs.declared.entry.Entry.{Entry}
 use Rattle.station_journal.specs.Log.{IsLegal}
-use Rattle.station_desk.specs.Start.{Start, log_of}
+use Rattle.station_history.specs.Start.{Start, log_of}
 use Rattle.station_shared.specs.Seats.{Seated, own_entries, count_of_seat}
 
 -- the numbers of the seats are those below n, each once

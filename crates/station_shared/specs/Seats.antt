@@ -5,8 +5,8 @@ use Rattle.station_journal.specs.declared.entry.Entry.{Entry}
 use Rattle.station_journal.specs.declared.entry.Entry.TheVariants.{Tick, Heard}
 use Rattle.station_journal.specs.declared.refusal.Refusal.{Refusal}
 use Rattle.station_journal.specs.Log.{IsLegal, refusal_of, verdict_behind}
-use Rattle.station_desk.specs.History.{Known}
-use Rattle.station_desk.specs.Start.{Start, log_of}
+use Rattle.station_history.specs.History.{Known}
+use Rattle.station_history.specs.Start.{Start, log_of}
 
 -- the entries of a station's own calls: those after the entries that it was resumed from
 abbrev pub own_entries : Start → List Entry → List Entry

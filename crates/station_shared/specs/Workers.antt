@@ -4,10 +4,10 @@ use Rattle.station_journal.specs.declared.entry.Entry.{Entry}
 use Rattle.station_journal.specs.declared.entry.Entry.TheVariants.{Heard}
 use Rattle.station_journal.specs.declared.refusal.Refusal.{Refusal}
 use Rattle.station_lines.specs.Calls.{frames_of}
-use Rattle.station_desk.specs.History.{Known}
+use Rattle.station_history.specs.History.{Known}
 use Rattle.station_lines.specs.Pump.{PumpsAll, tally_of_pump}
 use Rattle.station_lines.specs.Source.{SourceState}
-use Rattle.station_desk.specs.Start.{Start}
+use Rattle.station_history.specs.Start.{Start}
 use Rattle.station_shared.specs.Seats.{Seated, Accepted, Refused}
 use Rattle.station_lines.specs.declared.pumping.PumpFault.{PumpFault}
 use Rattle.station_lines.specs.declared.tally.Tally.{Tally}

@@ -1,7 +1,7 @@
 //! The end of a station.
 ghost use Rattle.std.specs.Prelude.{◌≡◌, ◌≤◌, ◌↔◌, IsTrue, eqb, count_by, IfOk, IfErr};
 ghost use Rattle.station_shared.specs.Closing.{EachOnce, Closes, accepted_at, accepted_by};
-ghost use Rattle.station_desk.specs.Start.{log_of};
+ghost use Rattle.station_history.specs.Start.{log_of};
 
 use crate::counted_desk::CountedDesk;
 use crate::seat::Seat;
@@ -9,8 +9,7 @@ use crate::station::Station;
 use crate::station_name::StationName;
 use arrayvec::ArrayVec;
 use crossbeam_utils::rule::Protocol;
-use left_right::Absorb;
-use station_desk::{Mark, NoOperation, PublishRule, PublishedTable};
+use station_desk::{Mark, PublishRule, PublishedTable};
 use station_journal::Journal;
 use std::sync::Wait;
 
@@ -26,7 +25,6 @@ pub struct Closed {
 /// A refused close: the seats that were given aren't all the seats of the station, each once.
 pub struct Missing<const N: usize, L: StationName>
 where
-    PublishedTable<N>: Absorb<NoOperation, State = ()>,
     PublishRule: Protocol<PublishedTable<N>, Option<Mark>>,
 {
     /// The station, as it was.

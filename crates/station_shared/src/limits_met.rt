@@ -2,8 +2,7 @@
 
 use crate::station::Station;
 use crate::station_name::StationName;
-use station_desk::FullLimit;
-use station_journal::Refusal;
+use station_journal::{FullLimit, Refusal};
 use std::sync::atomic::AtomicBool;
 use std::sync::atomic::Ordering::SeqCst;
 

@@ -3,19 +3,18 @@ ghost use Rattle.std.specs.Prelude.{◌≡◌, ◌<◌, ◌≤◌, ◌↔◌, Is
 ghost use mathlib.Core.List.{IsPrefix};
 ghost use Rattle.station_journal.specs.Table.{find_row};
 ghost use Rattle.station_journal.specs.Log.{IsLegal, clock_of, table_of};
-ghost use Rattle.station_desk.specs.Start.{log_of};
+ghost use Rattle.station_history.specs.Start.{log_of};
 ghost use Rattle.left_right.specs.Sides.{view as view_of};
 ghost use Rattle.station_desk.specs.Published.{IsOfSheet, SawPublished, sheet_of};
-ghost use Rattle.station_desk.specs.Desk.{most_aircraft};
+ghost use Rattle.station_book.specs.JournalBook.{most_aircraft};
 ghost use Rattle.station_shared.specs.Seats.{Looks};
 
 use crate::seat::Seat;
 use crate::seat_account::SeatAccount;
 use crate::station_name::StationName;
 use crossbeam_utils::rule::Protocol;
-use station_desk::{
-    Front, LookingPlace, Mark, PublishRule, PublishedTable, ReaderPlace, SeesPublished,
-};
+use station_desk::{LookingPlace, Mark, PublishRule, PublishedTable, ReaderPlace, SeesPublished};
+use station_history::Front;
 use station_journal::{Aircraft, PlacedRows, Rows};
 use std::marker::Model;
 
@@ -39,8 +38,8 @@ where
     ghost use Rattle.left_right.specs.Sides.{view as view_of};
     ghost use Rattle.station_journal.specs.Log.{IsLegal};
     ghost use Rattle.station_book.specs.Matching.{Matches};
-    ghost use Rattle.station_desk.specs.History.{base_of};
-    ghost use Rattle.station_desk.specs.Start.{log_of};
+    ghost use Rattle.station_history.specs.History.{base_of};
+    ghost use Rattle.station_history.specs.Start.{log_of};
     ghost use Rattle.station_shared.specs.Seats.{Seated, seat_over};
     ghost use Rattle.station_desk.specs.Published.{IsOf};
 
@@ -146,7 +145,7 @@ impl<const N: usize, L: StationName> Look<N, L> {
 
 impl<const N: usize, L: StationName> Rows for Look<N, L> {
     ghost use Rattle.station_journal.specs.Log.{table_of};
-    ghost use Rattle.station_desk.specs.Start.{log_of};
+    ghost use Rattle.station_history.specs.Start.{log_of};
 
     ghost rows = { λ look. table_of (log_of L.start look.seen) };
 
@@ -161,7 +160,7 @@ impl<const N: usize, L: StationName> Rows for Look<N, L> {
 
 impl<const N: usize, L: StationName> PlacedRows for Look<N, L> {
     ghost use Rattle.station_journal.specs.Log.{placed_of};
-    ghost use Rattle.station_desk.specs.Start.{log_of};
+    ghost use Rattle.station_history.specs.Start.{log_of};
 
     ghost moments = { λ look. placed_of (log_of L.start look.seen) };
 

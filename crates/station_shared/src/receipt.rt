@@ -1,10 +1,10 @@
 //! Receipts of accepted calls.
 ghost use Rattle.std.specs.Prelude.{◌≡◌, ◌+◌, ◌<◌, length};
 ghost use Rattle.station_journal.specs.Log.{IsLegal};
-ghost use Rattle.station_desk.specs.Start.{log_of};
+ghost use Rattle.station_history.specs.Start.{log_of};
 
 use crate::station_name::StationName;
-use station_desk::Front;
+use station_history::Front;
 use std::marker::{Model, PhantomData};
 
 /// A promise that an accepted entry is in the journal of its station. Contracts see the journal up to that entry, which
@@ -18,8 +18,8 @@ pub struct Receipt<L: StationName> {
 impl<L: StationName> Model for Receipt<L> {
     ghost use Rattle.std.specs.Prelude.{◌≡◌, ◌<◌, length};
     ghost use Rattle.station_journal.specs.Log.{IsLegal};
-    ghost use Rattle.station_desk.specs.History.{Known};
-    ghost use Rattle.station_desk.specs.Start.{log_of};
+    ghost use Rattle.station_history.specs.History.{Known};
+    ghost use Rattle.station_history.specs.Start.{log_of};
 
     ghost Value = { Known };
 

@@ -1,11 +1,11 @@
 //! A seat at a station.
 ghost use Rattle.std.specs.Prelude.{◌≡◌, ◌≤◌, IfSome, is_some};
 ghost use Rattle.station_journal.specs.Log.{IsLegal};
-ghost use Rattle.station_desk.specs.Start.{log_of};
+ghost use Rattle.station_history.specs.Start.{log_of};
 ghost use Rattle.left_right.specs.Sides.{view as view_of};
 ghost use Rattle.station_shared.specs.Seats.{HasLearned, count_of_seat, own_entries, seat_over, account_of};
 ghost use Rattle.station_desk.specs.Published.{IsOf};
-ghost use Rattle.station_desk.specs.Desk.{most_aircraft};
+ghost use Rattle.station_book.specs.JournalBook.{most_aircraft};
 
 pub use crate::receipt::Receipt;
 use crate::seat_account::SeatAccount;

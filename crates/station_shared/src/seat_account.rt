@@ -2,11 +2,11 @@
 ghost use Rattle.std.specs.Prelude.{◌≡◌, ◌+◌, ◌^◌, ◌<◌, ◌≤◌};
 ghost use mathlib.Core.List.{IsPrefix};
 ghost use Rattle.station_journal.specs.Log.{IsLegal};
-ghost use Rattle.station_desk.specs.Start.{log_of};
+ghost use Rattle.station_history.specs.Start.{log_of};
 ghost use Rattle.station_shared.specs.Seats.{count_of_seat, own_entries};
 
 use crate::station_name::StationName;
-use station_desk::Front;
+use station_history::Front;
 use std::marker::Model;
 use std::sync::ledger::{Book as LedgerBook, Share as LedgerShare};
 
@@ -23,7 +23,7 @@ pub(crate) struct SeatAccount<L: StationName> {
 impl<L: StationName> Model for SeatAccount<L> {
     ghost use Rattle.std.specs.Prelude.{◌≡◌, ◌≤◌};
     ghost use Rattle.station_journal.specs.Log.{IsLegal};
-    ghost use Rattle.station_desk.specs.Start.{log_of};
+    ghost use Rattle.station_history.specs.Start.{log_of};
     ghost use Rattle.station_shared.specs.Seats.{Account, count_of_seat, own_entries};
 
     ghost Value = { Account };

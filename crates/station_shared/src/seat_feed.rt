@@ -6,9 +6,8 @@ use crate::seat::Seat;
 use crate::station::Station;
 use crate::station_name::StationName;
 use crossbeam_utils::rule::Protocol;
-use left_right::Absorb;
 use modes_frame::Frame;
-use station_desk::{Mark, NoOperation, PublishRule, PublishedTable};
+use station_desk::{Mark, PublishRule, PublishedTable};
 use station_journal::Refusal;
 use station_lines::{Feed, PumpFault, Source, Tally, pump};
 use std::sync::Wait;
@@ -17,7 +16,6 @@ use std::sync::Wait;
 #[derive(Drop)]
 pub struct SeatFeed<'a, const N: usize, L: StationName>
 where
-    PublishedTable<N>: Absorb<NoOperation, State = ()>,
     PublishRule: Protocol<PublishedTable<N>, Option<Mark>>,
 {
     pub station: &'a Station<N, L>,

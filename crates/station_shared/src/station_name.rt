@@ -5,7 +5,7 @@ use std::sync::ledger::Ledger;
 /// Names one station in clauses. No value of it is made.
 pub trait StationName: Ledger {
     ghost use Rattle.std.specs.Prelude.{ℕ};
-    ghost use Rattle.station_desk.specs.Start.{Start};
+    ghost use Rattle.station_history.specs.Start.{Start};
 
     /// The number of seats, each with one part of the ledger.
     ghost seats: { ℕ };

@@ -1,7 +1,7 @@
 //! Sites of stations, places, pushes and waits for tests.
 ghost use Rattle.std.specs.Prelude.{◌≡◌, ◌<◌, ◌≤◌};
-ghost use Rattle.station_desk.specs.History.{base_of};
-ghost use Rattle.station_desk.specs.Desk.{most_aircraft};
+ghost use Rattle.station_history.specs.History.{base_of};
+ghost use Rattle.station_book.specs.JournalBook.{most_aircraft};
 ghost use Rattle.station_journal.specs.Log.{most_entries};
 
 use crate::comparing::holds;

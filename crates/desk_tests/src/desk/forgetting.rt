@@ -3,7 +3,7 @@
 use super::{ALL_CALL, EVEN_PLACE, IDENTIFICATION, ODD_PLACE, STORIES, VELOCITY, call, shows};
 use crate::comparing::{holds_at, same, same_at};
 use crate::fakes::new_desk;
-use station_desk::Desk;
+use station_replay::Desk;
 
 // A desk that forgets after each call refuses and shows what one that never does.
 #[test]

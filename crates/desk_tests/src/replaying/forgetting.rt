@@ -4,11 +4,11 @@ use super::aged::REPLAYS_WITH_TICKS;
 use super::known::REPLAYS;
 use crate::comparing::{holds_at, same, same_at};
 use crate::fakes::{Pieces, Taker, counted, new_desk};
-use station_desk::{
-    Desk, Format, LimitObserver, ReplayFault, Unobserved, replay, replay_forgetting,
-};
 use station_journal::Journal;
 use station_lines::Tally;
+use station_replay::{
+    Desk, Format, LimitObserver, ReplayFault, Unobserved, replay, replay_forgetting,
+};
 use station_report::Sink;
 use std::sync::Wait;
 

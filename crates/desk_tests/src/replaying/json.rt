@@ -4,7 +4,7 @@ use super::aged::FAILED_PAIR;
 use super::{Known, give_tables, replayed};
 use crate::comparing::same;
 use crate::fakes::{Pieces, Taker, counted};
-use station_desk::Format;
+use station_replay::Format;
 
 // A velocity over ground, and its table with a clock that begins at 0.
 pub(super) const OVER_GROUND: &str = "*8D485020994409940838175B284F;\n?";

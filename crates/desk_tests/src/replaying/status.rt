@@ -1,7 +1,7 @@
 //! Replays of categories, emergencies, and the sources of vertical rates. JSON has them, and the text does not.
 
 use super::{Known, give_tables};
-use station_desk::Format;
+use station_replay::Format;
 
 const JSON: &[Known] = &[
     (

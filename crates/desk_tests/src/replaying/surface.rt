@@ -3,7 +3,7 @@
 //! The frames of 484175 are those of "The 1090 Megahertz Riddle", and its airborne places and its velocity are made to fit.
 
 use super::{KnownAt, give_tables_at};
-use station_desk::Format;
+use station_replay::Format;
 
 // The site of most of them: a latitude and a longitude, in 1/10,000,000 degree.
 const NEAR: Option<(i32, i32)> = Some((519_900_000, 43_750_000));

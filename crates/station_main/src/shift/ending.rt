@@ -2,7 +2,7 @@
 ghost use Rattle.std.specs.Prelude.{◌≡◌, ◌∷◌, ℕ, Option, Some, All, IfErr, IfOk, false, is_some, length, map, true};
 ghost use Rattle.station_portions.specs.Giving.{state_of};
 ghost use Rattle.station_report.specs.Sink.{SinkState};
-ghost use Rattle.station_desk.specs.Start.{log_of};
+ghost use Rattle.station_history.specs.Start.{log_of};
 ghost use Rattle.station_shared.specs.Seats.{newcomer};
 ghost use Rattle.station_main.specs.Output.{buffered_of};
 ghost use Rattle.station_main.specs.Recorded.{Recording};

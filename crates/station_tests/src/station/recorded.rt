@@ -1,6 +1,6 @@
 //! The record of a long journal, written portion by portion.
 ghost use Rattle.std.specs.Prelude.{◌≡◌, length};
-ghost use Rattle.station_desk.specs.History.{base_of};
+ghost use Rattle.station_history.specs.History.{base_of};
 
 use super::look_of;
 use crate::comparing::{holds, same};

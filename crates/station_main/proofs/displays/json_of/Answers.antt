@@ -1,5 +1,5 @@
-use Rattle.station_desk.specs.Start.{log_of}
-use Rattle.station_desk.proofs.RowLemmas.{rows_of_legal}
+use Rattle.station_history.specs.Start.{log_of}
+use Rattle.station_replay.proofs.RowLemmas.{rows_of_legal}
 use Rattle.station_main.proofs.displays.json_of.Goals as goal
 
 pub table_as-requires : goal.table_as-requires

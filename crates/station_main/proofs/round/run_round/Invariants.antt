@@ -1,6 +1,6 @@
 use Rattle.std.specs.Prelude.{◌≡◌, ◌≤◌, ℕ, List, Option, length, map, reverse}
 use Rattle.station_journal.specs.Resume.{IsSound}
-use Rattle.station_desk.specs.Start.{Start}
+use Rattle.station_history.specs.Start.{Start}
 use Rattle.station_portions.specs.Giving.{state_of}
 use Rattle.station_main.proofs.Common.{AllTakeFrom, program_limits, buffered_of, Recording, RunPlan, RoundStart, IsFirst, IsRound, Stations, begun_of, Closing, Told, told_of}
 use Rattle.station_main.proofs.round.run_round.Given as goal

@@ -1,5 +1,5 @@
 use Rattle.station_shared.proofs.SeatRunLemmas.{Works-all}
-use Rattle.station_desk.proofs.CallLemmas.{pump_keeps}
+use Rattle.station_lines.proofs.FeedLemmas.{pump_keeps}
 use Rattle.station_shared.proofs.seat_feed.pump_lent.Goals as goal
 
 pub returns : goal.returns

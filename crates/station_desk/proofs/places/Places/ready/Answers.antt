@@ -3,7 +3,8 @@ use Rattle.std.specs.List.{AllByRecursion}
 use Rattle.left_right.specs.Sides.{view}
 use Rattle.station_journal.specs.Follow.{IsFirstUnsound}
 use Rattle.station_book.specs.Matching.{Matches}
-use Rattle.station_desk.proofs.Common.{base_of, Start, IsOf, Prepared, Mark}
+use Rattle.station_history.proofs.Common.{base_of, Start}
+use Rattle.station_desk.proofs.Common.{IsOf, Prepared, Mark}
 use Rattle.station_desk.proofs.RoomLemmas.{copy_fits}
 use Rattle.station_desk.proofs.StartLemmas.{sound_at, unsound_at}
 use Rattle.station_desk.proofs.places.Places.ready.Goals as goal

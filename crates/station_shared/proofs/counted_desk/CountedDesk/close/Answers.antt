@@ -6,7 +6,8 @@ use mathlib.Core.List.{IsPrefix}
 use Rattle.station_journal.specs.declared.entry.Entry.{Entry}
 use Rattle.station_journal.specs.Log.{Log, IsLegal}
 use Rattle.station_shared.proofs.Common.{Backed, Closes, Seated, Account, account_of, count_of_seat, own_entries}
-use Rattle.station_desk.proofs.Common.{PublishedState, log_of}
+use Rattle.station_desk.proofs.Common.{PublishedState}
+use Rattle.station_history.proofs.Common.{log_of}
 use Rattle.station_shared.proofs.CountLemmas.{count_own}
 use Rattle.station_shared.proofs.CloseLemmas.{closes}
 use Rattle.station_shared.proofs.counted_desk.CountedDesk.close.Goals as goal

@@ -1,0 +1,11 @@
+pub mod Common
+pub mod DeskLemmas
+pub mod EndingLemmas
+pub mod RowLemmas
+pub mod CallLemmas
+pub mod WalkLemmas
+pub mod ForgettingLemmas
+pub mod KeepingLemmas
+pub mod LimitLemmas
+pub mod ForgettingWalkLemmas
+pub mod FullLimitLemmas

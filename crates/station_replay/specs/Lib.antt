@@ -1,0 +1,10 @@
+pub mod Desk
+pub mod DeskFeed
+pub mod DeskPump
+pub mod Replay
+pub mod ReplayLaws
+pub mod FullLimits
+pub mod FullLimitLaws
+pub mod Forgetting
+pub mod ForgettingReplay
+pub mod ForgettingLaws
