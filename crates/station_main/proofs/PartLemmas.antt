@@ -8,7 +8,8 @@ use Rattle.station_portions.specs.Giving.{state_of}
 use Rattle.station_lines.specs.Source.{SourceState}
 use Rattle.station_portions.specs.declared.portions.Portions.{Portions}
 use Rattle.station_portions.specs.declared.finished_path.WholePath.{WholePath}
-use Rattle.station_main.proofs.Common.{AllTakeFrom, AreFed, IsFedBy, TakesFrom, unknown, AddsAll, AddsAnswer}
+use Rattle.messages.proofs.Common.{AddsAll, AddsAnswer}
+use Rattle.station_main.proofs.Common.{AllTakeFrom, AreFed, IsFedBy, TakesFrom, unknown}
 use Rattle.station_main.specs.declared.opened.Opened.{Opened}
 
 -- one more item, of a list whose other items are to come

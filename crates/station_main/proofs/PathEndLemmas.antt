@@ -6,9 +6,10 @@ use Rattle.std.specs.Io.KnownBytes.{Appends}
 use Rattle.std.proofs.KnownBytes.{Appends-nil}
 use Rattle.station_portions.specs.Giving.{state_of}
 use Rattle.station_portions.specs.declared.portions.Portions.{Portions}
-use Rattle.station_main.specs.Telling.{unfinished_words}
-use Rattle.station_main.proofs.Common.{GaveAll, GaveAllBut, Tells, Told, telling_line, unfinished_lines, unfinished_status}
-use Rattle.station_main.proofs.TellLemmas.{tells_both}
+use Rattle.messages.specs.Telling.{unfinished_words}
+use Rattle.messages.proofs.Common.{Tells, Told, telling_line, unfinished_lines}
+use Rattle.station_main.proofs.Common.{GaveAll, GaveAllBut, unfinished_status}
+use Rattle.messages.proofs.TellLemmas.{tells_both}
 
 -- ---- what is printed
 

@@ -14,9 +14,13 @@ use Rattle.station_portions.specs.declared.portions.Portions.{Portions}
 use Rattle.station_lines.specs.declared.pumping.PumpFault.{PumpFault}
 use Rattle.station_lines.specs.declared.tally.Tally.{Tally}
 use Rattle.station_portions.specs.declared.finished_path.WholePath.{WholePath}
-use Rattle.station_main.proofs.Common.{AllTakeFrom, most_reads, Recording, ReportsByAClock, Begun, IsServedBy, Serves, AreNumbered, Closing, HavePumped, HaveWorked, IsClosed, AddsAll, AddsEach, Duties, Due}
+use Rattle.messages.proofs.Common.{AddsAll, AddsEach}
+use Rattle.station_reporter.proofs.Common.{Recording, ReportsByAClock}
+use Rattle.station_reporter.specs.declared.duties.Duties.{Duties}
+use Rattle.station_reporter.specs.declared.schedule.Due.{Due}
+use Rattle.station_main.proofs.Common.{AllTakeFrom, most_reads, Begun, IsServedBy, Serves, AreNumbered, Closing, HavePumped, HaveWorked, IsClosed}
 use Rattle.station_main.proofs.RunJobLemmas.{length_new_seats}
-use Rattle.station_main.proofs.FoundLemmas.{some_same}
+use Rattle.command_line.proofs.FoundLemmas.{some_same}
 use Rattle.station_main.proofs.SeatNumberLemmas.{all_once}
 
 -- ---- elements of lists

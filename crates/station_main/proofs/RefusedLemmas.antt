@@ -1,26 +1,12 @@
 -- What `clap` answers that is no job, and what of it is shown on the output.
-use Rattle.std.proofs.Common.{rules, ◌≡◌, ◌≢◌, ◌⊎◌, inl, inr, Bool, true, false, List, [], Option, Some, None, ℕ, sym, ap, ◌∙◌, subst, Global, String, string_bytes}
-use Rattle.clap.specs.Words.{App, IsAmong, HasKind, Row, Text, fault_of, kind_of, subcommand_of, takes}
+use Rattle.std.proofs.Common.{rules, ◌≡◌, ◌⊎◌, inl, inr, Bool, true, false, List, [], Option, Some, None, ℕ, sym, ◌∙◌, subst, Global, String, string_bytes}
+use Rattle.clap.specs.Words.{App, IsAmong, Text, fault_of, kind_of}
 use Rattle.clap.specs.declared.error.Error.{Error}
-use Rattle.clap.specs.declared.error.kind.ErrorKind.TheVariants as kind
-use Rattle.station_main.specs.Command.{IsOwnFault, IsPlaceFault, IsWordsFault, misplaced, misplaced_among, reopens_rounds}
+use Rattle.command_line.specs.Command.{IsOwnFault, IsWordsFault, misplaced, reopens_rounds}
 use Rattle.station_main.specs.Jobs.{HasNoMemory, IsObeyed, RefusesBoth, RefusesPlace, WritesText, is_shown}
-use Rattle.station_main.specs.Telling.{Told, not_a_place_text, reopens_rounds_text}
-use Rattle.station_main.specs.declared.words.WordsFault.{WordsFault}
-use Rattle.station_main.specs.declared.words.WordsFault.TheVariants as words_fault
-
--- the fault of an answer of `clap`, by its kinds for the command line as it is made: out of memory, or the answer
-pub words_fault_of : (made app : App) (words : List Text) (error : Error) (fault : WordsFault) → made ≡ app
-    → ((kind_of error ≡ kind.OutOfMemory) × (fault ≡ words_fault.NoMemory)) ⊎ ((kind_of error ≢ kind.OutOfMemory) × (fault ≡ words_fault.Clap error))
-    → (takes made words ≡ true → kind_of error ≡ kind.OutOfMemory) → HasKind (fault_of made words) error
-    → IsWordsFault app words fault × (takes app words ≡ true → IsOwnFault app words fault)
-words_fault_of made app words error fault same (inl memory) passes kinds =
-    subst (λ (f : WordsFault). IsWordsFault app words f × (takes app words ≡ true → IsOwnFault app words f)) (sym memory.1) (tt, λ _. tt)
-words_fault_of made app words error fault same (inr other) passes (inl memory) = absurd (other.0 memory)
-words_fault_of made app words error fault same (inr other) passes (inr among) =
-    let are_among : IsAmong (kind_of error) (fault_of app words) = subst (λ (a : App). IsAmong (kind_of error) (fault_of a words)) same among in
-    subst (λ (f : WordsFault). IsWordsFault app words f × (takes app words ≡ true → IsOwnFault app words f)) (sym other.1)
-    (are_among, λ taken. absurd (other.0 (passes (ap (λ (a : App). takes a words) same ∙ taken))))
+use Rattle.messages.specs.Telling.{Told, not_a_place_text, reopens_rounds_text}
+use Rattle.command_line.specs.declared.words.WordsFault.{WordsFault}
+use Rattle.command_line.specs.declared.words.WordsFault.TheVariants as words_fault
 
 -- what a command line leaves whose answer of `clap` is written, or for whose text there was no memory
 pub refused_obeyed : (app : App) (words : List Text) (origin : ℕ) (input before : Option (List ℕ)) (after : Option (Option (List ℕ))) (alarm : Option (List ℕ)) (err_old err_new : Told) (status : ℕ) (fault : WordsFault) (error : Error)
@@ -47,16 +33,6 @@ pub refused_place : (app : App) (words : List Text) (before : Option (List ℕ))
 refused_place app words before after err_old err_new status fault text same said says =
     let given : (fault_of app words ≡ []) × (misplaced app words ≡ Some (string_bytes text)) = subst (λ (f : WordsFault). IsWordsFault app words f) same said in
     record { accepted = given.0; text = string_bytes text; is_misplaced = given.1; says = says }
-
--- a fault of the place among the options is one of the command line
-pub place_fault_of : (app : App) (words : List Text) (name : Text) (rows : List Row) (fault : WordsFault) → fault_of app words ≡ [] → subcommand_of app words ≡ Some (name, rows) → IsPlaceFault rows fault
-    → IsWordsFault app words fault × (takes app words ≡ true → IsOwnFault app words fault)
-place_fault_of app words name rows words_fault.NoMemory passes named said = (tt, λ taken. tt)
-place_fault_of app words name rows (words_fault.Clap error) passes named said = absurd said
-place_fault_of app words name rows words_fault.ReopensRounds passes named said = absurd said
-place_fault_of app words name rows (words_fault.NotAPlace text) passes named said =
-    let is : misplaced app words ≡ Some (string_bytes text) = ap misplaced_among named ∙ said in
-    ((passes, is), λ taken. is)
 
 -- `clap` refuses no command line that it takes
 pub not_taken : (app : App) (words : List Text) (fault : WordsFault) (error : Error) → fault ≡ words_fault.Clap error → IsOwnFault app words fault → ⊥

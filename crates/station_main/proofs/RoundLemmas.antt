@@ -17,9 +17,11 @@ use Rattle.station_lines.specs.declared.tally.Tally.{Tally}
 use Rattle.station_desk.proofs.StartLemmas.{sound_at, sound_front}
 use Rattle.station_portions.specs.Giving.{state_of}
 use Rattle.station_main.specs.Rounds.{IsServed}
-use Rattle.station_main.specs.Telling.{output_lines}
+use Rattle.messages.specs.Telling.{output_lines}
 use Rattle.station_main.specs.declared.shift.Finished.{Finished}
-use Rattle.station_main.proofs.Common.{program_limits, fault_status, status_of, pump_lines, Recording, RunPlan, Begun, GaveAllBut, RoundStart, HandsOn, IsCutShort, IsHandOver, IsLastStation, IsOver, KeepsRecent, RunsRounds, Stations, Closing, EndsEarly, AddsEach, Tells, Told, unfinished_lines, unfinished_status}
+use Rattle.messages.proofs.Common.{fault_status, status_of, pump_lines, AddsEach, Tells, Told, unfinished_lines}
+use Rattle.station_reporter.proofs.Common.{Recording}
+use Rattle.station_main.proofs.Common.{program_limits, RunPlan, Begun, GaveAllBut, RoundStart, HandsOn, IsCutShort, IsHandOver, IsLastStation, IsOver, KeepsRecent, RunsRounds, Stations, Closing, EndsEarly, unfinished_status}
 
 -- ---- a sound list is refused only if out of memory
 

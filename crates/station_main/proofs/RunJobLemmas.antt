@@ -7,9 +7,12 @@ use Rattle.station_journal.specs.declared.entry.Entry.{Entry}
 use Rattle.station_report.specs.declared.sinks.WriteFault.{WriteFault}
 use Rattle.station_history.specs.Start.{Start}
 use Rattle.station_shared.specs.Seats.{Seated, Looks, new_seat, new_seats}
-use Rattle.station_main.proofs.Common.{IfRecording, Recording, Records, seen_by, MayHandOver, ReportsByAClock, looks_of, LastLook, ReporterLeaves, PrintsLast, TakesTexts, Duties, Due}
-use Rattle.station_main.proofs.RecordedLemmas.{one-more-look}
-use Rattle.station_main.proofs.ReportLemmas.{printed_at_most}
+use Rattle.station_reporter.proofs.Common.{IfRecording, Recording, Records, seen_by, MayHandOver, ReportsByAClock, looks_of, TakesTexts}
+use Rattle.station_reporter.specs.declared.duties.Duties.{Duties}
+use Rattle.station_reporter.specs.declared.schedule.Due.{Due}
+use Rattle.station_main.proofs.Common.{LastLook, ReporterLeaves, PrintsLast}
+use Rattle.station_reporter.proofs.RecordedLemmas.{one-more-look}
+use Rattle.station_reporter.proofs.ReportLemmas.{printed_at_most}
 
 -- a vector that was lent as a slice
 pub whole_list : {W : Type 0} (len : ℕ) (ws old : List W) → length ws ≡ length old → len ≡ length old → take len (ws ++ drop (length ws) old) ≡ ws

@@ -9,7 +9,10 @@ use Rattle.station_history.specs.Start.{Start}
 use Rattle.station_shared.proofs.Common.{EachOnce, Seated, Looks}
 use Rattle.station_report.specs.declared.formats.Format.{Format}
 use Rattle.station_report.specs.declared.sinks.WriteFault.{WriteFault}
-use Rattle.station_main.proofs.Common.{PrintsAndRecords, Recording, IsLater, MayHandOver, ReportsByAClock, Showing, Showings, Ticks, seat_after, AreNumbered, PrintsLast, Duties, Due}
+use Rattle.station_reporter.proofs.Common.{PrintsAndRecords, Recording, IsLater, MayHandOver, ReportsByAClock, Showing, Showings, Ticks, seat_after}
+use Rattle.station_reporter.specs.declared.duties.Duties.{Duties}
+use Rattle.station_reporter.specs.declared.schedule.Due.{Due}
+use Rattle.station_main.proofs.Common.{AreNumbered, PrintsLast}
 
 -- ---- the reporter's seat keeps its number
 

@@ -5,14 +5,14 @@ use Rattle.clap.specs.Words.{App, IsAmong, Text, fault_of}
 use Rattle.clap.specs.declared.error.kind.ErrorKind.{ErrorKind}
 use Rattle.clap.specs.declared.error.kind.ErrorKind.TheVariants as kind
 use Rattle.station_report.specs.Sink.{AppendsFront}
-use Rattle.station_main.specs.Command.{IsStation, NamesJob, format_since, misplaced, reopens_rounds}
+use Rattle.command_line.specs.Command.{IsStation, NamesJob, format_since, misplaced, reopens_rounds}
 use Rattle.station_main.specs.Limits.{forget_at, program_limits}
 use Rattle.station_main.specs.Replay.{EndsReplay}
 use Rattle.station_main.specs.Inputs.{unknown}
 use Rattle.station_main.specs.Rounds.{RunsAsked, RunsForDisplays}
-use Rattle.station_main.specs.Telling.{OutOfMemory, Tells, Told, not_a_place_text, reopens_rounds_text}
-use Rattle.station_main.specs.declared.words.Job.{Job}
-use Rattle.station_main.specs.declared.words.Job.TheVariants.{Replay, Run}
+use Rattle.messages.specs.Telling.{OutOfMemory, Tells, Told, not_a_place_text, reopens_rounds_text}
+use Rattle.command_line.specs.declared.words.Job.{Job}
+use Rattle.command_line.specs.declared.words.Job.TheVariants.{Replay, Run}
 
 -- a job is done, beside a standard error for what is reported at once; a replay that leaves no output has read nothing;
 -- JSON of a run counts from the origin, in milliseconds since 1970, and of a replay from 0

@@ -16,19 +16,19 @@ use Rattle.station_lines.specs.declared.tally.Tally.{Tally}
 use Rattle.station_shared.specs.Seats.{Seated, newcomer}
 use Rattle.station_main.specs.Inputs.{GaveAllBut, unfinished_status}
 use Rattle.station_main.specs.Limits.{program_limits}
-use Rattle.station_main.specs.Recorded.{IfRecording, IsNewRecord, Recording, RecordsRest}
-use Rattle.station_main.specs.Status.{fault_status, record_status}
+use Rattle.station_reporter.specs.Recorded.{IfRecording, IsNewRecord, Recording, RecordsRest, record_status}
+use Rattle.messages.specs.Status.{fault_status}
 use Rattle.station_main.specs.Output.{buffered_of}
-use Rattle.station_main.specs.Reporter.{ReportsByAClock, after_table, not_before}
+use Rattle.station_reporter.specs.Reporter.{ReportsByAClock, after_table, not_before}
 use Rattle.station_main.specs.Run.{Closing, Ends, EndsEarly, HavePumped, IsClosed, ReporterLeaves, may_go_on}
-use Rattle.station_main.specs.Sums.{AddsEach}
-use Rattle.station_main.specs.Telling.{OutOfMemory, Tells, Told, cannot_record, fault_line, telling_line, unfinished_lines}
-use Rattle.station_main.specs.declared.faults.Fault.TheVariants as fault
-use Rattle.station_main.specs.declared.kept.Kept.{Kept}
-use Rattle.station_main.specs.declared.duties.Duties.{Duties}
+use Rattle.messages.specs.Sums.{AddsEach}
+use Rattle.messages.specs.Telling.{OutOfMemory, Tells, Told, cannot_record, fault_line, telling_line, unfinished_lines}
+use Rattle.messages.specs.declared.faults.Fault.TheVariants as fault
+use Rattle.station_reporter.specs.declared.kept.Kept.{Kept}
+use Rattle.station_reporter.specs.declared.duties.Duties.{Duties}
 use Rattle.station_main.specs.declared.round.Round.{Round}
 use Rattle.station_main.specs.declared.round.Round.TheVariants.{Over, GoesOn}
-use Rattle.station_main.specs.declared.schedule.Tables.{Tables}
+use Rattle.station_reporter.specs.declared.schedule.Tables.{Tables}
 use Rattle.station_main.specs.declared.shift.Ended.{Ended}
 use Rattle.station_main.specs.declared.shift.Ended.TheVariants.{HandsOver, Finishes}
 use Rattle.station_main.specs.declared.shift.Finished.{Finished}

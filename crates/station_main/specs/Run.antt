@@ -19,15 +19,15 @@ use Rattle.station_lines.specs.declared.pumping.PumpFault.TheVariants as pump
 use Rattle.station_lines.specs.declared.tally.Tally.{Tally}
 use Rattle.station_main.specs.Limits.{most_reads}
 use Rattle.station_main.specs.Output.{GivesBack}
-use Rattle.station_main.specs.Recorded.{IfRecording, PrintsAndRecords, Recording, Records, seen_by}
-use Rattle.station_main.specs.Reporter.{IsLater, KeepsTime, MayHandOver, Showing, due_after, looks_of}
-use Rattle.station_main.specs.Status.{fault_status, status_of}
-use Rattle.station_main.specs.Tables.{TakesTexts}
-use Rattle.station_main.specs.Telling.{Tells, Told, fault_line, output_lines, pump_lines}
-use Rattle.station_main.specs.declared.faults.Fault.{Fault}
-use Rattle.station_main.specs.declared.faults.Fault.TheVariants as fault
-use Rattle.station_main.specs.declared.duties.Duties.{Duties}
-use Rattle.station_main.specs.declared.schedule.Due.{Due}
+use Rattle.station_reporter.specs.Recorded.{IfRecording, PrintsAndRecords, Recording, Records, seen_by}
+use Rattle.station_reporter.specs.Reporter.{IsLater, KeepsTime, MayHandOver, Showing, due_after, looks_of}
+use Rattle.messages.specs.Status.{fault_status, status_of}
+use Rattle.station_reporter.specs.Tables.{TakesTexts}
+use Rattle.messages.specs.Telling.{Tells, Told, fault_line, output_lines, pump_lines}
+use Rattle.messages.specs.declared.faults.Fault.{Fault}
+use Rattle.messages.specs.declared.faults.Fault.TheVariants as fault
+use Rattle.station_reporter.specs.declared.duties.Duties.{Duties}
+use Rattle.station_reporter.specs.declared.schedule.Due.{Due}
 
 -- ---- the receivers
 

@@ -3,18 +3,15 @@ ghost use Rattle.std.specs.Prelude.{◌≡◌, ◌-◌, ◌≤◌, IfErr, IfOk, 
 ghost use Rattle.std.specs.String.{string_bytes};
 ghost use Rattle.station_main.specs.Inputs.{unknown};
 ghost use Rattle.station_main.specs.Rounds.{RunsAsked, RunsForDisplays};
-ghost use Rattle.station_main.specs.Telling.{told_of};
+ghost use Rattle.messages.specs.Telling.{told_of};
 
-use crate::alarms::Alarms;
-use crate::beside::Beside;
-use crate::displays::{Displays, status_of};
-use crate::faults::Fault;
-use crate::limit_alarm::LimitAlarm;
 use crate::output::{JobResult, without_output};
 use crate::path_host::PathHost;
 use crate::run_job::{RunOptions, run_paths};
-use crate::standard_error::StandardError;
+use messages::{Alarms, Fault, StandardError};
 use station_report::Sink;
+use station_reporter::displays::status_of;
+use station_reporter::{Beside, Displays, LimitAlarm};
 use std::alloc::{AllocError, Global};
 use std::fs::File;
 use std::io::Write;

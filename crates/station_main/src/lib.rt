@@ -1,53 +1,30 @@
 //! The program `groundstation`, over any streams.
 #![tactic(auto)]
 
-mod alarms;
-mod bell;
-mod beside;
-mod command_line;
-mod commands;
 mod display_job;
-mod displays;
-mod duties;
-mod faults;
 mod kept;
-pub mod laws;
-mod limit_alarm;
 mod limits;
+mod obeying;
 mod opened;
 mod output;
 mod path_ends;
 mod path_host;
 mod paths;
 mod process;
-mod record_file;
-mod recorder;
 mod reopening;
 mod replay_job;
-mod reporter;
 mod round;
 mod run_job;
-mod schedule;
 mod shift;
-mod site;
-mod standard_error;
-mod table_format;
-mod tallies;
 mod threads;
-mod words;
 
-pub use alarms::Alarms;
-pub use bell::Bell;
-pub use command_line::{obey, program};
+pub use command_line::{Job, Pace, RunArguments, TableFormat, WordsFault, read_words};
 pub use display_job::run_for_displays;
-pub use duties::Duties;
-pub use kept::Kept;
+pub use messages::{Alarms, StandardError};
+pub use obeying::{obey, program};
 pub use opened::Opened;
 pub use output::JobResult;
 pub use path_host::{PathEvent, PathHost};
 pub use process::{exit_code, own_words};
 pub use run_job::RunOptions;
-pub use schedule::{Act, Due, Pace, Tables, act_at};
-pub use standard_error::StandardError;
-pub use table_format::TableFormat;
-pub use words::{Job, RunArguments, WordsFault, read_words};
+pub use station_reporter::{Act, Bell, Due, Duties, Kept, Tables, act_at};

@@ -2,10 +2,9 @@
 ghost use Rattle.std.specs.Prelude.{◌≡◌, None, true};
 ghost use Rattle.std.specs.Io.Buffered.{writer_contents};
 ghost use Rattle.station_main.specs.Output.{GivesBack};
-ghost use Rattle.station_main.specs.Telling.{Tells, fault_line, told_of};
+ghost use Rattle.messages.specs.Telling.{Tells, fault_line, told_of};
 
-use crate::faults::{Fault, tell};
-use crate::standard_error::StandardError;
+use messages::{Fault, StandardError, tell};
 use std::io::{BufWriter, Write};
 
 /// What a job leaves.

@@ -5,12 +5,11 @@ ghost use Rattle.clap.specs.Words.{Text};
 ghost use Rattle.station_portions.specs.Giving.{state_of};
 ghost use Rattle.station_portions.specs.declared.message.PathEnd.TheVariants.{AtEnd};
 ghost use Rattle.station_main.specs.Inputs.{AllTakeFrom, GaveAll, GaveAllBut, TakesFrom, unfinished_status};
-ghost use Rattle.station_main.specs.Telling.{Tells, told_of, unfinished_lines};
+ghost use Rattle.messages.specs.Telling.{Tells, told_of, unfinished_lines};
 
-use crate::faults::{Fault, tell};
 use crate::paths::{PathThread, ReaderHandle};
-use crate::standard_error::StandardError;
 use crate::threads::Input;
+use messages::{Fault, StandardError, tell};
 use station_portions::PathEnd;
 use std::io::{Read, Write};
 use std::sync::Wait;

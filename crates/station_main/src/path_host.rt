@@ -1,7 +1,7 @@
 //! What the threads that read paths have of the system.
 
-use crate::faults::Fault;
 use crate::opened::Opened;
+use messages::Fault;
 use std::fmt::{self, Display, Formatter};
 use std::io::Write;
 

@@ -7,12 +7,11 @@ ghost use Rattle.station_main.specs.Inputs.{AreFed, IsFedBy, path_of};
 ghost use Rattle.station_main.specs.Rounds.{HasNoLines};
 ghost use Rattle.station_main.specs.Run.{IsUnopened, IsUnstarted};
 
-use crate::faults::Fault;
 use crate::opened::{Opened, OpenedPath};
 use crate::path_host::PathHost;
 use crate::reopening::Reopening;
-use crate::shift::Answer;
 use crate::threads::Input;
+use messages::{Answer, Fault};
 use station_portions::{FinishedPath, HandOver, PathReader, WholePath, connect};
 use station_shared::Tally;
 use std::alloc::Global;

@@ -4,12 +4,10 @@ ghost use Rattle.std.specs.Process.{exit_status};
 ghost use Rattle.std.specs.String.{string_bytes};
 ghost use Rattle.station_main.specs.Jobs.{GivesStatus};
 
-use crate::alarms::Alarms;
-use crate::command_line::obey;
-use crate::faults::{Fault, tell};
+use crate::obeying::obey;
 use crate::path_host::PathHost;
-use crate::schedule::milliseconds_since_1970;
-use crate::standard_error::StandardError;
+use messages::{Alarms, Fault, StandardError, tell};
+use station_reporter::milliseconds_since_1970;
 use std::alloc::{AllocError, Global};
 use std::env;
 use std::fs::File;

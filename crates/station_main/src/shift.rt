@@ -10,20 +10,17 @@ ghost use Rattle.station_main.specs.Run.{IsUnstarted, ends_run, is_open, may_wor
 mod ending;
 mod opening;
 
-use crate::beside::Beside;
-use crate::duties::Duties;
-use crate::faults::Fault;
-use crate::kept::Kept;
 use crate::limits::AIRCRAFT;
 use crate::output::ClosedOutput;
-use crate::reporter::Reporter;
 use crate::shift::ending::{finish, hand_over};
 use crate::shift::opening::begin;
 use crate::threads::{Input, Output, Receiver, run_threads};
+use messages::{Answer, Fault};
 use station_journal::Journal;
 use station_portions::{HandOver, PathEnd};
 use station_report::Sink;
-use station_shared::{Places, PumpFault, StationName, Tally};
+use station_reporter::{Beside, Duties, Kept, Reporter};
+use station_shared::{Places, PumpFault, StationName};
 use std::alloc::Global;
 use std::fs::File;
 use std::io::Write;
@@ -32,9 +29,6 @@ use std::sync::ledger::Blank;
 use std::sync::{Arc, Wait};
 use std::thread::Threads;
 use std::time::{Clock, Instant};
-
-/// What was counted of a path, and its fault if it had one.
-pub type Answer = Result<Tally, PumpFault>;
 
 /// What a station is begun with.
 #[derive(Drop)]

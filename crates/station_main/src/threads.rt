@@ -1,16 +1,16 @@
 //! The threads of a station of the job `run`, and the last table.
 ghost use Rattle.std.specs.Prelude.{IfSome};
 ghost use Rattle.station_main.specs.Output.{buffered_of};
-ghost use Rattle.station_main.specs.Reporter.{HasReported};
+ghost use Rattle.station_reporter.specs.Reporter.{HasReported};
 ghost use Rattle.station_main.specs.Run.{HaveWorked, PrintsLast};
 
-use crate::bell::Bell;
-use crate::beside::Beside;
 use crate::limits::{AIRCRAFT, TURNS};
 use crate::output::{ClosedOutput, drop_unwritten, unbuffered};
-use crate::reporter::{Reporter, ReporterResult, ReportsFrom, print_and_record, report};
 use station_portions::{HandOver, Portions};
 use station_report::{Format, Sink, ToWrite};
+use station_reporter::{
+    Bell, Beside, Reporter, ReporterResult, ReportsFrom, print_and_record, report,
+};
 use station_shared::{Seat, Station, StationName, Worker, run_receivers};
 use std::alloc::Global;
 use std::fs::File;

@@ -4,11 +4,11 @@ ghost use Rattle.station_shared.specs.Seats.{newcomer, newcomers};
 ghost use Rattle.station_main.specs.Rounds.{MayBegin, start_of};
 ghost use Rattle.station_main.specs.Run.{IsUnstarted};
 
-use crate::faults::Fault;
-use crate::kept::Kept;
 use crate::limits::{AIRCRAFT, limits};
 use crate::threads::{Input, Receiver};
+use messages::Fault;
 use station_journal::{NoMemory, ResumeFault};
+use station_reporter::Kept;
 use station_shared::{Places, Seat, Station, StationName, Worker};
 use std::alloc::Global;
 use std::sync::Wait;

@@ -1,5 +1,5 @@
 use Rattle.std.proofs.Common.{inl, inr, refl}
-use Rattle.station_main.specs.Displays.{have_failed}
+use Rattle.station_reporter.specs.Displays.{have_failed}
 use Rattle.station_main.proofs.display_job.run_for_displays.Goals as goal
 
 pub returns-in_default-clause-runs : goal.returns-in_default-clause-runs

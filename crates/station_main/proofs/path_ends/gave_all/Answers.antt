@@ -2,7 +2,7 @@ use Rattle.std.proofs.Common.{◌≡◌, ◌∙◌, Some, ap, refl, subst, sym}
 use Rattle.station_portions.specs.Giving.{given_bytes, left_of}
 use Rattle.station_portions.specs.Whole.{GivesPath}
 use Rattle.station_portions.specs.declared.message.PathEnd.TheVariants.{AtEnd}
-use Rattle.station_main.proofs.FoundLemmas.{some_same}
+use Rattle.command_line.proofs.FoundLemmas.{some_same}
 use Rattle.station_main.proofs.path_ends.gave_all.Goals as goal
 
 pub gave_path-is_whole-requires : goal.gave_path-is_whole-requires

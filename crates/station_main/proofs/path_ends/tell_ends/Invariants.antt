@@ -1,7 +1,8 @@
 use Rattle.std.proofs.Common.{◌≤◌, map, string_bytes}
 use Rattle.std.specs.Vec.Iter.{into_iter_items}
 use Rattle.station_portions.specs.Giving.{state_of}
-use Rattle.station_main.proofs.Common.{AllTakeFrom, told_of}
+use Rattle.messages.proofs.Common.{told_of}
+use Rattle.station_main.proofs.Common.{AllTakeFrom}
 use Rattle.station_main.proofs.PathEndLemmas.{EndsSoFar}
 use Rattle.station_main.proofs.path_ends.tell_ends.Given as goal
 

@@ -1,6 +1,6 @@
 use Rattle.std.proofs.Common.{◌≡◌, ◌∷◌, [], arith, string_bytes, subst, sym}
-use Rattle.station_main.specs.Telling.{unfinished_words}
-use Rattle.station_main.proofs.Common.{Tells, telling_line, told_of}
+use Rattle.messages.specs.Telling.{unfinished_words}
+use Rattle.messages.proofs.Common.{Tells, telling_line, told_of}
 use Rattle.station_main.proofs.PathEndLemmas.{no-lines, one-line, tells-nothing}
 use Rattle.station_main.proofs.path_ends.tell_unfinished.Goals as goal
 

@@ -1,5 +1,5 @@
 use Rattle.std.proofs.Common.{inl, inr, option_map}
-use Rattle.station_main.specs.Telling.{told_of}
+use Rattle.messages.specs.Telling.{told_of}
 use Rattle.station_main.proofs.process.exit_code.Goals as goal
 
 pub returns-in_default-clause-given : goal.returns-in_default-clause-given

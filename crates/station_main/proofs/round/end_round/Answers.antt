@@ -1,6 +1,8 @@
 use Rattle.std.proofs.Common.{inl, inr, List, Option, subst, sym, arith, ◌≡◌}
 use Rattle.station_journal.specs.declared.entry.Entry.{Entry}
-use Rattle.station_main.proofs.Common.{Recording, IsLastStation, IsRound, KeepsRecent, start_of, Tells, fault_line, told_of}
+use Rattle.messages.proofs.Common.{Tells, fault_line, told_of}
+use Rattle.station_reporter.proofs.Common.{Recording}
+use Rattle.station_main.proofs.Common.{IsLastStation, IsRound, KeepsRecent, start_of}
 use Rattle.station_main.proofs.RoundLemmas.{last-station}
 use Rattle.station_main.proofs.round.end_round.Goals as goal
 

@@ -1,7 +1,8 @@
 use Rattle.std.proofs.Common.{refl, zero, suc, inr, arith, ap, length, subst, sym, ◌∙◌, ◌≡◌, option_map}
 use Rattle.std.proofs.lemmas.List.{length-map}
 use Rattle.station_portions.specs.Giving.{state_of}
-use Rattle.station_main.proofs.Common.{buffered_of, EndsRound, IsRound, begun_of, EndsEarly, told_of}
+use Rattle.messages.proofs.Common.{told_of}
+use Rattle.station_main.proofs.Common.{buffered_of, EndsRound, IsRound, begun_of, EndsEarly}
 use Rattle.station_main.proofs.RoundLemmas.{hand_over_answers, hand_over_sound, over_early}
 use Rattle.station_main.proofs.ReceiverLemmas.{pumped-take}
 use Rattle.station_main.proofs.round.run_round.Goals as goal

@@ -2,7 +2,9 @@ use Rattle.std.specs.Prelude.{◌≡◌, ◌≤◌, ℕ, List, Option, length, m
 use Rattle.station_journal.specs.Resume.{IsSound}
 use Rattle.station_history.specs.Start.{Start}
 use Rattle.station_portions.specs.Giving.{state_of}
-use Rattle.station_main.proofs.Common.{AllTakeFrom, program_limits, buffered_of, Recording, RunPlan, RoundStart, IsFirst, IsRound, Stations, begun_of, Closing, Told, told_of}
+use Rattle.messages.proofs.Common.{Told, told_of}
+use Rattle.station_reporter.proofs.Common.{Recording}
+use Rattle.station_main.proofs.Common.{AllTakeFrom, program_limits, buffered_of, RunPlan, RoundStart, IsFirst, IsRound, Stations, begun_of, Closing}
 use Rattle.station_main.proofs.round.run_round.Given as goal
 
 -- with the stations to come, those so far are the stations of the round

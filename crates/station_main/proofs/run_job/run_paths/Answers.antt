@@ -1,5 +1,5 @@
 use Rattle.std.proofs.Common.{ap, inl, option_map}
-use Rattle.station_main.proofs.TellLemmas.{record_fault_told}
+use Rattle.messages.proofs.TellLemmas.{record_fault_told}
 use Rattle.station_main.proofs.run_job.run_paths.Goals as goal
 
 pub returns-in_default-clause-runs : goal.returns-in_default-clause-runs

@@ -1,6 +1,8 @@
 use Rattle.std.proofs.Common.{ℕ, ◌-◌, List, Option, map, reverse, string_bytes}
 use Rattle.station_journal.specs.Resume.{IsSound}
-use Rattle.station_main.proofs.Common.{program_limits, Recording, RunPlan, RunsRounds, start_of, no_start, Told, told_of}
+use Rattle.messages.proofs.Common.{Told, told_of}
+use Rattle.station_reporter.proofs.Common.{Recording}
+use Rattle.station_main.proofs.Common.{program_limits, RunPlan, RunsRounds, start_of, no_start}
 use Rattle.station_main.specs.Inputs.{unknown}
 use Rattle.station_main.proofs.run_job.run_rounds.Given as goal
 

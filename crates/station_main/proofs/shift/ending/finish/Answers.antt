@@ -1,7 +1,8 @@
 use Rattle.std.proofs.Common.{◌≡◌, ◌∙◌, List, ap, false, is_some, map, refl, subst, sym}
 use Rattle.station_lines.specs.Source.{SourceState}
 use Rattle.station_portions.specs.Giving.{state_of}
-use Rattle.station_main.proofs.Common.{Closing, AddsAll, PrintsLast, buffered_of, may_go_on}
+use Rattle.messages.proofs.Common.{AddsAll}
+use Rattle.station_main.proofs.Common.{Closing, PrintsLast, buffered_of, may_go_on}
 use Rattle.station_main.proofs.GoingOnLemmas.{work-on}
 use Rattle.station_main.proofs.ReceiverLemmas.{reports_by, serves_by}
 use Rattle.station_main.proofs.SeatNumberLemmas.{last_numbered}

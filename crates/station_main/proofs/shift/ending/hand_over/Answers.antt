@@ -1,7 +1,10 @@
 use Rattle.std.proofs.Common.{◌≡◌, ◌∙◌, ℕ, List, ap, length, map, subst, sym, true}
 use Rattle.station_portions.specs.Giving.{state_of}
 use Rattle.station_lines.specs.Source.{SourceState}
-use Rattle.station_main.proofs.Common.{not_before, Closing, AddsAll, Duties, may_go_on}
+use Rattle.messages.proofs.Common.{AddsAll}
+use Rattle.station_reporter.proofs.Common.{not_before}
+use Rattle.station_reporter.specs.declared.duties.Duties.{Duties}
+use Rattle.station_main.proofs.Common.{Closing, may_go_on}
 use Rattle.station_main.proofs.GoingOnLemmas.{work-on}
 use Rattle.station_main.proofs.ReceiverLemmas.{reports_by, serves_by}
 use Rattle.station_main.proofs.shift.ending.hand_over.Goals as goal

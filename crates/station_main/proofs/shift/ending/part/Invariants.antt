@@ -2,7 +2,7 @@ use Rattle.std.specs.Prelude.{◌≡◌, ◌∷◌, ◌++◌, All, List, Result,
 use Rattle.std.specs.Vec.Iter.{into_iter_items}
 use Rattle.station_lines.specs.declared.pumping.PumpFault.{PumpFault}
 use Rattle.station_lines.specs.declared.tally.Tally.{Tally}
-use Rattle.station_main.specs.Sums.{AddsAll}
+use Rattle.messages.specs.Sums.{AddsAll}
 use Rattle.station_main.proofs.shift.ending.part.Given as goal
 
 -- the seats, the inputs and the sums so far, and what is left

@@ -1,0 +1,248 @@
+//! The commands that `clap` reads: their options, and what help says of them.
+ghost use Rattle.command_line.specs.Command.{IsArg, IsMade, at_place, every, format, json_folder, path, record_file, reopen, replay, rounds, run, run_formats, run_options, run_times, station, tick};
+ghost use Rattle.std.specs.Prelude.{◌≡◌, IfOk};
+
+use clap::builder::ValueParser;
+use clap::{Arg, ArgAction, Command, value_parser};
+use std::alloc::{AllocError, Global};
+
+/// The version of the program.
+pub const VERSION: &str = "1.0.0";
+
+const MOST_PATHS: usize = 8;
+
+const AFTER_HELP: &str = concat!(
+    "Examples:\n",
+    "  groundstation replay < examples/klm1023.avr\n",
+    "  groundstation run --every 1000 <(nc -w 130 127.0.0.1 30002 < /dev/null)\n",
+    "\n",
+    "'groundstation help run' says more. The formats of lines and tables are in\n",
+    "docs/FORMATS.md; columns, counts and faults in docs/USING.md.",
+);
+
+const AFTER_REPLAY_HELP: &str = concat!(
+    "Lines of the input, one of each kind:\n",
+    "  *8D4840D6202CC371C32CE0576098;              frame, 14 or 28 hexadecimal digits\n",
+    "  @0123456789AB8D4840D6202CC371C32CE0576098;  frame behind a receiver's counter\n",
+    "  *0000;                                      heartbeat, passed over\n",
+    "  +61000                                      sets the clock, in milliseconds\n",
+    "  ?                                           writes the table\n",
+    "\n",
+    "Examples:\n",
+    "  groundstation replay < examples/traffic.avr\n",
+    "  (cat examples/klm1023.avr; echo +60000; echo '?') | groundstation replay\n",
+    "\n",
+    "Without + lines nothing ages. At the end of the input a line of counts goes to\n",
+    "standard error. For live receivers there is 'groundstation run'.\n",
+    "At a + line, once there are 12582912 accepted frames and + lines, those that\n",
+    "are more than 70 s old are forgotten. There is room for 16777216. When it is\n",
+    "full, all that comes is refused, and 'now' stands still.\n",
+    "With --at aircraft on the ground have positions too. LAT and LON are the place\n",
+    "of the receivers in degrees, right to some 100 km. A latitude of the south needs\n",
+    "the = sign: --at=-33.9,151.2\n",
+    "Formats: docs/FORMATS.md.",
+);
+
+const AFTER_RUN_HELP: &str = concat!(
+    "Lines of a path, one of each kind:\n",
+    "  *8D4840D6202CC371C32CE0576098;              frame, 14 or 28 hexadecimal digits\n",
+    "  @0123456789AB8D4840D6202CC371C32CE0576098;  frame behind a receiver's counter\n",
+    "  *0000;                                      heartbeat, passed over\n",
+    "\n",
+    "Examples, of a receiver that serves such lines, as dump1090 and readsb do:\n",
+    "  groundstation run --every 1000 <(nc -w 130 127.0.0.1 30002 < /dev/null)\n",
+    "  nc -w 130 127.0.0.1 30002 < /dev/null |\n",
+    "    groundstation run --every 1000 /dev/stdin\n",
+    "  groundstation run --every 1000 --record day.avr PATH\n",
+    "\n",
+    "The clock is the time since the start, and moves where a table is due: all that\n",
+    "is heard between two tables is dated to the earlier one. An MS of 1000 or so is\n",
+    "best: above 10000 positions may be wrong, above 60000 only the last table shows\n",
+    "aircraft. With --tick the clock also moves between tables: MS may be an hour.\n",
+    "When every path has ended, the last table is written, and a line of counts for\n",
+    "each path goes to standard error.\n",
+    "--json writes each table to DIR/aircraft.json too, which displays read.\n",
+    "--record writes all that was accepted to FILE, with a ? for each table:\n",
+    "'groundstation replay < FILE' prints the tables again, with the same --at.\n",
+    "With --at aircraft on the ground have positions too. LAT and LON are the place\n",
+    "of the receivers in degrees, right to some 100 km. A latitude of the south needs\n",
+    "the = sign: --at=-33.9,151.2\n",
+    "With --reopen a path that has ended, or whose read failed, is opened again one\n",
+    "second later, for as long as the program runs. It can't go with --rounds.\n",
+    "Once there are 12582912 accepted frames and ticks, those that are more than\n",
+    "70 s old are forgotten. There is room for 16777216. When it is full, all that\n",
+    "comes is refused, and 'now' stands still.\n",
+    "Formats: docs/FORMATS.md. Receivers that drop: docs/USING.md.",
+);
+
+/// The whole command line: one of the two jobs, help, or the version. `names` are the words of `--format`. Refused if out of
+/// memory.
+pub fn station_command<'a>(alloc: Global, names: &'a [&'a str]) -> Result<Command<'a>, AllocError>
+    ensures { IfOk result (IsMade (station names.entry)) }
+{
+    let top = Command::new(alloc, "groundstation")
+        .about("Decodes Mode S frames and keeps a table of aircraft")
+        .version(VERSION)
+        .after_help(AFTER_HELP)
+        .subcommand_required(true);
+    let replay = replay_command(alloc, names)?;
+    let run = run_command(alloc, names)?;
+    let with_replay = top.subcommand(replay)?;
+    with_replay.subcommand(run)
+}
+
+fn replay_command<'a>(alloc: Global, names: &'a [&'a str]) -> Result<Command<'a>, AllocError>
+    ensures { IfOk result (IsMade (replay names.entry)) }
+{
+    let format = format_arg(alloc, names);
+    let place = at_arg(alloc);
+    let bare = Command::new(alloc, "replay")
+        .about("Reads standard input, and writes the table at each line that is ?")
+        .after_help(AFTER_REPLAY_HELP);
+    let with_format = bare.arg(format)?;
+    with_format.arg(place)
+}
+
+fn run_command<'a>(alloc: Global, names: &'a [&'a str]) -> Result<Command<'a>, AllocError>
+    ensures { IfOk result (IsMade (run names.entry)) }
+{
+    let path = path_arg(alloc);
+    let with_options = run_with_options(alloc, names)?;
+    with_options.arg(path)
+}
+
+fn run_with_options<'a>(alloc: Global, names: &'a [&'a str]) -> Result<Command<'a>, AllocError>
+    ensures { IfOk result (IsMade (run_options names.entry)) }
+{
+    let rounds = rounds_arg(alloc);
+    let reopen = reopen_arg(alloc);
+    let file = record_arg(alloc);
+    let place = at_arg(alloc);
+    let with_formats = run_with_formats(alloc, names)?;
+    let with_rounds = with_formats.arg(rounds)?;
+    let with_reopen = with_rounds.arg(reopen)?;
+    let with_record = with_reopen.arg(file)?;
+    with_record.arg(place)
+}
+
+fn run_with_formats<'a>(alloc: Global, names: &'a [&'a str]) -> Result<Command<'a>, AllocError>
+    ensures { IfOk result (IsMade (run_formats names.entry)) }
+{
+    let format = format_arg(alloc, names);
+    let folder = json_arg(alloc);
+    let with_times = run_with_times(alloc)?;
+    let with_format = with_times.arg(format)?;
+    with_format.arg(folder)
+}
+
+fn run_with_times<'a>(alloc: Global) -> Result<Command<'a>, AllocError>
+    ensures { IfOk result (IsMade run_times) }
+{
+    let every = every_arg(alloc);
+    let tick = tick_arg(alloc);
+    let bare = Command::new(alloc, "run")
+        .about("Reads 1 to 8 paths side by side, and writes one table every MS")
+        .after_help(AFTER_RUN_HELP);
+    let with_every = bare.arg(every)?;
+    with_every.arg(tick)
+}
+
+// `--every MS`
+fn every_arg<'a>(alloc: Global) -> Arg<'a>
+    ensures { IsArg every result }
+{
+    let milliseconds = value_parser!(u32).range(1..=3_600_000);
+    Arg::new(alloc, "every")
+        .long("every")
+        .value_name("MS")
+        .help("Milliseconds from one table to the next, 1 to 3600000")
+        .required(true)
+        .value_parser(milliseconds)
+}
+
+// `--tick MS`
+fn tick_arg<'a>(alloc: Global) -> Arg<'a>
+    ensures { IsArg tick result }
+{
+    let milliseconds = value_parser!(u32).range(1..=60_000);
+    Arg::new(alloc, "tick")
+        .long("tick")
+        .value_name("MS")
+        .help("Milliseconds between ticks without a table, 1 to 60000")
+        .value_parser(milliseconds)
+}
+
+// `--format FORMAT`
+fn format_arg<'a>(alloc: Global, names: &'a [&'a str]) -> Arg<'a>
+    ensures { IsArg (format names.entry) result }
+{
+    Arg::new(alloc, "format")
+        .long("format")
+        .value_name("FORMAT")
+        .help("How tables are written")
+        .value_parser(ValueParser::Names(names))
+}
+
+// `--json DIR`
+fn json_arg<'a>(alloc: Global) -> Arg<'a>
+    ensures { IsArg json_folder result }
+{
+    Arg::new(alloc, "json")
+        .long("json")
+        .value_name("DIR")
+        .help("Folder for each table as aircraft.json, for displays")
+}
+
+// `--rounds R`. Without a default of `clap`, so that its matches say whether it is given.
+fn rounds_arg<'a>(alloc: Global) -> Arg<'a>
+    ensures { IsArg rounds result }
+{
+    let times = value_parser!(u16).range(1..=1000);
+    Arg::new(alloc, "rounds")
+        .long("rounds")
+        .value_name("R")
+        .help("How often to read the paths, 1 to 1000 [default: 1]")
+        .value_parser(times)
+}
+
+// `--reopen`
+fn reopen_arg<'a>(alloc: Global) -> Arg<'a>
+    ensures { IsArg reopen result }
+{
+    Arg::new(alloc, "reopen")
+        .long("reopen")
+        .help("Open each path again 1 s after it ended or failed")
+        .action(ArgAction::SetTrue)
+}
+
+// `--record FILE`
+fn record_arg<'a>(alloc: Global) -> Arg<'a>
+    ensures { IsArg record_file result }
+{
+    Arg::new(alloc, "record")
+        .long("record")
+        .value_name("FILE")
+        .help("File to record the run to, for replay")
+}
+
+// `--at LAT,LON`
+fn at_arg<'a>(alloc: Global) -> Arg<'a>
+    ensures { IsArg at_place result }
+{
+    Arg::new(alloc, "at")
+        .long("at")
+        .value_name("LAT,LON")
+        .help("Place of the receivers, for aircraft on the ground")
+}
+
+// `PATH..`
+fn path_arg<'a>(alloc: Global) -> Arg<'a>
+    ensures { IsArg path result }
+{
+    Arg::new(alloc, "path")
+        .value_name("PATH")
+        .help("1 to 8 files or named pipes, each read by a receiver of its own")
+        .required(true)
+        .action(ArgAction::Set)
+        .num_args(1..=MOST_PATHS)
+}

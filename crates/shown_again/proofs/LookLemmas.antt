@@ -1,0 +1,107 @@
+-- What the looks of a station have seen: each list begins with the one before it.
+use Rattle.std.proofs.Common.{◌≡◌, inl, inr, ℕ, Bool, true, false, List, [], ◌∷◌, ◌++◌, Option, Some, None, refl, sym, ap, subst, IfSome, unwrap_or, All, flat_map}
+use mathlib.Core.List.{IsPrefix}
+use Rattle.std.proofs.lemmas.List.Elements.{All-cons, All-head, All-nil, All-tail}
+use Rattle.station_journal.specs.declared.entry.Entry.{Entry}
+use Rattle.station_journal.specs.Log.{IsLegal}
+use Rattle.station_report.specs.declared.formats.Format.TheVariants.{Text}
+use Rattle.station_history.specs.Start.{Start, log_of}
+use Rattle.station_shared.specs.Seats.{Seated, Looks}
+use Rattle.station_record.specs.Record.{Grows, last_after}
+use Rattle.station_reporter.proofs.PrefixLemmas.{begins-same, begins-trans}
+use Rattle.station_reporter.proofs.Common.{seen_by, IsLater, MayHandOver, Showing, Showings, Ticks, looks_of, seat_after, text_of, texts}
+use Rattle.station_reporter.specs.declared.duties.Duties.{Duties}
+use Rattle.station_reporter.specs.declared.schedule.Due.{Due}
+use Rattle.station_main.proofs.Common.{LastLook}
+
+-- ---- prefixes
+
+grows-from : (a b : List Entry) (lists : List (List Entry)) → IsPrefix a b → Grows b lists → Grows a lists
+grows-from a b [] p grows = tt
+grows-from a b (seen ∷ later) p grows = (begins-trans a b seen p grows.0, grows.1)
+
+last-from : (a b c : List Entry) (lists : List (List Entry)) → IsPrefix a b → IsPrefix (last_after b lists) c → IsPrefix (last_after a lists) c
+last-from a b c [] p last = begins-trans a b c p last
+last-from a b c (seen ∷ later) p last = last
+
+pub grows-last : (front : List Entry) (lists : List (List Entry)) → Grows front lists → IsPrefix front (last_after front lists)
+grows-last front [] grows = begins-same front front refl
+grows-last front (seen ∷ later) grows = begins-trans front seen (last_after seen later) grows.0 (grows-last seen later grows.1)
+
+-- ---- what the looks of a station have seen
+
+abbrev pub Legal : Start → List Entry → Type 0
+Legal start seen = IsLegal (log_of start seen)
+
+-- lists that each look of a seat has seen, from its first entries to its last
+pub record Grown (start : Start) (front end : List Entry) (lists : List (List Entry)) : Type 0 where
+  pub grows : Grows front lists
+  pub last : IsPrefix (last_after front lists) end
+  pub legal : All (Legal start) lists
+
+ticked : (start : Start) (old : Seated) (at : ℕ) (new : Seated) → Ticks start old at new → IsPrefix old.seen new.seen
+ticked start old at new (inl accepted) =
+    let is = accepted.1 in
+    begins-trans old.seen is.mid new.seen is.later (_, sym is.seen)
+ticked start old at new (inr refused) = refused.1.later
+
+pub last-grown : (start : Start) (mid closing : Seated) (failed : Bool) (looks : List (Option Seated)) → LastLook start mid closing failed looks → Grown start mid.seen closing.seen (seen_by looks)
+last-grown start mid closing true looks is =
+    subst (λ (ls : List (Option Seated)). Grown start mid.seen closing.seen (seen_by ls)) (sym is.0)
+    (record { grows = tt; last = begins-same mid.seen closing.seen (ap (λ (s : Seated). s.seen) (sym is.1)); legal = All-nil (Legal start) })
+last-grown start mid closing false looks is = subst (λ (ls : List (Option Seated)). Grown start mid.seen closing.seen (seen_by ls)) (sym is.1) (by-look is.0 is.2 is.3)
+  where
+    by-look : (look : Option Seated) → unwrap_or look mid ≡ closing → IfSome look (λ l. Looks start mid l) → Grown start mid.seen closing.seen (seen_by (look ∷ []))
+    by-look None same looked = record { grows = tt; last = begins-same mid.seen closing.seen (ap (λ (s : Seated). s.seen) same); legal = All-nil (Legal start) }
+    by-look (Some l) same looked = record {
+      grows = (looked.later, tt);
+      last = begins-same l.seen closing.seen (ap (λ (s : Seated). s.seen) same);
+      legal = All-cons (Legal start) l.seen [] looked.legal (All-nil (Legal start));
+    }
+
+more-grown : (start : Start) (old mid : Seated) (end : List Entry) (look : Option Seated) (looks : List (Option Seated)) → IsPrefix old.seen mid.seen → IfSome look (λ l. Looks start mid l)
+    → Grown start (unwrap_or look mid).seen end (seen_by looks) → Grown start old.seen end (seen_by (look ∷ looks))
+more-grown start old mid end None looks ticks looked rest = record {
+  grows = grows-from old.seen mid.seen (seen_by looks) ticks rest.grows;
+  last = last-from old.seen mid.seen end (seen_by looks) ticks rest.last;
+  legal = rest.legal;
+}
+more-grown start old mid end (Some l) looks ticks looked rest = record {
+  grows = (begins-trans old.seen mid.seen l.seen ticks looked.later, rest.grows);
+  last = rest.last;
+  legal = All-cons (Legal start) l.seen (seen_by looks) looked.legal rest.legal;
+}
+
+pub later-prefix : (start : Start) (old new : Seated) → IsLater start old new → IsPrefix old.seen new.seen
+later-prefix start old new (inl same) = begins-same old.seen new.seen (ap (λ (s : Seated). s.seen) (sym same))
+later-prefix start old new (inr looks) = looks.later
+
+pub hand-over-prefix : (start : Start) (duties : Duties) (asked_at : Option ℕ) (due next : Due) (old new : Seated) (failed : Bool) → MayHandOver start duties asked_at due next old new failed → IsPrefix old.seen new.seen
+hand-over-prefix start duties None due next old new failed is = begins-same old.seen new.seen (ap (λ (s : Seated). s.seen) (sym is.0))
+hand-over-prefix start duties (Some at) due next old new failed is = ticked start old at new is.ticks
+
+-- the showings, and looks after them from a seat that has seen as much or more
+pub grown : (start : Start) (old : Seated) (showings : List Showing) (shown mid : Seated) (end : List Entry) (last : List (Option Seated)) → Showings start old showings shown → IsPrefix shown.seen mid.seen
+    → Grown start mid.seen end (seen_by last) → Grown start old.seen end (seen_by (looks_of showings ++ last))
+grown start old [] shown mid end last walk to is = subst (λ (s : Seated). Grown start s.seen end (seen_by last)) walk (more-grown start shown mid end None last to tt is)
+grown start old (s ∷ rest) shown mid end last walk to is =
+    more-grown start old s.ticked end s.look (looks_of rest ++ last) (ticked start old s.acting.at s.ticked walk.0.ticks) walk.0.looks
+    (grown start (seat_after s) rest shown mid end last walk.1 to is)
+
+-- what holds of each list between the first and the last
+module _ (start : Start) (least end : List Entry) (P : List Entry → Type 0) (holds : (seen : List Entry) → IsPrefix least seen → IsPrefix seen end → Legal start seen → P seen) where
+  pub all-so : (front : List Entry) (lists : List (List Entry)) → IsPrefix least front → Grows front lists → IsPrefix (last_after front lists) end → All (Legal start) lists → All P lists
+  all-so front [] begins grows last legal = All-nil P
+  all-so front (seen ∷ later) begins grows last legal =
+      let from = begins-trans least front seen begins grows.0 in
+      let to = begins-trans seen (last_after seen later) end (grows-last seen later grows.1) last in
+      All-cons P seen later (holds seen from to (All-head (Legal start) seen later legal)) (all-so seen later from grows.1 last (All-tail (Legal start) seen later legal))
+
+-- the table of these entries, as text
+abbrev pub text_table : Start → List Entry → List ℕ
+text_table start seen = text_of Text start seen
+
+pub texts-seen : (start : Start) (looks : List (Option Seated)) → texts Text start looks ≡ flat_map (text_table start) (seen_by looks)
+texts-seen start [] = refl
+texts-seen start (None ∷ looks) = texts-seen start looks
+texts-seen start (Some look ∷ looks) = ap (λ (bs : List ℕ). text_table start look.seen ++ bs) (texts-seen start looks)

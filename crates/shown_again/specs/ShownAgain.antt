@@ -1,0 +1,44 @@
+-- What a replay of the record of a run prints.
+use Rattle.std.specs.Prelude.{◌≡◌, ◌≤◌, ◌⊎◌, ℕ, zero, List, Option, Some}
+use Rattle.std.specs.Io.KnownBytes.{Appends}
+use Rattle.modes_frame.specs.Lines.{cuts}
+use Rattle.station_journal.specs.Log.{empty_log, most_entries}
+use Rattle.station_journal.specs.Past.{Site}
+use Rattle.station_report.specs.declared.formats.Format.TheVariants.{Text}
+use Rattle.station_replay.specs.Forgetting.{StaysSparse, calls_in}
+use Rattle.station_main.specs.Limits.{forget_at, most_between_ticks, program_limits}
+use Rattle.station_reporter.specs.Recorded.{Recording}
+use Rattle.station_main.specs.Replay.{EndsReplay}
+use Rattle.station_main.specs.Rounds.{RunPlan, RoundStart, RunsRounds}
+use Rattle.messages.specs.Telling.{Told}
+
+-- a run left its output, which took just this text
+pub record HasPrinted (before : Option (List ℕ)) (after : Option (Option (List ℕ))) (text : List ℕ) : Type 0 where
+  pub output : Option (List ℕ)
+  pub left : after ≡ Some output
+  pub grown : Appends before output text
+
+-- a run left its record, which took just these lines
+pub record HasRecorded (blank : Recording) (after : Option Recording) (lines : List ℕ) : Type 0 where
+  pub recording : Recording
+  pub left : after ≡ Some recording
+  pub grown : Appends blank.taken recording.taken lines
+
+-- the lines ask for no more entries than a journal may have; or, however many they ask for, fewer than 12,582,912 of them are
+-- recent at any time, and fewer than 4,194,304 come between two ticks
+abbrev pub HasRoom : Site → List ℕ → Type 0
+HasRoom site lines =
+    (calls_in (cuts lines) ≤ most_entries) ⊎ StaysSparse forget_at most_between_ticks (empty_log (program_limits site)) (cuts lines)
+
+-- each replay with this place and tables as text that reads just these lines, and ends with status 0, prints just this text
+abbrev pub ReplayPrints : Site → List ℕ → List ℕ → Type 0
+ReplayPrints site lines text =
+    (before after : Option (List ℕ)) (err_old err_new : Told)
+    → EndsReplay Text (program_limits site) (Some lines) before after err_old err_new 0 → Appends before after text
+
+-- the run was of one round, and its station handed over to no other
+abbrev pub IsOneStation : (asked : RunPlan) (more : ℕ) (given : RoundStart) (before : Option (List ℕ)) (after : Option (Option (List ℕ)))
+    (was is : Option Recording) (err_old err_new : Told) (status : ℕ)
+    → RunsRounds asked more given before after was is err_old err_new status → Type 0
+IsOneStation asked zero given before (Some after) was is err_old err_new status runs = runs.2.hand_overs ≡ 0
+IsOneStation asked more given before after was is err_old err_new status runs = ⊥

@@ -1,0 +1,26 @@
+//! A law over the definitions alone: what `replay` prints of the record of a run.
+ghost use Rattle.std.specs.Prelude.{◌≡◌, ℕ, List, Option, Some};
+ghost use Rattle.station_report.specs.declared.formats.Format.TheVariants.{Text};
+ghost use Rattle.station_main.specs.Rounds.{RunPlan, RunsRecorded, no_start};
+ghost use Rattle.shown_again.specs.ShownAgain.{HasPrinted, HasRecorded, HasRoom, IsOneStation, ReplayPrints};
+ghost use Rattle.messages.specs.Telling.{Told};
+ghost use Rattle.station_main.specs.Limits.{program_limits};
+ghost use Rattle.station_replay.specs.Forgetting.{unlimited_output};
+ghost use Rattle.station_journal.specs.Log.{empty_log};
+ghost use Rattle.modes_frame.specs.Lines.{cuts};
+
+/// `replay` of the record of a run prints, byte for byte, what the run printed as text. The run may have several rounds, each of
+/// any number of stations that hand over one to the next. It ended with status 0, as did the replay, whose input is just the
+/// lines that the record took, and which is given the same place, if any, as the run.
+///
+/// The replay's journal has to have room for the entries in these lines. It has for those of one station. It has for any number of
+/// them as long as fewer than 12,582,912 are recent and fewer than 4,194,304 come between two ticks.
+pub fn a_replay_prints_what_the_run_printed()
+    ensures { (asked : RunPlan) (more : ℕ) (before : Option (List ℕ)) (after : Option (Option (List ℕ)))
+        (alarm : Option (List ℕ)) (err_old err_new : Told) → asked.tables.format ≡ Text →
+        (run : RunsRecorded asked more before after alarm err_old err_new 0) → (text lines : List ℕ) ×
+        HasPrinted before after text × HasRecorded run.blank run.left lines ×
+        (unlimited_output (empty_log (program_limits asked.site)) (cuts lines) ≡ text) ×
+        (IsOneStation asked more (no_start asked.site) before after (Some run.blank) run.left err_old err_new run.of_rounds run.runs → HasRoom asked.site lines) ×
+        (HasRoom asked.site lines → ReplayPrints asked.site lines text) }
+{}

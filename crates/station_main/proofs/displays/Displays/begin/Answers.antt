@@ -1,8 +1,0 @@
-use Rattle.std.proofs.Common.{ap, ◌∙◌, string_bytes}
-use Rattle.station_main.proofs.displays.Displays.begin.Goals as goal
-
-pub returns : goal.returns
-returns g c = record {
-  table = ap string_bytes c.report_failure.ensures.table ∙ c.in_ok-file_in.ensures;
-  origin = c.report_failure.ensures.origin;
-}

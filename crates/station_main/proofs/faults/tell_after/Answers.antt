@@ -1,5 +1,0 @@
-use Rattle.station_main.proofs.TellLemmas.{tells_both}
-use Rattle.station_main.proofs.faults.tell_after.Goals as goal
-
-pub returns-clause-told : goal.returns-clause-told
-returns-clause-told g c = tells_both _ _ _ _ _ c.write_tally.ensures c.tell.ensures.told

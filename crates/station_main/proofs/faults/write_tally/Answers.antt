@@ -1,5 +1,0 @@
-use Rattle.std.proofs.Common.{append_assoc}
-use Rattle.station_main.proofs.faults.write_tally.Goals as goal
-
-pub returns : goal.returns
-returns g c = simp append_assoc (simp append_assoc at c.line.ensures)

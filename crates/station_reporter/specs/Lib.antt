@@ -1,0 +1,4 @@
+pub mod Displays
+pub mod Recorded
+pub mod Reporter
+pub mod Tables

@@ -1,0 +1,174 @@
+-- When the reporter acts, and what it prints.
+use Rattle.std.specs.Prelude.{◌≡◌, ℕ, ◌+◌, ◌-◌, ◌*◌, ◌/◌, ◌^◌, ◌≤◌, ◌<◌, ◌⊎◌, ◌&&◌, Bool, true, false, List, [], ◌∷◌, Option, Some, None, IfSome, Result, cond, is_err, length, map, min, nat_le, nat_lt, unwrap_or, if◌then◌else◌}
+use Rattle.std.specs.Option.{option_map_or}
+use Rattle.std.specs.Duration.{as_nanos}
+use Rattle.station_report.specs.Sink.{SinkState}
+use Rattle.station_journal.specs.declared.entry.Entry.TheVariants.{Tick}
+use Rattle.station_journal.specs.declared.refusal.Refusal.{Refusal}
+use Rattle.station_report.specs.declared.formats.Format.{Format}
+use Rattle.station_report.specs.declared.sinks.WriteFault.{WriteFault}
+use Rattle.station_history.specs.History.{Known}
+use Rattle.station_history.specs.Start.{Start}
+use Rattle.station_shared.specs.Seats.{Seated, Accepted, Refused, Looks}
+use Rattle.station_reporter.specs.Recorded.{IfRecording, PrintsAndRecords, Recording, Records, seen_by}
+use Rattle.station_reporter.specs.Tables.{TakesTexts, failures_after}
+use Rattle.station_reporter.specs.declared.schedule.Act.{Act}
+use Rattle.station_reporter.specs.declared.schedule.Act.TheVariants as act
+use Rattle.station_reporter.specs.declared.schedule.Due.{Due}
+use Rattle.station_reporter.specs.declared.duties.Duties.{Duties}
+use Rattle.station_reporter.specs.declared.reporter.ReporterResult.{ReporterResult}
+use Rattle.station_reporter.specs.declared.reporter.Reporter.{Reporter}
+use Rattle.command_line.specs.declared.pace.Pace.{Pace}
+use Rattle.station_reporter.specs.declared.schedule.Tables.{Tables}
+
+-- ---- when it acts, in milliseconds since its start
+
+-- the time one interval after another, at most 2^64 - 1
+abbrev pub next_moment : ℕ → ℕ → ℕ
+next_moment every at = min (at + every) (2 ^ 64 - 1)
+
+-- when a tick is due after one at this time: never, unless the pace has ticks
+abbrev pub next_tick : Option ℕ → ℕ → Option ℕ
+next_tick None at = None
+next_tick (Some interval) at = Some (next_moment interval at)
+
+-- after a table at this time, or the last tick before the start: the next table, and a tick before it if the pace has ticks
+abbrev pub after_table : Pace → ℕ → Due
+after_table pace at = record { table = next_moment pace.every at; tick = next_tick pace.tick at }
+
+-- after a tick alone at this time: the table is due where it was
+abbrev pub after_tick : Pace → Due → ℕ → Due
+after_tick pace due at = record { table = due.table; tick = next_tick pace.tick at }
+
+-- a time that may never come has come by now
+abbrev pub has_come : Option ℕ → ℕ → Bool
+has_come None now = false
+has_come (Some moment) now = nat_le moment now
+
+-- the time of what is due first
+abbrev pub first_due : Due → ℕ
+first_due due = option_map_or (λ tick. min due.table tick) due.tick due.table
+
+-- before anything is due it sleeps up to what is due first, for at most 50 ms; where a table is due it ticks and prints the
+-- table; else, where a tick is due, it ticks alone
+abbrev pub IsActAt : Pace → (due : Due) → (now : ℕ) → Act → Type 0
+IsActAt pace due now (act.Sleep pause) = (now < due.table) × (has_come due.tick now ≡ false) × (as_nanos pause ≡ min (first_due due - now) 50 * 1000000)
+IsActAt pace due now (act.Tick at next) = (now < due.table) × (has_come due.tick now ≡ true) × (at ≡ now) × (next ≡ after_tick pace due now)
+IsActAt pace due now (act.Print at next) = (due.table ≤ now) × (at ≡ now) × (next ≡ after_table pace now)
+
+-- a time at which it acts: it ticks and prints a table, or ticks alone
+pub record Acting : Type 0 where
+  pub at : ℕ
+  pub has_table : Bool
+
+-- of the times that a clock gave, those at which a table or else a tick was due
+abbrev pub due_moments : Pace → (due : Due) → List ℕ → List Acting
+due_moments pace due [] = []
+due_moments pace due (now ∷ moments) =
+    if nat_le due.table now then (record { at = now; has_table = true } ∷ due_moments pace (after_table pace now) moments)
+    else (if has_come due.tick now then (record { at = now; has_table = false } ∷ due_moments pace (after_tick pace due now) moments)
+    else due_moments pace due moments)
+
+-- what is due next after these times of a clock
+abbrev pub due_after : Pace → Due → List ℕ → Due
+due_after pace due [] = due
+due_after pace due (now ∷ moments) =
+    cond (nat_le due.table now) (due_after pace (after_table pace now) moments)
+    (cond (has_come due.tick now) (due_after pace (after_tick pace due now) moments) (due_after pace due moments))
+
+-- ---- what it prints
+
+-- a tick alone or with a table: its time, the seat after the tick, and the seat after the look, unless that was refused
+pub record Showing : Type 0 where
+  pub acting : Acting
+  pub ticked : Seated
+  pub look : Option Seated
+
+abbrev pub seat_after : Showing → Seated
+seat_after showing = unwrap_or showing.look showing.ticked
+
+abbrev pub looks_of : List Showing → List (Option Seated)
+looks_of showings = map (λ (showing : Showing). showing.look) showings
+
+-- the seat ticks at a time, and that is accepted or refused
+abbrev pub Ticks : Start → Seated → ℕ → Seated → Type 0
+Ticks start old at new =
+    ((receipt : Known) × Accepted start old new (Tick old.number at) receipt) ⊎ ((refusal : Refusal) × Refused start old new (Tick old.number at) refusal)
+
+-- what a reporter does: it sleeps; or it ticks alone; or it ticks, and the table is printed and recorded
+abbrev pub DoesAct : {O K : Type 0} → (O → SinkState) → (K → Option Recording) → Format → Start → Act → ReporterResult Seated O K → ReporterResult Seated O K → Type 0
+DoesAct state record_of format start (act.Sleep pause) old new = new ≡ old
+DoesAct state record_of format start (act.Tick at next) old new =
+    Ticks start old.seat at new.seat × (new.out ≡ old.out) × (new.beside ≡ old.beside) × (new.due ≡ next) × (new.has_failed ≡ old.has_failed) × (new.asked_at ≡ old.asked_at)
+DoesAct state record_of format start (act.Print at next) old new =
+    (ticked : Seated) × (result : Result (Unit {0}) WriteFault) × Ticks start old.seat at ticked
+    × PrintsAndRecords format start ticked new.seat (state old.out) (state new.out) (record_of old.beside) (record_of new.beside) result
+    × (new.due ≡ next) × (new.has_failed ≡ is_err result) × (new.asked_at ≡ old.asked_at)
+
+-- the seat ticks, and then looks; it doesn't look after a tick alone
+pub record IsShowing (start : Start) (old : Seated) (showing : Showing) : Type 0 where
+  pub ticks : Ticks start old showing.acting.at showing.ticked
+  pub looks : IfSome showing.look (λ look. Looks start showing.ticked look)
+  pub alone : showing.acting.has_table ≡ false → showing.look ≡ None
+
+-- showings from one seat to another, each from where the one before ended
+abbrev pub Showings : Start → Seated → List Showing → Seated → Type 0
+Showings start old [] new = new ≡ old
+Showings start old (showing ∷ showings) new = IsShowing start old showing × Showings start (seat_after showing) showings new
+
+-- a seat that may have looked, and showed nothing
+abbrev pub IsLater : Start → Seated → Seated → Type 0
+IsLater start old new = (new ≡ old) ⊎ Looks start old new
+
+-- tables and ticks alone at just those times of the clock at which they are due
+pub record KeepsTime (start : Start) (pace : Pace) (due : Due) (moments : List ℕ) (old : Seated) (showings : List Showing) (new : Seated) : Type 0 where
+  pub acts : map (λ (showing : Showing). showing.acting) showings ≡ due_moments pace due moments
+  pub walk : Showings start old showings new
+
+-- a reporter whose clock gave these times, from one seat to another, and what is due next; the record goes on with what its
+-- looks have seen
+pub record Reports (start : Start) (tables : Tables) (due next : Due) (moments : List ℕ) (old new : Seated) (before after : SinkState) (was is : Option Recording) (has_failed : Bool) : Type 0 where
+  pub showings : List Showing
+  pub shown : Seated
+  pub keeps : KeepsTime start tables.pace due moments old showings shown
+  pub later : IsLater start shown new
+  pub next_is : next ≡ due_after tables.pace due moments
+  pub takes : TakesTexts tables.format start (looks_of showings) before.taken after.taken has_failed
+  pub failures : after.failures ≡ failures_after has_failed before.failures
+  pub records : IfRecording (Records (seen_by (looks_of showings))) was is
+
+-- a reporter that finds this many entries asks for a hand-over: they are enough, it isn't too early, and no table is due within a
+-- second, or within the interval between tables if that is shorter
+abbrev pub asks_hand_over : Duties → (entries now : ℕ) → Due → Bool
+asks_hand_over duties entries now due = nat_le duties.hand_over_at entries && nat_le duties.not_before now && nat_le (min duties.tables.pace.every 1000) (due.table - now)
+
+-- the time before which none is asked for after one that left this many entries: where they are more than half of those that ask
+-- for one, ten seconds after the last tick, at most 2^64 - 1
+abbrev pub not_before : (hand_over_at entries last_tick : ℕ) → ℕ
+not_before hand_over_at entries last_tick = if nat_lt (hand_over_at / 2) entries then next_moment 10000 last_tick else 0
+
+-- a hand-over is asked for at a time: the journal has so many entries, no write has failed, and the seat ticks alone once more;
+-- the table is due where it was
+pub record HandsOver (start : Start) (duties : Duties) (at : ℕ) (due next : Due) (old new : Seated) (has_failed : Bool) : Type 0 where
+  pub full : duties.hand_over_at ≤ length old.seen
+  pub well : has_failed ≡ false
+  pub ticks : Ticks start old at new
+  pub next_is : next ≡ after_tick duties.tables.pace due at
+
+-- where none is asked for nothing is done
+abbrev pub MayHandOver : Start → Duties → Option ℕ → Due → Due → Seated → Seated → Bool → Type 0
+MayHandOver start duties None due next old new has_failed = (new ≡ old) × (next ≡ due)
+MayHandOver start duties (Some at) due next old new has_failed = HandsOver start duties at due next old new has_failed
+
+-- a reporter by some clock, which may ask for a hand-over at its end
+pub record ReportsByAClock (start : Start) (duties : Duties) (next : Due) (asked_at : Option ℕ) (old new : Seated) (before after : SinkState) (was is : Option Recording) (has_failed : Bool) : Type 0 where
+  pub moments : List ℕ
+  pub due : Due
+  pub mid : Seated
+  pub reports : Reports start duties.tables duties.due due moments old mid before after was is has_failed
+  pub hands_over : MayHandOver start duties asked_at due next mid new has_failed
+
+-- such a reporter by what it starts with and what it leaves
+abbrev pub HasReported : {O K : Type 0} → (O → SinkState) → (K → Option Recording) → Start → Reporter Seated O K → ReporterResult Seated O K → Type 0
+HasReported state record_of start reporter reported =
+    ReportsByAClock start reporter.duties reported.due reported.asked_at reporter.seat reported.seat (state reporter.out) (state reported.out) (record_of reporter.beside) (record_of reported.beside) reported.has_failed

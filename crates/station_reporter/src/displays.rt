@@ -1,0 +1,194 @@
+//! The folder in which displays find the tables.
+ghost use Rattle.std.specs.Prelude.{◌≡◌, ◌≤◌, IfOk, IfSome, codes, false, is_some, true};
+ghost use Rattle.std.specs.String.{string_bytes};
+ghost use Rattle.station_replay.specs.Replay.{table_in};
+ghost use Rattle.station_history.specs.Start.{log_of};
+ghost use Rattle.station_report.specs.declared.formats.Format.TheVariants as Formats;
+ghost use Rattle.station_reporter.specs.Displays.{cannot_write, have_failed, in_folder};
+ghost use Rattle.messages.specs.Status.{fault_status};
+ghost use Rattle.messages.specs.Telling.{Tells, told_of};
+
+use command_line::VERSION;
+use messages::{Fault, StandardError, tell};
+use modes_cpr::{Degrees, Position, Reference};
+use station_report::{Format, ToWrite, WriteFault, latitude_field, longitude_field, table_as};
+use station_shared::{Look, StationName};
+use std::alloc::{AllocError, Global};
+use std::fs::{self, File};
+use std::io::Write;
+use std::rt::Files;
+
+/// The folder in which displays find the tables, as JSON.
+#[derive(Drop)]
+pub struct Displays<A> {
+    alloc: Global,
+    // The file that displays read, and the one that is written beside it and then renamed over it.
+    table: String,
+    beside: String,
+    // The time at which the clock of the tables begins, in milliseconds since 1970.
+    origin: u64,
+    // Whether a write failed.
+    has_failed: bool,
+    // Where the first failed write is reported at once.
+    alarm: StandardError<A>,
+}
+
+impl<A: Write + Drop> Displays<A> {
+    /// Begins to show tables in a folder, one each `every` milliseconds: writes what displays read first, with the place of
+    /// the receivers if it is given. A failed write is reported to `alarm`. Refused if out of memory.
+    pub fn begin<R: Files<File = File>>(
+        rt: &R,
+        alloc: Global,
+        folder: &str,
+        every: u32,
+        origin: u64,
+        site: Option<Reference>,
+        alarm: StandardError<A>,
+    ) -> Result<Self, AllocError>
+        ensures table { IfOk result (λ d. string_bytes d.table ≡ in_folder folder.now (codes "aircraft.json")) }
+        ensures origin { IfOk result (λ d. d.origin ≡ origin) }
+    {
+        let mut displays = Displays {
+            alloc,
+            table: file_in(alloc, folder, "aircraft.json")?,
+            beside: file_in(alloc, folder, "aircraft.json.new")?,
+            origin,
+            has_failed: false,
+            alarm,
+        };
+        let receiver = file_in(alloc, folder, "receiver.json")?;
+        let text = receiver_text(alloc, VERSION, every, site)?;
+        let written = fs::write(rt, receiver.as_str(), text.as_slice());
+        displays.report_failure(written.is_ok());
+        Ok(displays)
+    }
+}
+
+impl<A: Write> Displays<A> {
+    // Writes a table beside the one that displays read, and renames it over that. Answers whether both went well.
+    fn replace<R: Files<File = File>>(&self, rt: &R, text: &[u8]) -> bool {
+        let beside = self.beside.as_str();
+        fs::write(rt, beside, text).is_ok() && fs::rename(rt, beside, self.table.as_str()).is_ok()
+    }
+
+    // Reports a write that failed, unless one failed before.
+    fn report_failure(&mut self, is_written: bool)
+        ensures table { self.new.table ≡ self.old.table }
+        ensures origin { self.new.origin ≡ self.old.origin }
+        ensures written { is_written ≡ true → self.new ≡ self.old }
+        ensures failed { is_written ≡ false → self.new.has_failed ≡ true }
+        ensures once { self.old.has_failed ≡ true → self.new ≡ self.old }
+        ensures told { is_written ≡ false → self.old.has_failed ≡ false →
+            Tells (told_of A.contents self.old.alarm) (told_of A.contents self.new.alarm)
+            (cannot_write (string_bytes self.old.table)) }
+    {
+        if !is_written && !self.has_failed {
+            self.has_failed = true;
+            tell(&mut self.alarm, Fault::CannotWrite(self.table.as_str()));
+        }
+    }
+}
+
+// The path of a file in a folder.
+fn file_in(alloc: Global, folder: &str, name: &str) -> Result<String, AllocError>
+    ensures { IfOk result (λ path. string_bytes path ≡ in_folder folder.now name.now) }
+{
+    format!(in alloc; "{folder}/{name}")
+}
+
+// What displays read first: the version of the program, the milliseconds from one table to the next, and the place of the
+// receivers if it is given.
+fn receiver_text(
+    alloc: Global,
+    version: &str,
+    every: u32,
+    site: Option<Reference>,
+) -> Result<Vec<u8>, AllocError> {
+    let start = format!(in alloc;
+        "{{\"version\":\"groundstation {version}\",\"refresh\":{every},\"history\":0"
+    )?;
+    let mut text = start.into_bytes();
+    if let Some(site) = site {
+        let place = Position {
+            lat: degrees(site.lat),
+            lon: degrees(site.lon),
+        };
+        text.extend_from_slice(b",\"lat\":")?;
+        text.extend_from_slice(latitude_field(place).as_slice())?;
+        text.extend_from_slice(b",\"lon\":")?;
+        text.extend_from_slice(longitude_field(place).as_slice())?;
+    }
+    text.push(b'}')?;
+    Ok(text)
+}
+
+// An angle in 1/10,000,000 degree.
+fn degrees(angle: i32) -> Degrees
+    ensures num { result.num ≡ angle }
+    ensures den { result.den ≡ 10000000 }
+{
+    Degrees {
+        num: i64::from(angle),
+        den: 10_000_000,
+    }
+}
+
+// The table of a look as JSON.
+fn json_of<const N: usize, L: StationName>(
+    alloc: Global,
+    look: &Look<N, L>,
+    origin: u64,
+) -> Result<Vec<u8>, WriteFault>
+    ensures { IfOk result (λ text. text.items ≡ table_in (Formats.Json origin) (log_of L.start look.now.seen)) }
+{
+    let mut out = ToWrite::new(Vec::new(alloc));
+    table_as(
+        Format::Json { origin },
+        look,
+        look.now(),
+        look.entries(),
+        &mut out,
+    )?;
+    Ok(out.into_inner())
+}
+
+/// The table of a look for displays, if there are any.
+pub fn table_for<const N: usize, L: StationName, A: Write>(
+    displays: &Option<Displays<A>>,
+    look: &Look<N, L>,
+) -> Option<Result<Vec<u8>, WriteFault>>
+    ensures made { is_some result ≡ is_some displays.now }
+    ensures text { IfSome displays.now (λ d. IfSome result (λ r. IfOk r (λ text.
+        text.items ≡ table_in (Formats.Json d.origin) (log_of L.start look.now.seen)))) }
+{
+    match displays {
+        Some(displays) => Some(json_of(displays.alloc, look, displays.origin)),
+        None => None,
+    }
+}
+
+/// Puts a table where displays find it, if there are any. A failed write is reported once.
+pub fn put_table<R: Files<File = File>, A: Write>(
+    displays: &mut Option<Displays<A>>,
+    rt: &R,
+    table: Option<Result<Vec<u8>, WriteFault>>,
+) {
+    if let (Some(displays), Some(table)) = (displays, table) {
+        let is_written = match table {
+            Ok(text) => displays.replace(rt, text.as_slice()),
+            Err(_) => false,
+        };
+        displays.report_failure(is_written);
+    }
+}
+
+/// The status of the tables for displays: 1 if a write of them failed, else 0.
+pub fn status_of<A>(displays: &Option<Displays<A>>) -> u8
+    ensures value { result ≡ fault_status (have_failed displays.now) }
+    ensures most { result ≤ 1 }
+{
+    match displays {
+        Some(displays) if displays.has_failed => 1,
+        _ => 0,
+    }
+}

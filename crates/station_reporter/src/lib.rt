@@ -1,0 +1,24 @@
+//! The reporter of a station: when it prints the table, what it writes beside that, and when it asks for a hand-over.
+#![tactic(auto)]
+
+mod bell;
+mod beside;
+pub mod displays;
+mod duties;
+mod kept;
+mod limit_alarm;
+mod record_file;
+pub mod recorder;
+mod reporter;
+mod schedule;
+
+pub use bell::Bell;
+pub use beside::Beside;
+pub use displays::Displays;
+pub use duties::Duties;
+pub use kept::Kept;
+pub use limit_alarm::LimitAlarm;
+pub use record_file::record_to;
+pub use recorder::{Recorder, record_rest};
+pub use reporter::{Reporter, ReporterResult, ReportsFrom, print_and_record, report};
+pub use schedule::{Act, Due, Tables, act_at, milliseconds_since_1970};

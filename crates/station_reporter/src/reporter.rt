@@ -1,0 +1,273 @@
+//! The reporter, which prints the table as its own seat sees it.
+ghost use Rattle.std.specs.Prelude.{◌≡◌, ◌≤◌, ℕ, List, None, false, length, true};
+ghost use Rattle.std.specs.Io.KnownBytes.{Appends};
+ghost use Rattle.station_reporter.specs.Recorded.{PrintsAndRecords};
+ghost use Rattle.station_reporter.specs.Reporter.{DoesAct, IsLater, Reports, ReportsByAClock};
+ghost use Rattle.station_reporter.specs.Tables.{text_of};
+ghost use Rattle.station_report.specs.Sink.{TakesAll};
+
+use crate::bell::Bell;
+use crate::beside::Beside;
+use crate::displays::{put_table, table_for};
+use crate::duties::Duties;
+use crate::recorder::record_look;
+use crate::schedule::{Act, Due, ElapsedClock, Moments, act_at, after_tick};
+use station_portions::HandOver;
+use station_report::{Format, Sink, WriteFault, flush_after, table_as};
+use station_shared::{Look, Seat, Station, StationName};
+use std::alloc::Global;
+use std::fs::File;
+use std::io::Write;
+use std::rt::Files;
+use std::snapshot::Snapshot;
+use std::sync::{Arc, Wait};
+use std::thread::Promise;
+use std::time::{Clock, Instant};
+
+/// What a reporter leaves.
+#[derive(Drop)]
+pub struct ReporterResult<S, O, K> {
+    pub seat: S,
+    pub out: O,
+    pub beside: K,
+    /// Whether a write of the output failed.
+    pub has_failed: bool,
+    /// What is due next.
+    pub due: Due,
+    /// The time of the tick with which a hand-over was asked for, if one was.
+    pub asked_at: Option<u64>,
+}
+
+/// What a reporter starts with.
+#[derive(Drop)]
+pub struct Reporter<S, O, K> {
+    pub duties: Duties,
+    pub seat: S,
+    pub out: O,
+    pub beside: K,
+}
+
+/// The promise of a reporter that starts with this: that it reports from there.
+#[derive(Drop)]
+pub struct ReportsFrom<S, O, K>(pub Snapshot<Reporter<S, O, K>>);
+
+impl<const N: usize, L: StationName, S: Sink, T: Sink, A: Write> Promise<
+    ReporterResult<Seat<N, L>, S, Beside<T, A>>,
+> for ReportsFrom<Seat<N, L>, S, Beside<T, A>> {
+    ghost use Rattle.station_reporter.specs.Reporter.{HasReported};
+
+    ghost kept_by = { λ given reported. HasReported S.state (λ b. b.record) L.start given.0.value reported };
+}
+
+/// Ticks, prints the table and records it each time that it is due, in milliseconds since `start`.
+/// Between tables it ticks alone, if ticks are asked for. Ends when all receivers have ended, a write of the output failed,
+/// or the journal has enough entries for the station to hand over: then it ticks alone once more, and asks for the end of
+/// all portions. Answers the seat, the sink, which has taken the tables of its looks and nothing else, and what is written
+/// beside: the record has gone on with what these looks saw. Limits that calls have met are reported at once.
+pub fn report<
+    const N: usize,
+    L: StationName,
+    R: Wait + Clock + Files<File = File>,
+    S: Sink,
+    T: Sink,
+    A: Write,
+>(
+    rt: &R,
+    station: &Station<N, L>,
+    ended: &Bell,
+    hand_overs: &Vec<Arc<HandOver, Global>>,
+    start: Option<Instant>,
+    reporter: Reporter<Seat<N, L>, S, Beside<T, A>>,
+) -> ReporterResult<Seat<N, L>, S, Beside<T, A>>
+    ensures { ReportsByAClock L.start reporter.duties result.due result.asked_at reporter.seat result.seat
+        (S.state reporter.out) (S.state result.out) reporter.beside.record result.beside.record result.has_failed }
+{
+    let duties = reporter.duties;
+    let mut moments = ElapsedClock { rt, start };
+    let (mut reported, is_full) = report_at(rt, station, ended, reporter, &mut moments);
+    if !is_full {
+        request_if(hand_overs, duties.ends_with_output && reported.has_failed);
+        return reported;
+    }
+    let at = moments.now();
+    let _ = station.tick(rt, &mut reported.seat, at);
+    reported.due = after_tick(duties.tables.pace, reported.due, at);
+    reported.asked_at = Some(at);
+    request_all(hand_overs);
+    reported
+}
+
+// Asks for the end of all portions, under a condition.
+fn request_if(hand_overs: &Vec<Arc<HandOver, Global>>, condition: bool) {
+    if condition {
+        request_all(hand_overs);
+    }
+}
+
+// Asks for the end of all portions.
+fn request_all(hand_overs: &Vec<Arc<HandOver, Global>>) {
+    for hand_over in hand_overs {
+        hand_over.request();
+    }
+}
+
+// `report` by any clock up to a hand-over: a table at each of its times at which one is due, and a tick alone where only
+// that is due. Answers whether the station is to hand over.
+fn report_at<
+    const N: usize,
+    L: StationName,
+    R: Wait + Clock + Files<File = File>,
+    S: Sink,
+    T: Sink,
+    A: Write,
+    M: Moments,
+>(
+    rt: &R,
+    station: &Station<N, L>,
+    ended: &Bell,
+    reporter: Reporter<Seat<N, L>, S, Beside<T, A>>,
+    moments: &mut M,
+) -> (ReporterResult<Seat<N, L>, S, Beside<T, A>>, bool)
+    ensures reports { (given : List ℕ) × Appends (M.given moments.old) (M.given moments.new) given
+        × Reports L.start reporter.duties.tables reporter.duties.due result.0.due given reporter.seat result.0.seat
+        (S.state reporter.out) (S.state result.0.out) reporter.beside.record result.0.beside.record result.0.has_failed }
+    ensures full { result.1 ≡ true → reporter.duties.hand_over_at ≤ length result.0.seat.seen }
+    ensures well { result.1 ≡ true → result.0.has_failed ≡ false }
+    ensures asked { result.0.asked_at ≡ None }
+{
+    let duties = reporter.duties;
+    let (mut reported, mut now) = (begin(reporter), 0);
+    for _ in rt.forever() {
+        if reported.has_failed || ended.has_rung() {
+            break;
+        }
+        reported.beside.report_limits(station.limits_met());
+        let (seat, entries) = count(reported.seat);
+        reported.seat = seat;
+        if duties.asks(entries, now, reported.due) {
+            return (reported, true);
+        }
+        now = moments.now();
+        let act = act_at(now, reported.due, duties.tables.pace);
+        reported = do_act(rt, station, ended, duties.tables.format, act, reported);
+    }
+    (reported, false)
+}
+
+// What a reporter has done that has only started.
+fn begin<S, O, K>(reporter: Reporter<S, O, K>) -> ReporterResult<S, O, K>
+    ensures seat { result.seat ≡ reporter.seat }
+    ensures out { result.out ≡ reporter.out }
+    ensures beside { result.beside ≡ reporter.beside }
+    ensures failed { result.has_failed ≡ false }
+    ensures due { result.due ≡ reporter.duties.due }
+    ensures asked { result.asked_at ≡ None }
+{
+    ReporterResult {
+        seat: reporter.seat,
+        out: reporter.out,
+        beside: reporter.beside,
+        has_failed: false,
+        due: reporter.duties.due,
+        asked_at: None,
+    }
+}
+
+// Sleeps, ticks alone, or ticks and prints the table.
+fn do_act<
+    const N: usize,
+    L: StationName,
+    R: Wait + Clock + Files<File = File>,
+    S: Sink,
+    T: Sink,
+    A: Write,
+>(
+    rt: &R,
+    station: &Station<N, L>,
+    ended: &Bell,
+    format: Format,
+    act: Act,
+    mut reported: ReporterResult<Seat<N, L>, S, Beside<T, A>>,
+) -> ReporterResult<Seat<N, L>, S, Beside<T, A>>
+    ensures { DoesAct S.state (λ b. b.record) format L.start act reported result }
+{
+    match act {
+        Act::Sleep(pause) => ended.rest(rt, pause),
+        Act::Tick { at, next_due } => {
+            let _ = station.tick(rt, &mut reported.seat, at);
+            reported.due = next_due;
+        }
+        Act::Print { at, next_due } => {
+            let _ = station.tick(rt, &mut reported.seat, at);
+            let seat = reported.seat;
+            let (out, beside) = (&mut reported.out, &mut reported.beside);
+            let (seat, written) = print_and_record(rt, station, seat, format, out, beside);
+            reported.seat = seat;
+            reported.has_failed = written.is_err();
+            reported.due = next_due;
+        }
+    }
+    reported
+}
+
+// How many entries the journal has by a look, which prints nothing. 0 if the look is refused.
+fn count<const N: usize, L: StationName>(seat: Seat<N, L>) -> (Seat<N, L>, u64)
+    ensures later { IsLater L.start seat result.0 }
+    ensures many { result.1 ≤ length result.0.seen }
+{
+    match seat.look() {
+        Ok(look) => {
+            let count = look.entries();
+            (look.done(), count)
+        }
+        Err(seat) => (seat, 0),
+    }
+}
+
+/// Prints the table as the seat sees it, in this format, and hands the seat back. Then it records what was seen, if there is
+/// a record, and puts the table where displays find it, if that is asked. A refused look prints and records nothing.
+pub fn print_and_record<
+    const N: usize,
+    L: StationName,
+    R: Wait + Files<File = File>,
+    S: Sink,
+    T: Sink,
+    A: Write,
+>(
+    rt: &R,
+    station: &Station<N, L>,
+    seat: Seat<N, L>,
+    format: Format,
+    out: &mut S,
+    beside: &mut Beside<T, A>,
+) -> (Seat<N, L>, Result<(), WriteFault>)
+    ensures { PrintsAndRecords format L.start seat result.0 (S.state out.old)
+        (S.state out.new) beside.old.record beside.new.record result.1 }
+{
+    match seat.look() {
+        Ok(look) => {
+            let count = look.entries();
+            let for_displays = table_for(&beside.displays, &look);
+            let (seat, written) = write_table(look, format, out);
+            record_look(&mut beside.record, rt, station, &seat, count);
+            put_table(&mut beside.displays, rt, for_displays);
+            (seat, written)
+        }
+        Err(seat) => (seat, Ok(())),
+    }
+}
+
+// Writes the table of a look, ends the look, and then flushes. If the buffer has room for a table, output that waits
+// blocks no receiver.
+fn write_table<const N: usize, L: StationName, S: Sink>(
+    look: Look<N, L>,
+    format: Format,
+    out: &mut S,
+) -> (Seat<N, L>, Result<(), WriteFault>)
+    ensures seat { result.0 ≡ look }
+    ensures takes { TakesAll (S.state out.old) (S.state out.new) (text_of format L.start look.seen) result.1 }
+{
+    let written = table_as(format, &look, look.now(), look.entries(), out);
+    let seat = look.done();
+    (seat, flush_after(written, out))
+}

@@ -1,0 +1,173 @@
+//! When the reporter acts, in milliseconds since the start of the program.
+ghost use Rattle.std.specs.Prelude.{◌≡◌, ◌-◌, ◌^◌, ◌/◌, ℕ, List, [], ◌∷◌, Option, None, min};
+ghost use Rattle.std.specs.Duration.{as_nanos};
+ghost use Rattle.std.specs.Io.KnownBytes.{Appends};
+ghost use Rattle.station_reporter.specs.Reporter.{IsActAt, after_table, after_tick, first_due, has_come, next_moment, next_tick};
+
+use command_line::Pace;
+use station_report::Format;
+use std::time::{Clock, Duration, Instant};
+
+/// What a reporter's tables are.
+#[derive(Clone, Copy, Debug, PartialEq, Eq)]
+pub struct Tables {
+    /// When they are due.
+    pub pace: Pace,
+    /// How they are written.
+    pub format: Format,
+}
+
+/// When the reporter acts next, in milliseconds since the start of the program.
+#[derive(Clone, Copy, Debug, PartialEq, Eq)]
+pub struct Due {
+    /// The next table, with its tick.
+    pub table: u64,
+    /// The next tick, if it comes before the table.
+    pub tick: Option<u64>,
+}
+
+/// What is due after a table at this time, or after the last tick before the reporter's start.
+pub fn after_table(pace: Pace, at: u64) -> Due
+    ensures { result ≡ after_table pace at }
+{
+    Due {
+        table: later(at, pace.every),
+        tick: next_tick(pace, at),
+    }
+}
+
+/// What is due after a tick alone at this time: the table is due where it was.
+pub fn after_tick(pace: Pace, due: Due, at: u64) -> Due
+    ensures { result ≡ after_tick pace due at }
+{
+    Due {
+        table: due.table,
+        tick: next_tick(pace, at),
+    }
+}
+
+// When a tick is due after one at this time.
+fn next_tick(pace: Pace, at: u64) -> Option<u64>
+    ensures { result ≡ next_tick pace.tick at }
+{
+    match pace.tick {
+        Some(tick) => Some(later(at, tick)),
+        None => None,
+    }
+}
+
+impl Due {
+    // Whether a tick is due by now.
+    fn is_tick_due(self, now: u64) -> bool
+        ensures { result ≡ has_come self.tick now }
+    {
+        match self.tick {
+            Some(tick) => tick <= now,
+            None => false,
+        }
+    }
+
+    // The time of what is due first.
+    fn first(self) -> u64
+        ensures { result ≡ first_due self }
+    {
+        match self.tick {
+            Some(tick) => self.table.min(tick),
+            None => self.table,
+        }
+    }
+}
+
+// The time one interval later, up to 2^64 - 1.
+fn later(at: u64, interval: u32) -> u64
+    ensures { result ≡ next_moment interval at }
+{
+    at.saturating_add(u64::from(interval))
+}
+
+// The longest sleep, in milliseconds.
+const LONGEST_SLEEP: u64 = 50;
+
+/// What the reporter does at one time.
+#[derive(Clone, Copy, Debug, PartialEq, Eq)]
+pub enum Act {
+    /// Sleep, since nothing is due yet.
+    Sleep(Duration),
+    /// Tick, and print nothing.
+    Tick {
+        /// The time of the tick.
+        at: u64,
+        next_due: Due,
+    },
+    /// Tick and print the table.
+    Print {
+        /// The time of the tick.
+        at: u64,
+        next_due: Due,
+    },
+}
+
+/// What the reporter does at `now`, in milliseconds, by what is due. Where a table is due it ticks and prints the table.
+/// Else, where a tick is due, it ticks alone. Else it sleeps up to what is due first, but at most 50 ms.
+pub fn act_at(now: u64, due: Due, pace: Pace) -> Act
+    ensures { IsActAt pace due now result }
+{
+    if due.table <= now {
+        return Act::Print {
+            at: now,
+            next_due: after_table(pace, now),
+        };
+    }
+    if due.is_tick_due(now) {
+        return Act::Tick {
+            at: now,
+            next_due: after_tick(pace, due, now),
+        };
+    }
+    let pause = (due.first() - now).min(LONGEST_SLEEP);
+    Act::Sleep(Duration::from_millis(pause))
+}
+
+/// A clock, in milliseconds.
+pub trait Moments {
+    /// The times given so far, if they are known.
+    ghost given: { Self → Option (List ℕ) };
+
+    /// The time now.
+    fn now(&mut self) -> u64
+        ensures { Appends (given self.old) (given self.new) (result ∷ []) };
+}
+
+/// The time since a start. It stays 0 if the clock couldn't be read at the start.
+#[derive(Drop)]
+pub struct ElapsedClock<'a, R> {
+    pub rt: &'a R,
+    pub start: Option<Instant>,
+}
+
+impl<R: Clock> Moments for ElapsedClock<'_, R> {
+    ghost given = { λ _. None };
+
+    // A clock that can't be read counts as one that still shows the start.
+    fn now(&mut self) -> u64 {
+        match self.start.map(|start| start.elapsed(self.rt)) {
+            Some(Ok(passed)) => milliseconds(passed),
+            _ => 0,
+        }
+    }
+}
+
+/// The time of the system in milliseconds since 1970, UTC, or 0 if it can't be read.
+pub fn milliseconds_since_1970<R: Clock>(rt: &R) -> u64 {
+    match rt.since_1970() {
+        Ok(passed) => milliseconds(passed),
+        Err(_) => 0,
+    }
+}
+
+// Whole milliseconds, up to 2^64 - 1.
+fn milliseconds(passed: Duration) -> u64
+    ensures { result ≡ min (as_nanos passed / 1000000) (2 ^ 64 - 1) }
+{
+    u64::try_from(passed.as_millis()).unwrap_or(u64::MAX)
+}
