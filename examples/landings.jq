@@ -1,7 +1,9 @@
 # Landings and take-offs: a line for each, with the time, what it is, the address and the flight. An aircraft landed where it was
 # seen in the air and is then seen on the ground, however long after. Where it parked before is no landing.
 #
-#     ./groundstation run --every 1000 --format json --at LAT,LON PATH | jq -nr --unbuffered -f examples/landings.jq >> landings.tsv
+#     nc -w 130 127.0.0.1 30002 < /dev/null | (trap '' INT
+#         ./groundstation run --every 1000 --at LAT,LON --format json /dev/stdin |
+#             jq -nr --unbuffered -f examples/landings.jq >> landings.tsv)
 foreach inputs as $table ({};
     .changes = []
     | reduce ($table.aircraft[] | select(.alt_baro)) as $craft (.;

@@ -1,7 +1,9 @@
 # Movements: a line for each aircraft once it has left the table, or at the end of the input if it is still there. A line has the
 # times when the aircraft was first and last heard, its address and its flight.
 #
-#     ./groundstation run --every 1000 --format json PATH | jq -nr --unbuffered -f examples/movements.jq >> movements.tsv
+#     nc -w 130 127.0.0.1 30002 < /dev/null | (trap '' INT
+#         ./groundstation run --every 1000 --format json /dev/stdin |
+#             jq -nr --unbuffered -f examples/movements.jq >> movements.tsv)
 foreach (inputs, {aircraft: []}) as $table ({};
     INDEX($table.aircraft[]; .hex) as $here
     | {gone: [.seen[]? | select($here[.hex] | not)],
