@@ -6,11 +6,11 @@ use arrayvec::ArrayVec;
 use modes_cpr::Reference;
 use modes_frame::Frame;
 use station_journal::Limits;
-use station_lines::{Source, Tally};
+use station_lines::Tally;
 use station_replay::Desk;
-use station_report::{Failed, Sink};
 use std::alloc::Global;
 use std::process::Abort;
+use streams::{Failed, Sink, Source};
 
 /// Gives bytes, at most `most` in a read. It can give some of them many times over, and fail at one read.
 #[derive(Clone, Copy)]

@@ -1,10 +1,9 @@
 //! Sources over readers.
 use crate::comparing::{holds, same};
-use station_lines::{FromBuffer, FromRead, Source};
-use station_report::Failed;
 use std::io::{self, BufReader, ErrorKind, Read};
 use std::process::Abort;
 use std::test::*;
+use streams::{Failed, FromBuffer, FromRead, Source};
 
 // Gives the first bytes, fails once, and then gives the others.
 #[derive(Drop)]

@@ -2,12 +2,11 @@
 use crate::comparing::same_at;
 use arrayvec::ArrayVec;
 use modes_frame::Cut;
-use station_lines::{
-    Ended, FromBuffer, FromRead, LineTaker, ParsedLine, Source, parse_heard, take_lines,
-};
+use station_lines::{Ended, LineTaker, ParsedLine, parse_heard, take_lines};
 use std::io::BufReader;
 use std::process::Abort;
 use std::test::*;
+use streams::{FromBuffer, FromRead, Source};
 
 const BYTES: [u8; 3000] = [b'\n'; 3000];
 

@@ -1,9 +1,7 @@
 //! Sources that are taken in portions.
 
 use crate::comparing::{holds, same};
-use station_lines::Source;
 use station_portions::{PathEnd, Reopen, connect};
-use station_report::Failed;
 use std::alloc::Global;
 use std::io::{self, ErrorKind, Read};
 use std::sync::atomic::{AtomicBool, Ordering};
@@ -11,6 +9,7 @@ use std::sync::{Arc, Wait};
 use std::test::Fail;
 use std::thread;
 use std::time::{Clock, Duration};
+use streams::{Failed, Source};
 
 // A path that gives one part a read. Before the last part it is silent until it is released.
 #[derive(Drop)]

@@ -1,7 +1,7 @@
 -- A replay of the record of a run.
 use Rattle.std.proofs.Common.{rules, ◌≡◌, ◌∙◌, inl, inr, ℕ, zero, suc, Bool, true, false, List, Option, Some, None, Result, Ok, Err, refl, subst, arith, max}
 use Rattle.std.specs.Io.KnownBytes.{Appends}
-use Rattle.station_lines.specs.Source.{SourceState}
+use Rattle.streams.specs.Source.{SourceState}
 use Rattle.modes_frame.specs.declared.cutter.Cut.{Cut}
 use Rattle.modes_frame.specs.Lines.{cuts}
 use Rattle.station_journal.proofs.Common.{Site}
@@ -10,7 +10,7 @@ use Rattle.station_report.specs.declared.formats.Format.TheVariants.{Text}
 use Rattle.std.proofs.KnownBytes.{Appends-kept}
 use Rattle.station_lines.specs.declared.tally.Tally.{Tally}
 use Rattle.station_replay.proofs.Common.{forgetting_output, unlimited_output, ReplaysForgetting}
-use Rattle.station_report.specs.Sink.{SinkState}
+use Rattle.streams.specs.Sink.{SinkState}
 use Rattle.station_replay.specs.declared.replaying.ReplayFault.{ReplayFault}
 use Rattle.station_replay.proofs.KeepingLemmas.{nothing-lost}
 use Rattle.station_replay.proofs.LimitLemmas.{forgets-unreached}

@@ -1,7 +1,7 @@
 -- A replay of the record of a run prints what the run printed: station by station, and round by round.
 use Rattle.std.proofs.Common.{◌≡◌, ◌∙◌, inl, inr, ℕ, zero, suc, ◌+◌, ◌≤◌, Bool, false, List, [], Option, Some, None, refl, sym, ap, subst, length, arith}
 use Rattle.std.specs.Io.KnownBytes.{Appends}
-use Rattle.station_report.specs.Sink.{SinkState}
+use Rattle.streams.specs.Sink.{SinkState}
 use Rattle.modes_frame.specs.Lines.{cuts}
 use Rattle.station_journal.specs.declared.entry.Entry.{Entry}
 use Rattle.station_journal.proofs.Common.{Site}

@@ -2,7 +2,7 @@
 use Rattle.std.proofs.Common.{sym, rules, ◌≡◌, ◌∙◌, ℕ, Bool, true, false, List, [], ◌++◌, Option, Some, refl, ap, subst, append-nil, length, arith, max, flat_map}
 use Rattle.std.specs.Io.KnownBytes.{Appends, Keeps}
 use Rattle.std.proofs.lemmas.List.Elements.{All-nil}
-use Rattle.station_report.specs.Sink.{SinkState}
+use Rattle.streams.specs.Sink.{SinkState}
 use Rattle.station_journal.specs.declared.entry.Entry.{Entry}
 use Rattle.station_report.specs.declared.formats.Format.{Format}
 use Rattle.station_report.specs.declared.formats.Format.TheVariants.{Text}

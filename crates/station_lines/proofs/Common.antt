@@ -10,7 +10,7 @@ pub use Rattle.station_lines.specs.Feeds.{Feeds, is_reply}
 pub use Rattle.station_lines.specs.ParsedLines.{parsed_of, read_as}
 pub use Rattle.station_lines.specs.Pump.{Pumping, Pumps, PumpsAll, PumpsFrame, Wants, pump_answer, pump_ending, tally_of_pump, want_of}
 pub use Rattle.station_lines.specs.PumpLaws.{Pumps-none, Pumps-then, frames_of-append}
-pub use Rattle.station_lines.specs.Source.{IsBorder, RingName, SourceState, counted_up, longest_read, one_more}
+pub use Rattle.station_lines.specs.Reads.{longest_read}
 pub use Rattle.station_lines.specs.declared.command.Command.{Command}
 pub use Rattle.station_lines.specs.declared.command.CommandFault.{CommandFault}
 pub use Rattle.station_lines.specs.declared.tally.Tally.{Tally}

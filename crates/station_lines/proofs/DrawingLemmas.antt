@@ -5,8 +5,9 @@ use Rattle.std.proofs.lemmas.List.{map-append, take_all}
 use Rattle.modes_frame.specs.declared.cutter.Cut.{Cut}
 use Rattle.modes_frame.specs.Lines.{pieces, cut_of, cuts, last_line, pending, ended_cuts, cut_ended_by}
 use Rattle.modes_frame.proofs.LineLemmas.{ended-push}
-use Rattle.station_report.specs.Sink.{count_after}
-use Rattle.station_lines.proofs.Common.{SourceState, one_more, counted_up, longest_read, Gives, GivesNone, IsOver, Gathers, FailsOnce, Ending, AtEnd, ReadFailed, TurnsOver, LineStopped, EndsAs, is_read_failed, TakesEach, StopsWithin, TakesBytes, TakesLast, Taken, ending_as, stopped_as, ended_by}
+use Rattle.streams.specs.Sink.{count_after}
+use Rattle.streams.proofs.Common.{SourceState, one_more, counted_up}
+use Rattle.station_lines.proofs.Common.{longest_read, Gives, GivesNone, IsOver, Gathers, FailsOnce, Ending, AtEnd, ReadFailed, TurnsOver, LineStopped, EndsAs, is_read_failed, TakesEach, StopsWithin, TakesBytes, TakesLast, Taken, ending_as, stopped_as, ended_by}
 
 -- ---- bytes of a source
 

@@ -9,7 +9,8 @@ use Rattle.modes_frame.specs.declared.line.LineFault.{LineFault}
 use Rattle.modes_frame.specs.Reading.{reading_of}
 use Rattle.station_journal.specs.declared.refusal.Refusal.{Refusal}
 use Rattle.station_journal.specs.declared.refusal.Refusal.TheVariants.{Unsupported, BadParity, Unassigned, Unknown, JournalFull, BookFull, NoMemory, NotLater, Repeated}
-use Rattle.station_lines.proofs.Common.{pump_command, heard_line, of_line, Counts, CountsNoCall, is_tick, is_show, Taken, ending_as, stopped_as, is_reply, Wants, Pumping, Pumps, PumpsFrame, PumpsAll, pump_answer, tally_of_pump, want_of, pump_ending, SourceState, Tally}
+use Rattle.station_lines.proofs.Common.{pump_command, heard_line, of_line, Counts, CountsNoCall, is_tick, is_show, Taken, ending_as, stopped_as, is_reply, Wants, Pumping, Pumps, PumpsFrame, PumpsAll, pump_answer, tally_of_pump, want_of, pump_ending, Tally}
+use Rattle.streams.proofs.Common.{SourceState}
 use Rattle.station_lines.specs.declared.command.Command.TheVariants.{Line as Received}
 use Rattle.station_lines.specs.declared.pumping.PumpFault.{PumpFault}
 use Rattle.station_lines.specs.declared.pumping.PumpFault.TheVariants as Faults

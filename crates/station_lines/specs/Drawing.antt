@@ -3,8 +3,9 @@ use Rattle.std.specs.Prelude.{◌≡◌, ℕ, ◌*◌, ◌<◌, ◌≤◌, Bool,
 use Rattle.std.specs.Io.KnownBytes.{Appends, Consumes, Keeps, IsAtEnd}
 use Rattle.modes_frame.specs.declared.cutter.Cut.{Cut}
 use Rattle.modes_frame.specs.Lines.{cuts, ended_cuts, pending}
-use Rattle.station_report.specs.Sink.{count_after}
-use Rattle.station_lines.specs.Source.{IsBorder, SourceState, one_more, counted_up, longest_read}
+use Rattle.streams.specs.Sink.{count_after}
+use Rattle.streams.specs.Source.{IsBorder, SourceState, one_more, counted_up}
+use Rattle.station_lines.specs.Reads.{longest_read}
 use Rattle.station_lines.specs.declared.lines.Ended.{Ended}
 use Rattle.station_lines.specs.declared.lines.Ended.TheVariants as Ends
 

@@ -9,4 +9,4 @@ pub mod ParsedLines
 pub mod Piece
 pub mod Pump
 pub mod PumpLaws
-pub mod Source
+pub mod Reads

@@ -10,7 +10,7 @@ use Rattle.station_lines.specs.Calls.{pump_command, frames_of}
 use Rattle.station_lines.specs.Counting.{CountsCall, CountsLines, Counts}
 use Rattle.station_lines.specs.Drawing.{Ending, AtEnd, ReadFailed, TurnsOver, LineStopped, Draws}
 use Rattle.station_lines.specs.Feeds.{Feeds, is_reply}
-use Rattle.station_lines.specs.Source.{SourceState}
+use Rattle.streams.specs.Source.{SourceState}
 use Rattle.station_lines.specs.declared.command.Command.TheVariants.{Line as Received}
 use Rattle.station_lines.specs.declared.pumping.PumpFault.{PumpFault}
 use Rattle.station_lines.specs.declared.pumping.PumpFault.TheVariants as Faults

@@ -4,20 +4,16 @@
 pub mod command;
 mod counting;
 pub mod feed;
-pub mod from_read;
 pub mod lines;
 pub mod parsed_line;
 pub mod piece;
 pub mod pumping;
-pub mod source;
 pub mod tally;
 
 pub use command::{Command, CommandFault, read_command, read_command_short};
 pub use feed::Feed;
-pub use from_read::{FromBuffer, FromRead};
 pub use lines::{Ended, LineTaker, take_lines};
 pub use parsed_line::{ParsedLine, parse_heard, parse_said};
 pub use piece::PIECE;
 pub use pumping::{PumpFault, pump};
-pub use source::Source;
 pub use tally::Tally;

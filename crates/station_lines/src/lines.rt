@@ -6,8 +6,8 @@ ghost use Rattle.station_lines.specs.Drawing.{TakesBytes, TakesEach, TakesLast, 
 
 use crate::parsed_line::ParsedLine;
 use crate::piece::Piece;
-use crate::source::Source;
 use modes_frame::{CheckedFrame, Cut, Cutter};
+use streams::Source;
 
 /// Takes lines one after another, and counts them. It may keep lines, and takes those when it settles.
 pub trait LineTaker {

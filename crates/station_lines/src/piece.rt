@@ -1,10 +1,9 @@
 //! The bytes of several reads, gathered while they are at hand.
 ghost use Rattle.std.specs.Prelude.{◌≡◌, ◌+◌, ◌<◌, ◌≤◌, ◌++◌, ℕ, List, [], length, IfOk, OnErr, is_ok, true};
 ghost use Rattle.station_lines.specs.Drawing.{FailsOnce, Gathers, ReadsMore};
-ghost use Rattle.station_lines.specs.Source.{longest_piece};
+ghost use Rattle.station_lines.specs.Reads.{longest_piece};
 
-use crate::source::Source;
-use station_report::Failed;
+use streams::{Failed, Source};
 
 // The most bytes asked for by one read.
 const READ: usize = 512;

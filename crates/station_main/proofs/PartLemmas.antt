@@ -5,7 +5,7 @@ use Rattle.station_lines.specs.declared.tally.Tally.{Tally}
 use Rattle.std.proofs.lemmas.List.{map_push}
 use Rattle.std.proofs.lemmas.List.Elements.{All-cons, All-nil}
 use Rattle.station_portions.specs.Giving.{state_of}
-use Rattle.station_lines.specs.Source.{SourceState}
+use Rattle.streams.specs.Source.{SourceState}
 use Rattle.station_portions.specs.declared.portions.Portions.{Portions}
 use Rattle.station_portions.specs.declared.finished_path.WholePath.{WholePath}
 use Rattle.messages.proofs.Common.{AddsAll, AddsAnswer}

@@ -4,8 +4,8 @@ use Rattle.std.proofs.lemmas.Bool.Decides.{nat_tests}
 use lib.ListN.{get_or-append}
 use Rattle.std.proofs.lemmas.List.{get_or_at, get_or-map, length-map}
 use Rattle.station_portions.specs.Giving.{state_of}
-use Rattle.station_lines.specs.Source.{SourceState}
-use Rattle.station_report.specs.Sink.{SinkState}
+use Rattle.streams.specs.Source.{SourceState}
+use Rattle.streams.specs.Sink.{SinkState}
 use native.Mathlib.Decide.{dec_lt}
 use Rattle.station_journal.specs.declared.entry.Entry.{Entry}
 use Rattle.station_history.specs.Start.{Start}

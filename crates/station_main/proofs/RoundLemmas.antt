@@ -1,7 +1,7 @@
 -- Rounds of the job `run`, one after another.
 use Rattle.std.proofs.Common.{◌≡◌, ◌∙◌, inl, inr, flat_map, fold, map, max, ℕ, zero, suc, ◌+◌, ◌-◌, ◌<◌, ◌≤◌, Bool, true, false, not, List, [], ◌∷◌, ◌++◌, Option, Some, None, Result, length, length-append, refl, sym, ap, subst, take, reverse, arith, rules}
 use Rattle.std.proofs.lemmas.List.{length-reverse, length-take-le}
-use Rattle.station_report.specs.Sink.{SinkState}
+use Rattle.streams.specs.Sink.{SinkState}
 use Rattle.station_journal.specs.declared.entry.Entry.{Entry}
 use Rattle.station_journal.specs.declared.limits.Limits.{Limits}
 use Rattle.station_journal.specs.declared.recent.ResumeFault.{ResumeFault}

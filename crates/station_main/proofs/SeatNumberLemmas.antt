@@ -3,12 +3,12 @@ use Rattle.std.proofs.Common.{zero, suc, ◌≡◌, ◌∙◌, ℕ, ◌+◌, ◌
 use Rattle.std.specs.List.{AllByRecursion}
 use Rattle.std.proofs.lemmas.Bool.Decides.{eqb_tells}
 use Rattle.std.proofs.lemmas.List.Sums.{sum_by-cons}
-use Rattle.station_report.specs.Sink.{SinkState}
+use Rattle.streams.specs.Sink.{SinkState}
 use native.Mathlib.Decide.{dec_lt}
 use Rattle.station_history.specs.Start.{Start}
 use Rattle.station_shared.proofs.Common.{EachOnce, Seated, Looks}
 use Rattle.station_report.specs.declared.formats.Format.{Format}
-use Rattle.station_report.specs.declared.sinks.WriteFault.{WriteFault}
+use Rattle.streams.specs.declared.sinks.WriteFault.{WriteFault}
 use Rattle.station_reporter.proofs.Common.{PrintsAndRecords, Recording, IsLater, MayHandOver, ReportsByAClock, Showing, Showings, Ticks, seat_after}
 use Rattle.station_reporter.specs.declared.duties.Duties.{Duties}
 use Rattle.station_reporter.specs.declared.schedule.Due.{Due}

@@ -1,7 +1,7 @@
 -- The inputs of a run: what threads send of what opening the paths gave.
 use Rattle.std.specs.Prelude.{◌≡◌, ◌⊎◌, ℕ, List, [], ◌∷◌, Option, None, Some, ⊤}
 use Rattle.std.specs.String.{string_bytes}
-use Rattle.station_lines.specs.Source.{SourceState}
+use Rattle.streams.specs.Source.{SourceState}
 use Rattle.clap.specs.Words.{Text}
 use Rattle.rtrb.specs.Ring.{sent}
 use Rattle.station_portions.specs.Rings.{reader_ring}

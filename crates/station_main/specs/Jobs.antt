@@ -4,7 +4,7 @@ use Rattle.std.specs.String.{string_bytes}
 use Rattle.clap.specs.Words.{App, IsAmong, Text, fault_of}
 use Rattle.clap.specs.declared.error.kind.ErrorKind.{ErrorKind}
 use Rattle.clap.specs.declared.error.kind.ErrorKind.TheVariants as kind
-use Rattle.station_report.specs.Sink.{AppendsFront}
+use Rattle.streams.specs.Sink.{AppendsFront}
 use Rattle.command_line.specs.Command.{IsStation, NamesJob, format_since, misplaced, reopens_rounds}
 use Rattle.station_main.specs.Limits.{forget_at, program_limits}
 use Rattle.station_main.specs.Replay.{EndsReplay}

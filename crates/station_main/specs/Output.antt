@@ -3,9 +3,9 @@ use Rattle.std.specs.Io.KnownBytes.{Keeps, append_known}
 use Rattle.std.specs.Io.Buffered.{writer_contents}
 use Rattle.std.specs.declared.io.buffered.BufWriter.{BufWriter}
 use Rattle.std.proofs.Common.{Global, ◌≡◌, ℕ, Bool, false, List, [], Option}
-use Rattle.station_report.specs.Sink.{SinkState}
-use Rattle.station_report.specs.ToWrite.{failure_count, writer_of}
-use Rattle.station_report.specs.declared.to_write.ToWrite.{ToWrite}
+use Rattle.streams.specs.Sink.{SinkState}
+use Rattle.streams.specs.ToWrite.{failure_count, writer_of}
+use Rattle.streams.specs.declared.to_write.ToWrite.{ToWrite}
 
 -- the view of a sink over a buffered writer
 abbrev pub buffered_of : {W : Type 0} → (W → Option (List ℕ)) → ToWrite (BufWriter W Global) → SinkState

@@ -1,8 +1,8 @@
 -- What the job `run` leaves: its rounds, one after another.
 use Rattle.std.specs.Prelude.{◌≡◌, ◌≤◌, ◌⊎◌, ℕ, ◌+◌, zero, suc, Bool, true, false, List, [], All, is_some, length, map, max, reverse, Option, Some, None, Result, Ok, option_map}
 use Rattle.station_portions.specs.Giving.{state_of}
-use Rattle.station_lines.specs.Source.{SourceState}
-use Rattle.station_report.specs.Sink.{SinkState}
+use Rattle.streams.specs.Source.{SourceState}
+use Rattle.streams.specs.Sink.{SinkState}
 use Rattle.clap.specs.Words.{Text}
 use Rattle.station_journal.specs.declared.entry.Entry.{Entry}
 use Rattle.station_journal.specs.Log.{clock_of}

@@ -9,7 +9,6 @@ use crate::output::{JobResult, without_output};
 use crate::path_host::PathHost;
 use crate::run_job::{RunOptions, run_paths};
 use messages::{Alarms, Fault, StandardError};
-use station_report::Sink;
 use station_reporter::displays::status_of;
 use station_reporter::{Beside, Displays, LimitAlarm};
 use std::alloc::{AllocError, Global};
@@ -19,6 +18,7 @@ use std::rt::Files;
 use std::sync::Wait;
 use std::thread::Threads;
 use std::time::Clock;
+use streams::Sink;
 
 /// Runs the rounds, as [`run_paths`] does, and puts each table where displays find it if that is asked. The first failed
 /// write for displays is reported at once. Then tables go on, and the status is 1.

@@ -12,7 +12,6 @@ use crate::replay_job::replay_input;
 use crate::run_job::RunOptions;
 use command_line::{Job, WordsFault, read_words};
 use messages::{Alarms, Fault, StandardError};
-use station_report::{ToWrite, write_all};
 use station_reporter::milliseconds_since_1970;
 use std::alloc::Global;
 use std::fs::File;
@@ -21,6 +20,7 @@ use std::rt::Files;
 use std::sync::Wait;
 use std::thread::Threads;
 use std::time::Clock;
+use streams::{ToWrite, write_all};
 
 // Why `--reopen` with `--rounds` is refused, in the form of `clap`.
 const REOPENS_ROUNDS: &str = concat!(

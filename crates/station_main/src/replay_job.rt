@@ -12,12 +12,13 @@ use crate::output::{ClosedOutput, JobResult, drop_unwritten, unbuffered, without
 use messages::{Fault, StandardError, tell_after, write_tally};
 use modes_cpr::Reference;
 use station_replay::replay_forgetting;
-use station_report::{Format, ToWrite};
+use station_report::Format;
 use station_reporter::LimitAlarm;
 use station_shared::{Desk, FromBuffer, ReplayFault, Tally};
 use std::alloc::Global;
 use std::io::{BufReader, BufWriter, Read, Write};
 use std::sync::Wait;
+use streams::ToWrite;
 
 /// Reads the lines of the input, and writes the tables that they ask for in this format. `site` is the place of the receivers, if
 /// it is given. Then prints what was counted, and

@@ -19,7 +19,6 @@ use crate::paths::Paths;
 use crate::shift::{Ended, Finished, Shift, run_shift};
 use messages::{Fault, StandardError, tell, tell_end};
 use station_portions::HandOver;
-use station_report::Sink;
 use station_reporter::{Beside, Kept};
 use station_shared::Places;
 use std::alloc::Global;
@@ -31,6 +30,7 @@ use std::sync::ledger::Blank;
 use std::sync::{Arc, Wait};
 use std::thread::Threads;
 use std::time::{Clock, Instant};
+use streams::Sink;
 
 /// How a round ends.
 #[derive(Drop)]

@@ -22,7 +22,6 @@ use crate::threads::Output;
 use command_line::RunArguments;
 use messages::{Fault, StandardError};
 use modes_cpr::Reference;
-use station_report::{Sink, ToWrite};
 use station_reporter::recorder::status_of;
 use station_reporter::{Beside, Duties, Kept, Tables, record_to};
 use std::alloc::Global;
@@ -32,6 +31,7 @@ use std::rt::Files;
 use std::sync::Wait;
 use std::thread::Threads;
 use std::time::{Clock, Instant};
+use streams::{Sink, ToWrite};
 
 /// The options of a run.
 #[derive(Clone, Copy)]

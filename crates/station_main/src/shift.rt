@@ -18,7 +18,6 @@ use crate::threads::{Input, Output, Receiver, run_threads};
 use messages::{Answer, Fault};
 use station_journal::Journal;
 use station_portions::{HandOver, PathEnd};
-use station_report::Sink;
 use station_reporter::{Beside, Duties, Kept, Reporter};
 use station_shared::{Places, PumpFault, StationName};
 use std::alloc::Global;
@@ -29,6 +28,7 @@ use std::sync::ledger::Blank;
 use std::sync::{Arc, Wait};
 use std::thread::Threads;
 use std::time::{Clock, Instant};
+use streams::Sink;
 
 /// What a station is begun with.
 #[derive(Drop)]

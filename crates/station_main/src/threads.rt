@@ -7,7 +7,7 @@ ghost use Rattle.station_main.specs.Run.{HaveWorked, PrintsLast};
 use crate::limits::{AIRCRAFT, TURNS};
 use crate::output::{ClosedOutput, drop_unwritten, unbuffered};
 use station_portions::{HandOver, Portions};
-use station_report::{Format, Sink, ToWrite};
+use station_report::Format;
 use station_reporter::{
     Bell, Beside, Reporter, ReporterResult, ReportsFrom, print_and_record, report,
 };
@@ -21,6 +21,7 @@ use std::sync::{Arc, Wait};
 use std::thread;
 use std::thread::Threads;
 use std::time::{Clock, Instant};
+use streams::{Sink, ToWrite};
 
 /// A path that a receiver reads.
 pub type Input<'a, R> = Portions<'a, R>;

@@ -1,6 +1,6 @@
 -- Bytes that end a line, and the buffer with them.
 use Rattle.std.specs.Prelude.{◌≡◌, ◌≢◌, ℕ, ◌-◌, ◌<◌, List, length, slice_index_or}
-pub use Rattle.station_lines.specs.Source.{IsBorder}
+pub use Rattle.streams.specs.Source.{IsBorder}
 
 -- the bytes of a buffer
 abbrev pub buffer_size : ℕ

@@ -1,7 +1,7 @@
 -- What a source of portions took, and what of it it gave.
 use Rattle.std.specs.Prelude.{ℕ, List, [], Option, None, Some, nat_lt, length}
 use Rattle.rtrb.specs.Ring.{received}
-use Rattle.station_lines.specs.Source.{SourceState}
+use Rattle.streams.specs.Source.{SourceState}
 use Rattle.station_portions.specs.Messages.{bytes_before, ungiven_of}
 use Rattle.station_portions.specs.Rings.{source_ring}
 use Rattle.station_portions.specs.declared.message.Message.{Message}

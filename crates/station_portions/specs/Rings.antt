@@ -3,7 +3,7 @@ use Rattle.std.specs.declared.alloc.Global.{Global}
 use Rattle.rtrb.specs.declared.AnyItems.{AnyItems}
 use Rattle.rtrb.specs.declared.consumer.Consumer.{Consumer}
 use Rattle.rtrb.specs.declared.producer.Producer.{Producer}
-use Rattle.station_lines.specs.Source.{RingName}
+use Rattle.streams.specs.Source.{RingName}
 use Rattle.station_portions.specs.declared.message.Message.{Message}
 
 -- the ring from which a source takes

@@ -10,10 +10,9 @@ use crate::hand_over::{HandOver, Requested};
 use crate::message::{Batch, Buffer, Message, PathEnd};
 use crate::portions::receiving::{give_back, next_message};
 use rtrb::{Consumer, Producer};
-use station_lines::Source;
-use station_report::Failed;
 use std::alloc::Global;
 use std::sync::{Arc, Wait};
+use streams::{Failed, Source};
 
 /// Gives the lines of a path in portions, each byte once and in order. A portion ends between two lines where a hand-over
 /// was requested, or where the path ended or a read of it failed.
@@ -215,8 +214,8 @@ impl<R: Wait> Source for Portions<'_, R> {
     ghost use mathlib.Core.List.{IsPrefix};
     ghost use Rattle.rtrb.specs.Ring.{SameConsumer};
     ghost use Rattle.std.specs.Io.KnownBytes.{ReadConsumes, WriteAppends};
-    ghost use Rattle.station_report.specs.Sink.{count_after};
-    ghost use Rattle.station_lines.specs.Source.{is_end, one_more};
+    ghost use Rattle.streams.specs.Sink.{count_after};
+    ghost use Rattle.streams.specs.Source.{is_end, one_more};
     ghost use Rattle.station_portions.specs.Batches.{IsBorder};
     ghost use Rattle.station_portions.specs.Giving.{given_bytes, left_of, state_of, taken_messages, ungiven_bytes};
     ghost use Rattle.station_portions.specs.Rings.{source_ring};

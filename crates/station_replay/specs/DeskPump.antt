@@ -7,7 +7,7 @@ use Rattle.station_lines.specs.Calls.{pump_command, journal_after}
 use Rattle.station_lines.specs.Counting.{Counts}
 use Rattle.station_lines.specs.Drawing.{Draws}
 use Rattle.station_lines.specs.Pump.{tally_of_pump, want_of, pump_ending}
-use Rattle.station_lines.specs.Source.{SourceState}
+use Rattle.streams.specs.Source.{SourceState}
 use Rattle.station_replay.specs.Replay.{EndsWithCall}
 use Rattle.station_lines.specs.declared.pumping.PumpFault.{PumpFault}
 use Rattle.station_lines.specs.declared.tally.Tally.{Tally}

@@ -5,8 +5,9 @@ ghost use Rattle.station_book.specs.JournalBook.{most_aircraft};
 
 use crate::desk::Desk;
 use crate::desk_feed::DeskFeed;
-use station_lines::{PumpFault, Source, Tally, pump};
+use station_lines::{PumpFault, Tally, pump};
 use std::sync::Wait;
+use streams::Source;
 
 // Pumps a source's lines through the desk that the feed lends.
 fn pump_lent<const N: usize, S: Source, R: Wait>(

@@ -4,5 +4,4 @@ pub mod DegreeLemmas
 pub mod MemberLemmas
 pub mod RootLemmas
 pub mod RowLemmas
-pub mod TakenLemmas
 pub mod TangentLemmas

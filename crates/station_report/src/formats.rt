@@ -2,13 +2,13 @@
 
 ghost use Rattle.std.specs.Prelude.{All};
 ghost use Rattle.station_report.specs.Format.{table_text};
-ghost use Rattle.station_report.specs.Sink.{TakesAll};
+ghost use Rattle.streams.specs.Sink.{TakesAll};
 ghost use Rattle.station_report.specs.Text.{IsPrintableRow};
 
 use crate::json::table_json;
 use crate::lines::table;
-use crate::sinks::{Sink, WriteFault};
 use station_journal::PlacedRows;
+use streams::{Sink, WriteFault};
 
 /// How a table is written.
 #[derive(Clone, Copy, Debug, PartialEq, Eq)]

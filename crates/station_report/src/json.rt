@@ -1,7 +1,7 @@
 //! The table as JSON.
 
 ghost use Rattle.std.specs.Prelude.{◌≡◌, ◌++◌, All, if◌then◌else◌, codes, []};
-ghost use Rattle.station_report.specs.Sink.{TakesAll};
+ghost use Rattle.streams.specs.Sink.{TakesAll};
 ghost use Rattle.station_report.specs.Text.{IsPrintableRow};
 ghost use Rattle.station_report.specs.Json.{object, head, json};
 
@@ -10,13 +10,13 @@ mod numbers;
 mod status;
 
 use crate::decimals::{push_number, push_text};
-use crate::sinks::{Sink, WriteFault, write_all};
 use members::{
     Object, push_altitude, push_flight, push_place, push_rate, push_squawk, push_velocity,
 };
 use numbers::{push_low_address, push_seconds, push_sum};
 use station_journal::{Aircraft, PlacedRows};
 use status::{push_category, push_emergency, push_level};
+use streams::{Sink, WriteFault, write_all};
 
 /// Writes the table of `rows` as a line of JSON, with the keys of aircraft.json of readsb and dump1090.
 ///

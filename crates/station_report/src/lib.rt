@@ -1,4 +1,4 @@
-//! The table of aircraft as text or as JSON, and the sinks that take its bytes.
+//! The table of aircraft as text or as JSON.
 #![tactic(auto)]
 
 mod columns;
@@ -8,8 +8,6 @@ mod json;
 pub mod laws;
 mod lines;
 mod motion;
-mod sinks;
-mod to_write;
 
 pub use columns::{latitude_field, longitude_field};
 pub use decimals::Field;
@@ -17,6 +15,5 @@ pub use formats::{Format, table_as};
 pub use json::table_json;
 pub use lines::table;
 pub use motion::{speed_tenths, track};
-pub use sinks::{Failed, Sink, WriteFault, flush_after, write_all};
 pub use station_journal::PlacedRows;
-pub use to_write::ToWrite;
+pub use streams::{Failed, Sink, ToWrite, WriteFault, flush_after, write_all};

@@ -2,7 +2,7 @@
 
 ghost use Rattle.std.specs.Prelude.{◌≡◌, ◌+◌, ◌≤◌, ◌++◌, ◌∷◌, [], All};
 ghost use Rattle.arrayvec.specs.ArrayVec.{array_vec_len};
-ghost use Rattle.station_report.specs.Sink.{TakesAll};
+ghost use Rattle.streams.specs.Sink.{TakesAll};
 ghost use Rattle.station_report.specs.Text.{IsPrintableRow, right, header, first_line, row_text, text};
 
 use crate::columns::{
@@ -10,9 +10,9 @@ use crate::columns::{
     or_dash, signed_field, squawk_field, velocity_field,
 };
 use crate::decimals::{Field, push_number, push_spaces, push_text};
-use crate::sinks::{Sink, WriteFault, write_all};
 use arrayvec::ArrayVec;
 use station_journal::{Aircraft, Rows};
+use streams::{Sink, WriteFault, write_all};
 
 // The text of one line: at most nine fields, each with a byte after it.
 type Line = ArrayVec<u8, 320>;

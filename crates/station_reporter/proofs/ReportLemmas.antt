@@ -4,9 +4,9 @@ use Rattle.std.specs.Io.KnownBytes.{Appends}
 use Rattle.std.proofs.KnownBytes.{Appends-nil, Appends-trans}
 use Rattle.station_journal.specs.declared.entry.Entry.TheVariants.{Tick}
 use Rattle.station_journal.specs.declared.refusal.Refusal.{Refusal}
-use Rattle.station_report.specs.Sink.{SinkState, count_after}
+use Rattle.streams.specs.Sink.{SinkState, count_after}
 use Rattle.station_report.specs.declared.formats.Format.{Format}
-use Rattle.station_report.specs.declared.sinks.WriteFault.{WriteFault}
+use Rattle.streams.specs.declared.sinks.WriteFault.{WriteFault}
 use Rattle.station_history.proofs.Common.{Start, Known}
 use Rattle.station_shared.specs.Seats.{Seated, Accepted, Refused, Looks}
 use Rattle.station_reporter.proofs.Common.{Acting, DoesAct, IsActAt, IsShowing, IsLater, Reports, Showing, Showings, Ticks, after_table, after_tick, due_moments, has_come, looks_of, seat_after, IfRecording, PrintsAndRecords, Recording, Records, seen_by, Due, Tables, Prints, PassesOver, TakesTexts, look_text, texts, failures_after}

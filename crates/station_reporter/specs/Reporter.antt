@@ -2,11 +2,11 @@
 use Rattle.std.specs.Prelude.{◌≡◌, ℕ, ◌+◌, ◌-◌, ◌*◌, ◌/◌, ◌^◌, ◌≤◌, ◌<◌, ◌⊎◌, ◌&&◌, Bool, true, false, List, [], ◌∷◌, Option, Some, None, IfSome, Result, cond, is_err, length, map, min, nat_le, nat_lt, unwrap_or, if◌then◌else◌}
 use Rattle.std.specs.Option.{option_map_or}
 use Rattle.std.specs.Duration.{as_nanos}
-use Rattle.station_report.specs.Sink.{SinkState}
+use Rattle.streams.specs.Sink.{SinkState}
 use Rattle.station_journal.specs.declared.entry.Entry.TheVariants.{Tick}
 use Rattle.station_journal.specs.declared.refusal.Refusal.{Refusal}
 use Rattle.station_report.specs.declared.formats.Format.{Format}
-use Rattle.station_report.specs.declared.sinks.WriteFault.{WriteFault}
+use Rattle.streams.specs.declared.sinks.WriteFault.{WriteFault}
 use Rattle.station_history.specs.History.{Known}
 use Rattle.station_history.specs.Start.{Start}
 use Rattle.station_shared.specs.Seats.{Seated, Accepted, Refused, Looks}

@@ -2,9 +2,9 @@
 use Rattle.std.specs.Prelude.{◌≡◌, ℕ, Bool, true, false, List, [], ◌∷◌, ◌++◌, Option, Some, None, Result, Ok}
 use Rattle.std.specs.Io.KnownBytes.{Appends}
 use Rattle.station_journal.specs.declared.entry.Entry.{Entry}
-use Rattle.station_report.specs.Sink.{SinkState, TakesAll, count_after}
+use Rattle.streams.specs.Sink.{SinkState, TakesAll, count_after}
 use Rattle.station_report.specs.declared.formats.Format.{Format}
-use Rattle.station_report.specs.declared.sinks.WriteFault.{WriteFault}
+use Rattle.streams.specs.declared.sinks.WriteFault.{WriteFault}
 use Rattle.station_replay.specs.Replay.{table_in}
 use Rattle.station_history.specs.Start.{Start, log_of}
 use Rattle.station_shared.specs.Seats.{Seated, Looks}

@@ -4,9 +4,9 @@ ghost use Rattle.std.specs.Prelude.{◌≡◌};
 use crate::displays::Displays;
 use crate::limit_alarm::LimitAlarm;
 use crate::recorder::Recorder;
-use station_report::Sink;
 use station_shared::LimitsMet;
 use std::io::Write;
+use streams::Sink;
 
 /// A record and a folder for displays, each only where it was asked for, and what reports full limits.
 #[derive(Drop)]

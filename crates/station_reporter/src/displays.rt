@@ -11,12 +11,13 @@ ghost use Rattle.messages.specs.Telling.{Tells, told_of};
 use command_line::VERSION;
 use messages::{Fault, StandardError, tell};
 use modes_cpr::{Degrees, Position, Reference};
-use station_report::{Format, ToWrite, WriteFault, latitude_field, longitude_field, table_as};
+use station_report::{Format, latitude_field, longitude_field, table_as};
 use station_shared::{Look, StationName};
 use std::alloc::{AllocError, Global};
 use std::fs::{self, File};
 use std::io::Write;
 use std::rt::Files;
+use streams::{ToWrite, WriteFault};
 
 /// The folder in which displays find the tables, as JSON.
 #[derive(Drop)]

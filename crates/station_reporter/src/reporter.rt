@@ -4,7 +4,7 @@ ghost use Rattle.std.specs.Io.KnownBytes.{Appends};
 ghost use Rattle.station_reporter.specs.Recorded.{PrintsAndRecords};
 ghost use Rattle.station_reporter.specs.Reporter.{DoesAct, IsLater, Reports, ReportsByAClock};
 ghost use Rattle.station_reporter.specs.Tables.{text_of};
-ghost use Rattle.station_report.specs.Sink.{TakesAll};
+ghost use Rattle.streams.specs.Sink.{TakesAll};
 
 use crate::bell::Bell;
 use crate::beside::Beside;
@@ -13,7 +13,7 @@ use crate::duties::Duties;
 use crate::recorder::record_look;
 use crate::schedule::{Act, Due, ElapsedClock, Moments, act_at, after_tick};
 use station_portions::HandOver;
-use station_report::{Format, Sink, WriteFault, flush_after, table_as};
+use station_report::{Format, table_as};
 use station_shared::{Look, Seat, Station, StationName};
 use std::alloc::Global;
 use std::fs::File;
@@ -23,6 +23,7 @@ use std::snapshot::Snapshot;
 use std::sync::{Arc, Wait};
 use std::thread::Promise;
 use std::time::{Clock, Instant};
+use streams::{Sink, WriteFault, flush_after};
 
 /// What a reporter leaves.
 #[derive(Drop)]

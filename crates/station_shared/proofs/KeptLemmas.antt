@@ -3,7 +3,8 @@ use Rattle.std.proofs.Common.{◌≡◌, ℕ, ◌+◌, ◌<◌, List, [], ◌∷
 use Rattle.std.proofs.lemmas.List.{get_or-map, length-map, map-append, take_more}
 use Rattle.modes_frame.specs.declared.cutter.Cut.{Cut}
 use Rattle.modes_frame.specs.declared.cutter.Cut.TheVariants.{TooLong}
-use Rattle.station_lines.proofs.Common.{pump_command, Draws, Ending, Taken, ending_as, stopped_as, parsed_of, SourceState}
+use Rattle.station_lines.proofs.Common.{pump_command, Draws, Ending, Taken, ending_as, stopped_as, parsed_of}
+use Rattle.streams.proofs.Common.{SourceState}
 use Rattle.station_lines.specs.declared.parsed_line.ParsedLine.{ParsedLine}
 use Rattle.station_lines.specs.declared.lines.Ended.{Ended}
 use Rattle.station_lines.specs.declared.lines.Ended.TheVariants as Ends

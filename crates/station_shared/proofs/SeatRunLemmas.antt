@@ -3,7 +3,8 @@ use Rattle.std.proofs.Common.{◌≡◌, ℕ, ◌+◌, List, [], ◌∷◌, ◌+
 use Rattle.station_journal.specs.declared.entry.Entry.{Entry}
 use Rattle.station_journal.specs.declared.entry.Entry.TheVariants.{Heard}
 use Rattle.station_journal.specs.declared.refusal.Refusal.{Refusal}
-use Rattle.station_lines.proofs.Common.{frames_of, Feeds, PumpsAll, SourceState}
+use Rattle.station_lines.proofs.Common.{frames_of, Feeds, PumpsAll}
+use Rattle.streams.proofs.Common.{SourceState}
 use Rattle.station_history.specs.Start.{Start}
 use Rattle.station_shared.proofs.Common.{Seated, SeatSteps, Within, accepted_frames, heard_by, Fed, Works}
 use Rattle.station_lines.specs.declared.pumping.PumpFault.{PumpFault}

@@ -6,7 +6,7 @@ use Rattle.station_journal.specs.declared.refusal.Refusal.{Refusal}
 use Rattle.station_lines.specs.Calls.{frames_of}
 use Rattle.station_history.specs.History.{Known}
 use Rattle.station_lines.specs.Pump.{PumpsAll, tally_of_pump}
-use Rattle.station_lines.specs.Source.{SourceState}
+use Rattle.streams.specs.Source.{SourceState}
 use Rattle.station_history.specs.Start.{Start}
 use Rattle.station_shared.specs.Seats.{Seated, Accepted, Refused}
 use Rattle.station_lines.specs.declared.pumping.PumpFault.{PumpFault}

@@ -24,10 +24,8 @@ pub use seat::Seat;
 pub use seat_feed::{SeatFeed, pump_seat};
 pub use station::Station;
 pub use station_desk::Places;
-pub use station_lines::{
-    Command, CommandFault, Feed, FromBuffer, FromRead, PIECE, PumpFault, Source, Tally, pump,
-    read_command,
-};
+pub use station_lines::{Command, CommandFault, Feed, PIECE, PumpFault, Tally, pump, read_command};
 pub use station_name::StationName;
 pub use station_replay::{Desk, DeskFeed, Format, ReplayFault, pump_desk, replay, replay_as};
+pub use streams::{FromBuffer, FromRead, Source};
 pub use worker::{Worker, run_receivers};

@@ -9,8 +9,9 @@ use crossbeam_utils::rule::Protocol;
 use modes_frame::Frame;
 use station_desk::{Mark, PublishRule, PublishedTable};
 use station_journal::Refusal;
-use station_lines::{Feed, PumpFault, Source, Tally, pump};
+use station_lines::{Feed, PumpFault, Tally, pump};
 use std::sync::Wait;
+use streams::Source;
 
 /// A station, and the borrowed seat that feeds it.
 #[derive(Drop)]

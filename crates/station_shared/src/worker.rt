@@ -8,10 +8,11 @@ use crate::station::Station;
 use crate::station_name::StationName;
 use crossbeam_utils::rule::Protocol;
 use station_desk::{Mark, PublishRule, PublishedTable};
-use station_lines::{PumpFault, Source, Tally};
+use station_lines::{PumpFault, Tally};
 use std::sync::Wait;
 use std::thread;
 use std::thread::Threads;
+use streams::Source;
 
 /// A seat, the source of its lines, and what its pump answered, once it ran.
 #[derive(Drop)]

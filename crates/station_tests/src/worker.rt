@@ -9,7 +9,7 @@ mod torn;
 use crate::comparing::{holds, same};
 use crate::fakes::{Site, becomes_set, push};
 use crate::station::look_of;
-use station_lines::{FromRead, PumpFault, Source, Tally};
+use station_lines::{PumpFault, Tally};
 use station_shared::{LimitsMet, Seat, Station, StationName, Worker, run_receivers};
 use std::io;
 use std::io::{ErrorKind, Read};
@@ -19,6 +19,7 @@ use std::sync::Wait;
 use std::sync::atomic::AtomicU64;
 use std::sync::atomic::Ordering::SeqCst;
 use std::thread::{Threads, yield_now};
+use streams::{FromRead, Source};
 
 const IDENTIFICATION: &'static [u8] = b"*8D4840D6202CC371C32CE0576098;\n";
 

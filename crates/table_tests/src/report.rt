@@ -11,10 +11,11 @@ use modes_cpr::{Degrees, Position};
 use modes_fields::Velocity;
 use modes_fields::readers::{callsign, squawk};
 use station_journal::Aircraft;
-use station_report::{ToWrite, table};
+use station_report::table;
 use std::alloc::Global;
 use std::process::Abort;
 use std::test::Fail;
+use streams::ToWrite;
 
 const HEADER: &str = "  ADDR CALLSIGN    ALT SQWK     VELOCITY   VERT        LAT        LON AGE\n";
 

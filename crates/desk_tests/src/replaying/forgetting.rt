@@ -9,8 +9,8 @@ use station_lines::Tally;
 use station_replay::{
     Desk, Format, LimitObserver, ReplayFault, Unobserved, replay, replay_forgetting,
 };
-use station_report::Sink;
 use std::sync::Wait;
+use streams::Sink;
 
 // Replays lines by a desk that forgets once it has so many entries. Gives its journal too.
 pub(super) fn replayed<const N: usize, S: Sink, O: LimitObserver, R: Wait>(

@@ -8,10 +8,10 @@ use arrayvec::ArrayVec;
 use station_journal::{FullLimit, Refusal};
 use station_lines::Tally;
 use station_replay::{Desk, LimitObserver, ReplayFault};
-use station_report::{Failed, Sink};
 use std::sync::Wait;
 use std::sync::atomic::AtomicU64;
 use std::sync::atomic::Ordering::SeqCst;
+use streams::{Failed, Sink};
 
 // How often each limit was met, and how often any, which others see too.
 #[derive(Drop)]

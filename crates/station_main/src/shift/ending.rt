@@ -1,7 +1,7 @@
 //! How a station ends: it is closed with all its seats, and may hand over.
 ghost use Rattle.std.specs.Prelude.{◌≡◌, ◌∷◌, ℕ, Option, Some, All, IfErr, IfOk, false, is_some, length, map, true};
 ghost use Rattle.station_portions.specs.Giving.{state_of};
-ghost use Rattle.station_report.specs.Sink.{SinkState};
+ghost use Rattle.streams.specs.Sink.{SinkState};
 ghost use Rattle.station_history.specs.Start.{log_of};
 ghost use Rattle.station_shared.specs.Seats.{newcomer};
 ghost use Rattle.station_main.specs.Output.{buffered_of};
@@ -17,7 +17,6 @@ use crate::shift::{Ended, Finished, Shift};
 use crate::threads::{Input, Left, Outcome, Output, Receiver, print_last};
 use messages::{Answer, Fault, added};
 use station_journal::{Journal, NoMemory};
-use station_report::Sink;
 use station_reporter::{Beside, Duties};
 use station_shared::{Missing, Seat, Station, StationName, Worker};
 use std::alloc::Global;
@@ -25,6 +24,7 @@ use std::fs::File;
 use std::io::Write;
 use std::rt::Files;
 use std::sync::Wait;
+use streams::Sink;
 
 /// What a closed station leaves.
 #[derive(Drop)]

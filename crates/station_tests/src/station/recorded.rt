@@ -8,13 +8,13 @@ use crate::fakes::new_places;
 use station_desk::Places;
 use station_journal::Limits;
 use station_record::{RecordRoom, write_seen};
-use station_report::ToWrite;
 use station_shared::{Seat, Station, StationName};
 use std::alloc::Global;
 use std::marker::Brand;
 use std::process::Abort;
 use std::sync::Wait;
 use std::sync::ledger::Blank;
+use streams::ToWrite;
 
 const MANY: Limits = Limits {
     entries: 131_072,

@@ -7,7 +7,6 @@ use crate::fakes::{Site, push};
 use crate::station::read_frame;
 use modes_frame::{Frame, remainder};
 use station_journal::{Entry, Journal};
-use station_lines::FromBuffer;
 use station_shared::{Seat, Station, StationName, Worker, run_receivers};
 use std::alloc::Global;
 use std::io;
@@ -16,6 +15,7 @@ use std::marker::Brand;
 use std::process::Abort;
 use std::sync::Wait;
 use std::thread::Threads;
+use streams::FromBuffer;
 
 // How many lines each receiver reads: more than are kept at once.
 const LINES: u16 = 10_000;

@@ -3,12 +3,13 @@ use super::tally;
 use super::torn::{Torn, run_two};
 use crate::comparing::same;
 use crate::fakes::Site;
-use station_lines::{FromBuffer, PIECE};
+use station_lines::PIECE;
 use std::alloc::Global;
 use std::io;
 use std::io::BufReader;
 use std::marker::Brand;
 use std::test::*;
+use streams::FromBuffer;
 
 const BLANKS: [u8; 10_000] = [b'\n'; 10_000];
 

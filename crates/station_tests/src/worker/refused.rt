@@ -4,13 +4,13 @@ ghost use Rattle.std.specs.Prelude.{◌≡◌};
 use super::{IDENTIFICATION, Ran, VELOCITY, run_pair};
 use crate::comparing::same;
 use crate::fakes::{Site, limits_met};
-use station_lines::FromRead;
 use station_shared::{LimitsMet, StationName};
 use std::alloc::Global;
 use std::marker::Brand;
 use std::process::Abort;
 use std::sync::Wait;
 use std::thread::Threads;
+use streams::FromRead;
 
 // What two receivers leave whose sources end: how many of their calls were accepted and refused, how many entries there
 // are, and which limits the calls met.

@@ -4,7 +4,7 @@ ghost use Rattle.std.specs.Prelude.{◌≡◌};
 use super::{IDENTIFICATION, Ran, VELOCITY, run_pair, tally};
 use crate::comparing::same;
 use crate::fakes::Site;
-use station_lines::{FromBuffer, PumpFault};
+use station_lines::PumpFault;
 use station_shared::StationName;
 use std::alloc::Global;
 use std::io;
@@ -14,6 +14,7 @@ use std::process::Abort;
 use std::sync::Wait;
 use std::test::*;
 use std::thread::Threads;
+use streams::FromBuffer;
 
 // Gives its bytes, and then fails or ends.
 #[derive(Drop)]

@@ -9,10 +9,11 @@ use super::{
 use crate::comparing::{holds, holds_at, same_at};
 use modes_fields::{Category, CategorySet, Emergency, RateSource};
 use station_journal::{Aircraft, Rows};
-use station_report::{PlacedRows, ToWrite, table_json};
+use station_report::{PlacedRows, table_json};
 use std::alloc::Global;
 use std::process::Abort;
 use std::test::Fail;
+use streams::ToWrite;
 
 // A table of one row, and the time of its position.
 #[derive(Drop)]

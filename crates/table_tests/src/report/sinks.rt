@@ -2,10 +2,11 @@
 
 use crate::comparing::{holds, same, same_at};
 use crate::report::{HEADER, are_printable, identified};
-use station_report::{Failed, Sink, ToWrite, WriteFault, flush_after, table};
+use station_report::table;
 use std::io;
 use std::io::{ErrorKind, Write};
 use std::test::Fail;
+use streams::{Failed, Sink, ToWrite, WriteFault, flush_after};
 
 // Fails at each call.
 #[derive(Drop)]

@@ -1,5 +1,5 @@
 use Rattle.std.proofs.Common.{◌≡◌, ◌*◌, ◌-◌, ◌<◌, ◌≤◌, ◌⊎◌, false, true}
-use Rattle.station_lines.specs.Source.{longest_piece}
+use Rattle.station_lines.specs.Reads.{longest_piece}
 use Rattle.station_lines.proofs.DrawingLemmas.{GivenSoFar}
 use Rattle.station_lines.proofs.lines.take_lines.Given as goal
 

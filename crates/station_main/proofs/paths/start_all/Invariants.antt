@@ -2,7 +2,7 @@ use Rattle.std.specs.Prelude.{◌≡◌, ◌+◌, ◌++◌, All, List, length, m
 use Rattle.std.specs.String.{string_bytes}
 use Rattle.std.specs.Vec.Iter.{into_iter_items}
 use Rattle.station_portions.specs.Giving.{state_of}
-use Rattle.station_lines.specs.Source.{SourceState}
+use Rattle.streams.specs.Source.{SourceState}
 use Rattle.station_portions.specs.declared.finished_path.WholePath.{WholePath}
 use Rattle.station_main.specs.declared.opened.Opened.{Opened}
 use Rattle.station_main.proofs.Common.{AreFed, path_of, HasNoLines}

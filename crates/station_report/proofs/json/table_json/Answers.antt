@@ -4,7 +4,7 @@ use Rattle.station_report.specs.Text.{IsPrintableRow}
 use Rattle.station_report.specs.Json.{head, object, with_commas}
 use Rattle.station_report.proofs.CommaLemmas.{text_at, after, one_text_more, texts_and_the_rest, zip_at, all_taken}
 use Rattle.station_report.proofs.RowLemmas.{All_at}
-use Rattle.station_report.proofs.TakenLemmas.{Took, Took-nil, Took-then, TakesAll-fails}
+use Rattle.streams.proofs.TakenLemmas.{Took, Took-nil, Took-then, TakesAll-fails}
 use Rattle.station_report.proofs.json.table_json.Goals as goal
 
 pub returns-in_err-write_all : goal.returns-in_err-write_all

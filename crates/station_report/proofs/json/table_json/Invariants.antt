@@ -1,6 +1,6 @@
 use Rattle.std.proofs.Common.{◌++◌, take, zip}
 use Rattle.station_report.specs.Json.{head, object, with_commas}
-use Rattle.station_report.proofs.TakenLemmas.{Took}
+use Rattle.streams.proofs.TakenLemmas.{Took}
 use Rattle.station_report.proofs.json.table_json.Given as goal
 
 -- the aircraft so far were taken, and nothing failed

@@ -1,7 +1,7 @@
 use Rattle.std.proofs.Common.{◌+◌, drop, [], ◌++◌, sym, ap, ◌∙◌, length, take, append_assoc, append-nil, flat_map}
 use Rattle.station_report.specs.Text.{IsPrintableRow, first_line, header, row_text}
 use Rattle.station_report.proofs.RowLemmas.{one_more, and_the_rest, All_at}
-use Rattle.station_report.proofs.TakenLemmas.{Took-nil, Took-then, TakesAll-fails}
+use Rattle.streams.proofs.TakenLemmas.{Took-nil, Took-then, TakesAll-fails}
 use Rattle.station_report.proofs.lines.table.Goals as goal
 
 pub returns-in_err-write_all : goal.returns-in_err-write_all

@@ -1,6 +1,6 @@
 use Rattle.std.proofs.Common.{◌++◌, take, length, flat_map}
 use Rattle.station_report.specs.Text.{first_line, header, row_text}
-use Rattle.station_report.proofs.TakenLemmas.{Took}
+use Rattle.streams.proofs.TakenLemmas.{Took}
 use Rattle.station_report.proofs.lines.table.Given as goal
 
 -- the lines so far were taken, and nothing failed

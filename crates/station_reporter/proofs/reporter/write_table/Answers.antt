@@ -1,7 +1,7 @@
 use Rattle.std.proofs.Common.{subst, ℕ}
 use Rattle.station_journal.specs.Log.{clock_of, placed_of, table_of}
 use Rattle.station_report.specs.Format.{table_text}
-use Rattle.station_report.specs.Sink.{TakesAll}
+use Rattle.streams.specs.Sink.{TakesAll}
 use Rattle.station_history.specs.Start.{log_of}
 use Rattle.station_replay.proofs.RowLemmas.{rows_of_legal}
 use Rattle.station_reporter.proofs.reporter.write_table.Goals as goal

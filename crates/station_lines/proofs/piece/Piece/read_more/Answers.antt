@@ -1,6 +1,6 @@
 use Rattle.std.proofs.Common.{Ok, take, length, length-take-le, ap, ◌∙◌, arith}
-use Rattle.station_report.specs.Sink.{count_after}
-use Rattle.station_report.specs.declared.sinks.Failed.{Failed}
+use Rattle.streams.specs.Sink.{count_after}
+use Rattle.streams.specs.declared.sinks.Failed.{Failed}
 use Rattle.station_lines.proofs.PieceLemmas.{grown, some_given}
 use Rattle.station_lines.proofs.piece.Piece.read_more.Goals as goal
 

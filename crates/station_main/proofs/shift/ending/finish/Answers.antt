@@ -1,5 +1,5 @@
 use Rattle.std.proofs.Common.{◌≡◌, ◌∙◌, List, ap, false, is_some, map, refl, subst, sym}
-use Rattle.station_lines.specs.Source.{SourceState}
+use Rattle.streams.specs.Source.{SourceState}
 use Rattle.station_portions.specs.Giving.{state_of}
 use Rattle.messages.proofs.Common.{AddsAll}
 use Rattle.station_main.proofs.Common.{Closing, PrintsLast, buffered_of, may_go_on}

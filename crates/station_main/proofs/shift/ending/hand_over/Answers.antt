@@ -1,6 +1,6 @@
 use Rattle.std.proofs.Common.{◌≡◌, ◌∙◌, ℕ, List, ap, length, map, subst, sym, true}
 use Rattle.station_portions.specs.Giving.{state_of}
-use Rattle.station_lines.specs.Source.{SourceState}
+use Rattle.streams.specs.Source.{SourceState}
 use Rattle.messages.proofs.Common.{AddsAll}
 use Rattle.station_reporter.proofs.Common.{not_before}
 use Rattle.station_reporter.specs.declared.duties.Duties.{Duties}

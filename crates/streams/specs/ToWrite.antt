@@ -1,6 +1,6 @@
 -- What clauses read of a sink over a writer.
 use Rattle.std.specs.Prelude.{ℕ}
-use Rattle.station_report.specs.declared.to_write.ToWrite.{ToWrite}
+use Rattle.streams.specs.declared.to_write.ToWrite.{ToWrite}
 
 -- the writer that takes the bytes
 abbrev pub writer_of : {W : Type 0} → ToWrite W → W

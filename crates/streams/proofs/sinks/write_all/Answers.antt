@@ -1,6 +1,6 @@
 use Rattle.std.proofs.Common.{◌∙◌, rules, arith}
-use Rattle.station_report.proofs.TakenLemmas.{Appends-more, AppendsFront-taken}
-use Rattle.station_report.proofs.sinks.write_all.Goals as goal
+use Rattle.streams.proofs.TakenLemmas.{Appends-more, AppendsFront-taken}
+use Rattle.streams.proofs.sinks.write_all.Goals as goal
 
 pub loop-at-preserved : goal.loop-at-preserved
 loop-at-preserved g c =

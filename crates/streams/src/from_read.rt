@@ -3,8 +3,8 @@ ghost use Rattle.std.specs.Prelude.{◌≡◌, ◌<◌, ◌≤◌, None, false, 
 ghost use Rattle.std.specs.Io.Buffered.{reader_buffer, reader_remaining};
 ghost use Rattle.std.specs.Io.KnownBytes.{Consumes};
 
+use crate::sinks::Failed;
 use crate::source::Source;
-use station_report::Failed;
 use std::io::{BufRead, BufReader, Read};
 
 /// Reads from a reader, and counts its reads, ends and failures.

@@ -2,7 +2,7 @@
 use denote.RawPtr.{Ptr}
 use Rattle.std.specs.Prelude.{◌≡◌, ◌⊎◌, ℕ, zero, suc, ◌==◌, ◌&&◌, not, Bool, false, List, [], ◌∷◌, ◌++◌, Option, Result, Ok, Err}
 use Rattle.std.specs.declared.alloc.Global.{Global}
-use Rattle.station_report.specs.Sink.{count_after}
+use Rattle.streams.specs.Sink.{count_after}
 
 -- the name of a ring: where it is in memory, its capacity and ghost names, and whose memory it is
 pub record RingName : Type 0 where
@@ -44,11 +44,3 @@ one_more n = count_after false n
 abbrev pub counted_up : ℕ → ℕ → ℕ
 counted_up zero old = old
 counted_up (suc n) old = one_more (counted_up n old)
-
--- the most bytes asked for by one read
-abbrev pub longest_read : ℕ
-longest_read = 512
-
--- the most bytes that are gathered from reads made one after another
-abbrev pub longest_piece : ℕ
-longest_piece = 16384

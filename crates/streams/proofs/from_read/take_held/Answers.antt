@@ -1,7 +1,7 @@
 use Rattle.std.proofs.Common.{length, take, drop, ap, ◌∙◌, arith, nat_eq, length-take-le, take_at}
 use Rattle.std.specs.Io.Buffered.{reader_buffer, reader_capacity, reader_inner}
-use Rattle.station_lines.proofs.PieceLemmas.{held_first}
-use Rattle.station_lines.proofs.from_read.take_held.Goals as goal
+use Rattle.streams.proofs.BufferLemmas.{held_first}
+use Rattle.streams.proofs.from_read.take_held.Goals as goal
 
 pub returns-clause-bytes : goal.returns-clause-bytes
 returns-clause-bytes g c =

@@ -1,10 +1,10 @@
 //! Sources of bytes.
 ghost use Rattle.std.specs.Prelude.{◌≡◌, ◌<◌, ◌≤◌, true, IfOk, IfSome, Ok, is_ok, not, length};
 ghost use Rattle.std.specs.Io.KnownBytes.{ReadConsumes, WriteAppends};
-ghost use Rattle.station_report.specs.Sink.{count_after};
-ghost use Rattle.station_lines.specs.Source.{IsBorder, SourceState, is_end, one_more};
+ghost use Rattle.streams.specs.Sink.{count_after};
+ghost use Rattle.streams.specs.Source.{IsBorder, SourceState, is_end, one_more};
 
-use station_report::Failed;
+use crate::sinks::Failed;
 
 /// Gives bytes, as a file or a pipe does. Its counts stop at 2^64 - 1.
 pub trait Source {

@@ -1,6 +1,6 @@
 use Rattle.std.proofs.Common.{length, ◌-◌, ◌≤◌, take}
-use Rattle.station_report.proofs.TakenLemmas.{Took}
-use Rattle.station_report.proofs.sinks.write_all.Given as goal
+use Rattle.streams.proofs.TakenLemmas.{Took}
+use Rattle.streams.proofs.sinks.write_all.Given as goal
 
 -- the bytes up to here were taken, and nothing failed
 abbrev pub invariant-loop-at : goal.invariant-loop-at

@@ -15,8 +15,8 @@ pub struct ToWrite<W> {
 
 impl<W> ToWrite<W> {
     ghost use Rattle.std.specs.Prelude.{false};
-    ghost use Rattle.station_report.specs.Sink.{count_after};
-    ghost use Rattle.station_report.specs.ToWrite.{writer_of, failure_count};
+    ghost use Rattle.streams.specs.Sink.{count_after};
+    ghost use Rattle.streams.specs.ToWrite.{writer_of, failure_count};
 
     /// A sink that passes bytes on to this writer.
     pub fn new(inner: W) -> Self
@@ -45,7 +45,7 @@ impl<W> ToWrite<W> {
 }
 
 impl<W: Write> Sink for ToWrite<W> {
-    ghost use Rattle.station_report.specs.ToWrite.{writer_of, failure_count};
+    ghost use Rattle.streams.specs.ToWrite.{writer_of, failure_count};
 
     ghost state = { λ s. record { taken = W.contents (writer_of s); failures = failure_count s } };
 

@@ -1,0 +1,3 @@
+pub mod Sink
+pub mod Source
+pub mod ToWrite
