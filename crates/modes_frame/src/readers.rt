@@ -26,8 +26,8 @@ pub fn claim(frame: &Frame) -> Result<Claim, CheckFault>
     }
     let is_overlaid = remainders == OVERLAID;
     let announced = announced_address(frame);
-    // 2 or more, but for 0 and 0xFFFFFF in a format that isn't overlaid.
-    if (announced + 1) % OVERLAID + remainders / OVERLAID * 2 < 2 {
+    // No aircraft is given the address of 24 zeros or of 24 ones (Volume III, Part I, Chapter 9).
+    if (announced == 0 || announced == 0xFF_FFFF) && !is_overlaid {
         return Err(CheckFault::Unassigned(announced));
     }
     Ok(Claim {

@@ -95,18 +95,6 @@ impl<const N: usize> Table<N> {
         }
     }
 
-    // As `locate`, where the track is looked for at this place first.
-    #[inline(always)]
-    fn locate_near(&self, near: usize, address: u32) -> Result<usize, usize>
-        ensures { StandsAt self.now address result }
-    {
-        if self.stands_at(near, address) {
-            Ok(near)
-        } else {
-            self.locate(address)
-        }
-    }
-
     // Whether the track of the address is at the place.
     fn stands_at(&self, place: usize, address: u32) -> bool
         ensures { IsTrue result → StandsAt self.now address (Ok place) }
@@ -194,7 +182,7 @@ impl<const N: usize> Table<N> {
         ensures { self.new ≡ with_track N (find_track address others.now) self.old }
     {
         if let Ok(rank) = others.locate(address) {
-            self.put(others.track(rank), rank);
+            self.put(others.track(rank));
         }
     }
 
@@ -208,11 +196,11 @@ impl<const N: usize> Table<N> {
         self.hints = other.hints;
     }
 
-    // Puts the track in its place, if there is one for it. It is looked for at the place `near` first.
-    fn put(&mut self, track: &Track, near: usize)
+    // Puts the track in its place, if there is one for it.
+    fn put(&mut self, track: &Track)
         ensures { self.new ≡ with_track N (Some track.now) self.old }
     {
-        let place = self.locate_near(near, track.address);
+        let place = self.locate(track.address);
         if place.is_err() && self.is_full() {
             return;
         }

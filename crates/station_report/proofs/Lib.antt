@@ -1,5 +1,4 @@
 pub mod CommaLemmas
-pub mod CountLemmas
 pub mod DegreeLemmas
 pub mod MemberLemmas
 pub mod RootLemmas

@@ -1,8 +1,6 @@
 -- The table of tangents, by computation.
 use Rattle.std.proofs.Common.{◌≡◌, ℕ, zero, suc, ◌+◌, ◌*◌, ◌<◌, Bool, true, List, [], ◌∷◌, get_or, length, refl, arith, ◌==◌, ◌&&◌}
-use Rattle.std.specs.List.Sorted.{IsNonDecreasing}
 use Rattle.std.proofs.lemmas.Bool.{and_parts, eqb-true}
-use Rattle.modes_cpr.proofs.RisingLemmas.{rises, rising}
 use Rattle.station_report.specs.Motion.{AreTangents, tangents, half_degrees, power}
 
 -- f counts 2k at the entry at place k, and 2k + 1 at the next number, from k on
@@ -38,10 +36,3 @@ tangents_are = record {
   below = λ i h. let c = counts (λ t. half_degrees t 1000000000) 0 tangents computed i h in omega (arith, c.below);
   above = λ i h. let c = counts (λ t. half_degrees t 1000000000) 0 tangents computed i h in omega (arith, c.above);
 }
-
-rise : rises tangents ≡ true
-unfolding tangents
-rise = refl
-
-pub tangents_rise : IsNonDecreasing tangents
-tangents_rise = rising tangents rise

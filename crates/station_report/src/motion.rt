@@ -1,7 +1,6 @@
 //! Speed and track of a velocity over ground, as whole numbers.
 
-ghost use Rattle.std.specs.Prelude.{◌≡◌, ◌+◌, ◌*◌, ◌^◌, ◌≤◌, unsigned_abs, nat_lt, count_by, length};
-ghost use Rattle.std.specs.List.Sorted.{IsNonDecreasing};
+ghost use Rattle.std.specs.Prelude.{◌≡◌, ◌+◌, ◌*◌, ◌^◌, ◌≤◌, unsigned_abs, nat_lt};
 ghost use Rattle.station_report.specs.Motion.{root, square, speed_tenths, nearest_degree, degrees_off, degrees_turned, track};
 
 // The tangents of 1/2, 3/2, .., 89/2 degrees, in 1/1,000,000,000 and rounded down.
@@ -76,21 +75,19 @@ fn degrees_off(east: u16, north: u16) -> u16
     }
 }
 
-// The nearest whole degree of the angle whose tangent is `a / b`, with `a` at most `b`.
+// The nearest whole degree of the angle whose tangent is `a / b`, with `a` at most `b`: the number of tangents below it.
 #[tactic(auto, unfolding(crate::specs::Motion::tangents))]
 fn nearest_degree(a: u16, b: u16) -> u16
     ensures value { result ≡ nearest_degree a b }
     ensures bound { result ≤ 45 }
 {
-    count_below(&TANGENTS, a, b) as u16
+    let below = TANGENTS.iter().filter(|tangent| is_below(**tangent, a, b));
+    below.count() as u16
 }
 
-// The number of entries t of `table` with t * b < 1,000,000,000 * a, where the table rises.
-fn count_below(table: &[u32], a: u16, b: u16) -> usize
-    requires { IsNonDecreasing table.now }
-    ensures value { result ≡ count_by (λ t. nat_lt (t * b) (1000000000 * a)) table.now }
-    ensures bound { result ≤ length table.now }
+// Whether a tangent, in 1/1,000,000,000 and rounded down, is below `a / b`.
+fn is_below(tangent: u32, a: u16, b: u16) -> bool
+    ensures { result ≡ nat_lt (tangent * b) (1000000000 * a) }
 {
-    let scaled = 1_000_000_000 * a as u64;
-    table.partition_point(|t| (*t as u64 * b as u64) < scaled)
+    u64::from(tangent) * u64::from(b) < 1_000_000_000 * u64::from(a)
 }

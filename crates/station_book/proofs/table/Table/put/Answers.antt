@@ -11,7 +11,7 @@ invariant_of-self g c =
     let tracks = c.self.inside.tracks.items in
     let i = c.in-Ok.rank in
     let t = c.args.track.now in
-    let place : StandsAt tracks t.address (Ok i) = rw (c.in-Ok.is, ← c.self.view_is) at c.locate_near-place.ensures in
+    let place : StandsAt tracks t.address (Ok i) = rw (c.in-Ok.is, ← c.self.view_is) at c.locate-place.ensures in
     let put = place.2 t refl in
     let whole : refill (length tracks) tracks (set c.deref_mut.result.now i t) ≡ set tracks i t = rw c.deref_mut.ensures.value (refill_same tracks (set tracks i t) (length-set tracks i t)) in
     let before : c.lower.new.time ≤ c.self.inside.oldest = grind (arith, c.lower.ensures) in
@@ -27,12 +27,12 @@ returns-in-Ok g c =
     let tracks = c.self.inside.tracks.items in
     let i = c.in-Ok.rank in
     let t = c.args.track.now in
-    let place : StandsAt tracks t.address (Ok i) = rw (c.in-Ok.is, ← c.self.view_is) at c.locate_near-place.ensures in
+    let place : StandsAt tracks t.address (Ok i) = rw (c.in-Ok.is, ← c.self.view_is) at c.locate-place.ensures in
     let whole : refill (length tracks) tracks (set c.deref_mut.result.now i t) ≡ set tracks i t = rw c.deref_mut.ensures.value (refill_same tracks (set tracks i t) (length-set tracks i t)) in
     rw (← c.self.view_is) (whole ∙ copy_there g.row.N i t tracks place)
 
-pub locate_near-place-requires : goal.locate_near-place-requires
-locate_near-place-requires g c = search
+pub locate-place-requires : goal.locate-place-requires
+locate-place-requires g c = search
 
 pub is_full-requires : goal.is_full-requires
 is_full-requires g c = search
