@@ -4,9 +4,10 @@ use Rattle.std.specs.List.{AllByRecursion}
 use Rattle.std.proofs.lemmas.Bool.Decides.{nat_tests}
 use Rattle.std.proofs.lemmas.List.Elements.{recursion_from_All}
 use Rattle.json.specs.Token.{Token, end_object}
-use Rattle.json.specs.Json.{Json, string, document, max_depth}
+use Rattle.json.specs.Json.{Json, number, string, array, document, max_depth}
 use Rattle.json.specs.Print.{escape_byte, print_from, print}
 use Rattle.json.specs.Tree.{json_tokens, items_tokens, members_tokens, depth, items_depth, HasNumbers, ItemsHaveNumbers}
+use Rattle.json.specs.Strict.{HasUniqueKeys, ItemsHaveUniqueKeys}
 use Rattle.json.proofs.Printed.Decimals.{IsNumber-decimal}
 use Rattle.json.proofs.Printed.Trees.{document-print}
 use Rattle.modes_fields.specs.declared.emergency.Emergency.{Emergency}
@@ -14,11 +15,12 @@ use Rattle.station_journal.specs.declared.aircraft.Aircraft.{Aircraft}
 use Rattle.station_journal.proofs.Common.{IsLegal, Log, clock_of, table_of, placed_of}
 use Rattle.station_report.specs.Json.{if_known, low_hex_digit, low_address, flight, shown_altitude, moving, rate, squawk, place, category, emergency, unknown_level, seconds, object, with_commas, head, json}
 use Rattle.table_laws.specs.Ranges.{IsCallsign, IsCategory, IsRate, IsVelocity, IsOnEarth, IsInRange}
-use Rattle.table_laws.specs.JsonValue.{members_of, items_of, flight_pair, velocity_pairs, rate_pairs, squawk_pair, place_pairs, category_pair, emergency_pair, field_pairs, last_pairs, aircraft_value, table_value}
+use Rattle.table_laws.specs.JsonValue.{Pairs, members_of, items_of, flight_pair, velocity_pairs, rate_pairs, squawk_pair, place_pairs, category_pair, emergency_pair, field_pairs, last_pairs, aircraft_value, table_value}
 use Rattle.table_laws.specs.JsonLine.{IsJsonLine}
 use Rattle.table_laws.proofs.RowLemmas.{rows_in_range}
 use Rattle.table_laws.proofs.JsonTextLemmas.{ArePlain, print_pair, print_pairs, pairs_depth, pairs_numbers}
 use Rattle.table_laws.proofs.JsonNumberLemmas.{IsNumber-seconds, IsNumber-level, IsPlainByte, plain_text}
+use Rattle.table_laws.proofs.JsonKeyLemmas.{ranked_distinct, ranked_aircraft, ranked_table, pairs_unique}
 use Rattle.table_laws.proofs.JsonFieldLemmas.{AreWritten, written_append, if_written, flight_written, altitude_written, velocity_written, rate_written, squawk_written, place_written, category_written, emergency_written}
 
 -- ---- addresses
@@ -92,6 +94,12 @@ module _ (now : ℕ) (small : now < 2 ^ 64) (a : Aircraft) (placed : Option ℕ)
   aircraft_numbers : HasNumbers (aircraft_value now (a, placed))
   aircraft_numbers = pairs_numbers ((codes "hex", string (low_address a.address)) ∷ (field_pairs now a placed ++ last_pairs now a)) all_plain
 
+  aircraft_unique : HasUniqueKeys (aircraft_value now (a, placed))
+  aircraft_unique = (
+    ranked_distinct 0 21 ((codes "hex", string (low_address a.address)) ∷ (field_pairs now a placed ++ last_pairs now a)) (ranked_aircraft now a placed (string (low_address a.address))),
+    pairs_unique ((codes "hex", string (low_address a.address)) ∷ (field_pairs now a placed ++ last_pairs now a)) all_plain,
+  )
+
   inside : (ts : List Token)
       → print_from false (Token.key (codes "hex") ∷ (json_tokens (string (low_address a.address)) ++ (members_tokens (members_of (field_pairs now a placed ++ last_pairs now a)) ++ ts)))
       ≡ (34 ∷ (codes "hex" ++ 34 ∷ 58 ∷ 34 ∷ (low_address a.address ++ 34 ∷ []))) ++ ((fields_text ++ last_text) ++ 125 ∷ print_from true ts)
@@ -151,6 +159,10 @@ module _ (now : ℕ) (small : now < 2 ^ 64) where
   rows_numbers [] h = tt
   rows_numbers ((a, placed) ∷ rows) h = (aircraft_numbers now small a placed h.0, rows_numbers rows h.1)
 
+  rows_unique : (rows : List Placed) → AreRows rows → ItemsHaveUniqueKeys (items_of (map (aircraft_value now) rows))
+  rows_unique [] h = tt
+  rows_unique ((a, placed) ∷ rows) h = (aircraft_unique now small a placed h.0, rows_unique rows h.1)
+
 zipped : (now : ℕ) (rows : List Aircraft) (moments : List (Option ℕ)) → AllByRecursion (IsInRange now) rows → AllByRecursion (λ (p : Placed). IsInRange now p.0) (zip rows moments)
 zipped now [] moments h = tt
 zipped now (a ∷ rows) [] h = tt
@@ -182,11 +194,20 @@ module _ (now origin entries : ℕ) (small : now < 2 ^ 64) (early : origin < 2 ^
   shallow : depth value ≤ max_depth
   shallow = omega (arith, rows_depth now small (zip rows moments) (zipped now rows moments is))
 
+  unique : HasUniqueKeys value
+  unique =
+      let now_value = number (seconds (origin + now)) in
+      let messages = number (decimal entries) in
+      let aircraft = array (items_of (map (aircraft_value now) (zip rows moments))) in
+      let pairs : Pairs = (codes "now", now_value) ∷ (codes "messages", messages) ∷ (codes "aircraft", aircraft) ∷ [] in
+      (ranked_distinct 21 24 pairs (ranked_table now_value messages aircraft), (tt, (tt, (rows_unique now small (zip rows moments) (zipped now rows moments is), tt))))
+
   pub line_is : IsJsonLine (json rows moments now origin entries) value
   line_is = record {
     line = line;
     ends = sym (append_assoc (head origin now entries ++ with_commas (object now) (zip rows moments)) (codes "]}") (10 ∷ []));
     reads = ap document (sym printed) ∙ document-print value numbers shallow;
+    unique = unique;
   }
 
 -- the JSON of the table of a legal journal

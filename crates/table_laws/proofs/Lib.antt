@@ -18,3 +18,4 @@ pub mod JsonFieldLemmas
 pub mod JsonLineLemmas
 pub mod NumberTextLemmas
 pub mod TableTextLemmas
+pub mod JsonKeyLemmas

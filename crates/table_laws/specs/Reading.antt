@@ -86,10 +86,12 @@ abbrev pub after_slash : List ℕ → List ℕ
 after_slash [] = []
 after_slash (c ∷ cs) = if c == 47 then cs else after_slash cs
 
+-- whether the first byte is b
 abbrev pub starts_with : ℕ → List ℕ → Bool
 starts_with b [] = false
 starts_with b (c ∷ cs) = c == b
 
+-- whether the text is a dash
 abbrev pub is_dash : List ℕ → Bool
 is_dash [] = false
 is_dash (c ∷ []) = c == 45
@@ -101,34 +103,33 @@ read_field read text = if is_dash text then None else Some (read text)
 
 -- ---- numbers
 
--- of decimal digits
+-- what decimal digits write
 unfoldable pub read_number : List ℕ → ℕ
 read_number digits = fold (λ n c. 10 * n + (c - 48)) 0 digits
 
--- of octal digits
+-- what octal digits write
 unfoldable pub read_octal : List ℕ → ℕ
 read_octal digits = fold (λ n c. 8 * n + (c - 48)) 0 digits
 
--- a hexadecimal digit, a letter in upper or in lower case
+-- the value of a hexadecimal digit, in upper or in lower case
 abbrev pub hex_value : ℕ → ℕ
 hex_value c = if nat_lt c 58 then c - 48 else (if nat_lt c 97 then c - 55 else c - 87)
 
--- of hexadecimal digits
+-- what hexadecimal digits write
 unfoldable pub read_hex : List ℕ → ℕ
 read_hex digits = fold (λ n c. 16 * n + hex_value c) 0 digits
 
--- of decimal digits, with a minus sign before them or none
+-- a whole number, with a minus sign before a negative one
 abbrev pub read_signed : List ℕ → ℤ
 read_signed [] = pos 0
 read_signed (c ∷ cs) = if c == 45 then neg_ℤ (pos (read_number cs)) else pos (read_number (c ∷ cs))
 
--- of decimal digits with a point among them or none, and a minus sign before them or none, in units of the last decimal: the
--- same without the point
+-- a number with or without decimals, in units of the last one: it is read without its point
 abbrev pub read_units : List ℕ → ℤ
 read_units text = read_signed (filter (λ c. not (c == 46)) text)
 
--- H and the heading, a slash, T or I and the airspeed; or G and the speed, a slash, and the track or a dash; or the speeds to the
--- east and to the north with a slash between them
+-- by the first byte: H and the heading, a slash, T or I and the airspeed; G and the speed, a slash, and the track or a dash; else
+-- the speeds to the east and to the north with a slash between them (71 is G, 72 is H, 84 is T)
 abbrev pub read_velocity : List ℕ → ShownVelocity
 read_velocity [] = OverGround (pos 0) (pos 0)
 read_velocity (c ∷ cs) =
@@ -142,7 +143,7 @@ read_velocity (c ∷ cs) =
 abbrev pub right_column : ℕ → ℕ → List ℕ → List ℕ
 right_column first last line = after_spaces (column first last line)
 
--- an altitude, unless the text is that of an aircraft on the ground
+-- an altitude, unless the text begins with g, as that of an aircraft on the ground
 abbrev pub read_altitude : List ℕ → Option ℤ
 read_altitude text = if starts_with 103 text then None else read_field read_signed text
 

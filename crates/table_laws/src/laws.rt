@@ -36,24 +36,23 @@ pub fn rows_read_back()
         shown_row (clock_of log) row ≡ shown_row (clock_of other) found }
 {}
 
-/// So the rows that a table of a legal journal shows are read back, in their order, from its text: of two tables with the
-/// same text both show the same. Its time is one of 64 bits.
+/// The rows that the table of a legal journal shows are read back, in their order, from its text. So two tables with the
+/// same text show the same rows. The clock is below 2^64 ms.
 pub fn tables_are_read()
     ensures { (log : Log) → IsLegal log → clock_of log < 2 ^ 64 →
         read_table (text (table_of log) (clock_of log)) ≡ map (shown_row (clock_of log)) (table_of log) }
 {}
 
 /// The JSON of the table of a legal journal is one value and a line feed. The grammar of the crate `json` (RFC 8259) reads
-/// it, and what it reads is the table's value, member by member. Times in milliseconds and the number of entries are those
-/// of 64 bits.
+/// the table's value from it, member by member, and no object has a key twice. The times in milliseconds and the number of
+/// entries are below 2^64.
 pub fn json_reads_back()
     ensures { (log : Log) (origin entries : ℕ) → IsLegal log → clock_of log < 2 ^ 64 → origin < 2 ^ 64 → entries < 2 ^ 64 →
         IsJsonLine (json (table_of log) (placed_of log) (clock_of log) origin entries)
         (table_value (table_of log) (placed_of log) (clock_of log) origin entries) }
 {}
 
-/// What the texts of that value say. A number is read back from its text, with its decimals, and so are an address and a
-/// squawk.
+/// What the texts in that value say: each number is read back, with its decimals, and so are an address and a squawk.
 pub fn values_read_back()
     ensures whole { (z : ℤ) → unsigned_abs z < 2 ^ 63 → Spells (signed_decimal z) z 0 }
     ensures natural { (n : ℕ) → n < 2 ^ 64 → Spells (decimal n) (pos n) 0 }
