@@ -8,6 +8,7 @@ velocities of A moving aircraft by turns, in noise and of four strengths. The ad
 twice in a minute. The same arguments give the same bytes. Needs python3.
 """
 import argparse
+import itertools
 import math
 import random
 import sys
@@ -39,6 +40,24 @@ def frames(o):
             yield es(plane, me_vel(plane) & ~0xFF | turn // 2 & 0xFF if turn % 2 else me_pos(plane))
 
 
+def write_signal(slots, rate, seed):
+    """Writes so many slots a second: a frame in each, anywhere in it, or noise alone where it is None."""
+    rng, slot = random.Random(seed), 2400000 // rate
+    noise = bytes(rng.randrange(124, 132) for _ in range(1 << 20))
+    tables = [waves(level, rng.uniform(0, 6)) for level in (40, 70, 100, 125)]
+    for frame in slots:
+        if frame is None:
+            start = 2 * rng.randrange(1 << 18)
+            sys.stdout.buffer.write(noise[start : start + 2 * slot])
+            continue
+        bits = format(int(frame, 16), "0112b")
+        on = PREAMBLE + "".join("10" if bit == "1" else "01" for bit in bits)
+        table, start, before = rng.choice(tables), 2 * rng.randrange(1 << 18), rng.randrange(slot - SAMPLES)
+        sys.stdout.buffer.write(noise[start : start + 2 * before])
+        sys.stdout.buffer.write(b"".join(table[on[at : at + 10]] for at in range(0, 240, 10)))
+        sys.stdout.buffer.write(noise[start : start + 2 * (slot - SAMPLES - before)])
+
+
 def main():
     a = argparse.ArgumentParser(description=__doc__, formatter_class=argparse.RawDescriptionHelpFormatter)
     a.add_argument("--seconds", type=int, default=10)
@@ -46,16 +65,7 @@ def main():
     a.add_argument("--aircraft", type=int, default=100)
     a.add_argument("--seed", type=int, default=0x40)
     o = a.parse_args()
-    rng, stream, slot = random.Random(o.seed), frames(o), 2400000 // o.rate
-    noise = bytes(rng.randrange(124, 132) for _ in range(1 << 20))
-    tables = [waves(level, rng.uniform(0, 6)) for level in (40, 70, 100, 125)]
-    for _ in range(o.seconds * o.rate):
-        bits = format(int(next(stream), 16), "0112b")
-        on = PREAMBLE + "".join("10" if bit == "1" else "01" for bit in bits)
-        table, start, before = rng.choice(tables), 2 * rng.randrange(1 << 18), rng.randrange(slot - SAMPLES)
-        sys.stdout.buffer.write(noise[start : start + 2 * before])
-        sys.stdout.buffer.write(b"".join(table[on[at : at + 10]] for at in range(0, 240, 10)))
-        sys.stdout.buffer.write(noise[start : start + 2 * (slot - SAMPLES - before)])
+    write_signal(itertools.islice(frames(o), o.seconds * o.rate), o.rate, o.seed)
 
 
 if __name__ == "__main__":
