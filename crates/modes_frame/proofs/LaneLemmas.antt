@@ -21,7 +21,7 @@ zero_or_one n h = grind (arith, h)
 
 -- ---- lists of a known length
 
--- what is to be shown of the lists of n numbers, number by number
+-- what must be shown of the lists of n numbers, number by number
 abbrev pub OfLength : ℕ → (List ℕ → Type 0) → Type 0
 OfLength zero P = P []
 OfLength (suc n) P = (x : ℕ) → OfLength n (λ xs. P (x ∷ xs))

@@ -1,4 +1,4 @@
--- Numbers that tell most frames apart at less cost than all their bytes.
+-- Numbers in which most frames differ. They cost less to compare than all bytes of the frames.
 use Rattle.std.specs.Prelude.{ℕ, ◌+◌, ◌-◌, ◌*◌, ◌%◌, ◌<◌, List, [], ◌∷◌, length, get_or}
 use Rattle.station_journal.specs.Past.{Frame}
 

@@ -61,11 +61,11 @@ impl FirstFrames {
     {
         let digest = digest(frame);
         let hint = self.hints[digest as usize % HINTS];
-        hint != 0 && (self.stands_at(usize::from(hint), frame) || self.stands_among(digest, frame))
+        hint != 0 && (self.is_at(usize::from(hint), frame) || self.is_anywhere(digest, frame))
     }
 
     // Whether the frame is at the place.
-    fn stands_at(&self, place: usize, frame: &Frame) -> bool
+    fn is_at(&self, place: usize, frame: &Frame) -> bool
         ensures { result ≡ (nat_lt place (length self.now) &&
             same_frame frame.now (get_or self.now place [])) }
     {
@@ -78,21 +78,21 @@ impl FirstFrames {
 
     // Whether the frame, which has this digest, is at any place. Mostly no place has the digest.
     #[inline(never)]
-    fn stands_among(&self, digest: u32, frame: &Frame) -> bool
+    fn is_anywhere(&self, digest: u32, frame: &Frame) -> bool
         requires { digest ≡ digest_of frame.now }
         ensures { result ≡ is_one_of self.now frame.now }
     {
-        is_among(self.digests.as_slice(), digest) && self.stands_where(digest, frame)
+        is_among(self.digests.as_slice(), digest) && self.is_at_its_digest(digest, frame)
     }
 
     // Whether the frame is at a place that has its digest.
     #[inline(never)]
-    fn stands_where(&self, digest: u32, frame: &Frame) -> bool
+    fn is_at_its_digest(&self, digest: u32, frame: &Frame) -> bool
         requires { digest ≡ digest_of frame.now }
         ensures { result ≡ is_one_of self.now frame.now }
     {
         for (place, other) in self.digests.as_slice().iter().enumerate() {
-            if *other == digest && self.stands_at(place, frame) {
+            if *other == digest && self.is_at(place, frame) {
                 return true;
             }
         }

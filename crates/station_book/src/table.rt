@@ -88,7 +88,7 @@ impl<const N: usize> Table<N> {
         ensures { StandsAt self.now address result }
     {
         let hint = usize::from(self.hints[address as usize % HINTS]);
-        if self.stands_at(hint, address) {
+        if self.is_at(hint, address) {
             Ok(hint)
         } else {
             self.search(address)
@@ -96,7 +96,7 @@ impl<const N: usize> Table<N> {
     }
 
     // Whether the track of the address is at the place.
-    fn stands_at(&self, place: usize, address: u32) -> bool
+    fn is_at(&self, place: usize, address: u32) -> bool
         ensures { IsTrue result → StandsAt self.now address (Ok place) }
     {
         if place < self.addresses.len() {

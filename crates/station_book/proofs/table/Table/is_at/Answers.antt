@@ -3,7 +3,7 @@ use Rattle.station_journal.specs.Rising.{IsRising}
 use Rattle.station_book.specs.Tracks.{address_of}
 use Rattle.station_book.proofs.TableLemmas.{rising_addresses}
 use Rattle.station_book.proofs.RankLemmas.{place_at_rank, rank_where_it_stands}
-use Rattle.station_book.proofs.table.Table.stands_at.Goals as goal
+use Rattle.station_book.proofs.table.Table.is_at.Goals as goal
 
 pub returns-then-there-address : goal.returns-then-there-address
 returns-then-there-address g c = λ found.

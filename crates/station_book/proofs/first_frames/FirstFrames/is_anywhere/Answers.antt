@@ -2,7 +2,7 @@ use Rattle.std.proofs.Common.{◌≡◌, false, map, nat_eq, ap, sym, ◌∙◌}
 use Rattle.std.specs.List.{list_any}
 use Rattle.station_book.specs.Digests.{digest_of}
 use Rattle.station_book.proofs.DigestLemmas.{absent_by_digest}
-use Rattle.station_book.proofs.first_frames.FirstFrames.stands_among.Goals as goal
+use Rattle.station_book.proofs.first_frames.FirstFrames.is_anywhere.Goals as goal
 
 pub returns-else-is_among : goal.returns-else-is_among
 returns-else-is_among c =
