@@ -276,6 +276,23 @@ fn a_path_is_given_whole_once_its_last_line_is(rt: HostRuntime) -> Result<(), Fa
 }
 
 #[test]
+fn a_path_is_given_up_to_a_failed_read(rt: HostRuntime) -> Result<(), Fail> {
+    let alloc = rt.alloc();
+    let (reader, mut portions, _) = connect(&rt, alloc)?;
+    let path = Opening {
+        letters: 0,
+        bytes: b"*one;\n*t",
+        fails: true,
+    };
+    let handle = reader.start(&rt, rt, path)?;
+    let mut line = [0u8; 6];
+    holds(&rt, portions.read(&mut line) == Ok(6));
+    holds(&rt, portions.read(&mut line) == Err(Failed));
+    holds(&rt, portions.gave_path(&rt, handle));
+    Ok(())
+}
+
+#[test]
 fn a_path_that_goes_on_isn_t_given_whole(rt: HostRuntime) -> Result<(), Fail> {
     let alloc = rt.alloc();
     let (reader, mut portions, hand_over) = connect(&rt, alloc)?;

@@ -1,14 +1,19 @@
 -- The paths of a round that weren't read to their ends.
-use Rattle.std.proofs.Common.{rules, ◌≡◌, ◌∙◌, ◌∷◌, ◌++◌, ◌<◌, ◌≤◌, ℕ, zero, suc, Bool, true, false, List, [], Option, inl, inr, append_assoc, append-nil, arith, ap, cond, map, max, nat_eq, refl, subst, sym, flat_map}
+use Rattle.std.proofs.Common.{rules, ◌≡◌, ◌∙◌, ◌∷◌, ◌++◌, ◌<◌, ◌≤◌, ℕ, zero, suc, Bool, true, false, List, [], Option, None, Some, ◌⊎◌, inl, inr, append_assoc, append-nil, arith, ap, cond, map, max, nat_eq, refl, subst, sym, flat_map}
 use Rattle.std.proofs.lemmas.Bool.Decides.{nat_tests}
 use Rattle.std.proofs.lemmas.Grind.{flat_map-append}
 use Rattle.std.specs.Io.KnownBytes.{Appends}
 use Rattle.std.proofs.KnownBytes.{Appends-nil}
-use Rattle.station_portions.specs.Giving.{state_of}
+use Rattle.streams.specs.Source.{SourceState}
+use Rattle.station_portions.specs.Giving.{left_of, state_of}
+use Rattle.station_portions.specs.Whole.{GivesPath}
+use Rattle.station_portions.specs.declared.message.PathEnd.{PathEnd}
+use Rattle.station_portions.specs.declared.message.PathEnd.TheVariants.{AtEnd, ReadFailed}
 use Rattle.station_portions.specs.declared.portions.Portions.{Portions}
 use Rattle.messages.specs.Telling.{unfinished_words}
 use Rattle.messages.proofs.Common.{Tells, Told, telling_line, unfinished_lines}
-use Rattle.station_main.proofs.Common.{GaveAll, GaveAllBut, unfinished_status}
+use Rattle.station_main.proofs.Common.{GaveAll, GaveAllBut, IsUnfinished, unfinished_status}
+use Rattle.command_line.proofs.FoundLemmas.{some_same}
 use Rattle.messages.proofs.TellLemmas.{tells_both}
 
 -- ---- what is printed
@@ -51,6 +56,27 @@ status-more : (paths : List (List ℕ)) (path : List ℕ) → unfinished_status 
 status-more [] path = refl
 status-more (p ∷ paths) path = refl
 
+-- ---- one path
+
+-- why a path is unfinished whose source was looked at
+pub unfinished-by : (left : Option (List ℕ)) (own : Option PathEnd) (given : List ℕ) (source : SourceState) (is_over is_at_end : Bool)
+    → source.left ≡ left_of own → source.given ≡ Some given → (is_over ≡ true → (e : PathEnd) × (own ≡ Some e) × GivesPath left e given) → (is_over ≡ false → own ≡ None)
+    → (is_at_end ≡ false → (own ≡ None) ⊎ (own ≡ Some ReadFailed)) → (is_over ≡ false) ⊎ (is_at_end ≡ false) → IsUnfinished left source
+unfinished-by left own given source is_over is_at_end left_is given_is path going other (inl going_on) = inl (left_is ∙ ap left_of (going going_on))
+unfinished-by left own given source false is_at_end left_is given_is path going other (inr not_so) = inl (left_is ∙ ap left_of (going refl))
+unfinished-by left own given source true is_at_end left_is given_is path going other (inr not_so) = elim (other not_so) [
+  | inl none ↦ inl (left_is ∙ ap left_of none)
+  | inr failed ↦
+      let all = path refl in
+      let same : all.0 ≡ ReadFailed = some_same _ _ (sym all.1 ∙ failed) in
+      inr (record {
+        given = given;
+        given_is = given_is;
+        over = left_is ∙ ap left_of failed;
+        path = subst (λ e. GivesPath left e given) same all.2;
+      })
+]
+
 -- ---- one path after another
 
 module _ {T R : Type 0} (name : T → List ℕ) (left : T → Option (List ℕ)) where
@@ -80,23 +106,23 @@ module _ {T R : Type 0} (name : T → List ℕ) (left : T → Option (List ℕ))
 
   pub ends-more : (all_threads threads ts : List T) (t : T) (all_inputs inputs is : List (Portions R)) (i : Portions R) (before : ℕ) (a b c : Told) (status one new : ℕ)
       → threads ≡ t ∷ ts → inputs ≡ i ∷ is → before ≤ 1 → one ≤ 1
-      → (one ≡ 0 → GaveAll (left t) (state_of i) × (c ≡ b)) → (one ≡ 1 → Tells b c (unfinished_lines before (name t ∷ []))) → new ≡ max status one
+      → (one ≡ 0 → GaveAll AtEnd (left t) (state_of i) × (c ≡ b)) → (one ≡ 1 → IsUnfinished (left t) (state_of i)) → (one ≡ 1 → Tells b c (unfinished_lines before (name t ∷ []))) → new ≡ max status one
       → EndsSoFar all_threads threads all_inputs inputs before a b status → EndsSoFar all_threads ts all_inputs is before a c new
-  ends-more all_threads threads ts t all_inputs inputs is i before a b c status zero new threads_split split few most whole told new_is so_far = record {
+  ends-more all_threads threads ts t all_inputs inputs is i before a b c status zero new threads_split split few most whole why told new_is so_far = record {
     unfinished = so_far.unfinished;
     told = subst (λ e. Tells a e (unfinished_lines before so_far.unfinished)) (sym (whole refl).1) so_far.told;
     status_is = omega (arith, new_is, so_far.status_is);
     all = λ later rest. so_far.all later (all-but threads ts t inputs is i later threads_split split (inl ((whole refl).0, rest)));
   }
-  ends-more all_threads threads ts t all_inputs inputs is i before a b c status (suc zero) new threads_split split few most whole told new_is so_far = record {
+  ends-more all_threads threads ts t all_inputs inputs is i before a b c status (suc zero) new threads_split split few most whole why told new_is so_far = record {
     unfinished = so_far.unfinished ++ name t ∷ [];
     told = subst (Tells a c) (sym (lines-more before so_far.unfinished (name t)))
         (tells_both a b c (unfinished_lines before so_far.unfinished) (unfinished_lines before (name t ∷ [])) so_far.told (told refl));
     status_is = omega (arith, new_is, so_far.status_is, status-most so_far.unfinished, status-more so_far.unfinished (name t), few);
     all = λ later rest. subst (AllBut all_threads all_inputs) (sym (append_assoc so_far.unfinished (name t ∷ []) later))
-        (so_far.all (name t ∷ later) (all-but threads ts t inputs is i (name t ∷ later) threads_split split (inr (later, refl, rest))));
+        (so_far.all (name t ∷ later) (all-but threads ts t inputs is i (name t ∷ later) threads_split split (inr (later, refl, why refl, rest))));
   }
-  ends-more all_threads threads ts t all_inputs inputs is i before a b c status (suc (suc one)) new threads_split split few most whole told new_is so_far = absurd (omega (arith, most))
+  ends-more all_threads threads ts t all_inputs inputs is i before a b c status (suc (suc one)) new threads_split split few most whole why told new_is so_far = absurd (omega (arith, most))
 
   -- no path is to come
   pub ends-all : (all_threads threads : List T) (all_inputs inputs : List (Portions R)) (before : ℕ) (a b : Told) (status : ℕ) → threads ≡ [] → inputs ≡ []

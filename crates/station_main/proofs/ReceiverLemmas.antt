@@ -18,7 +18,7 @@ use Rattle.messages.proofs.Common.{AddsAll, AddsEach}
 use Rattle.station_reporter.proofs.Common.{Recording, ReportsByAClock}
 use Rattle.station_reporter.specs.declared.duties.Duties.{Duties}
 use Rattle.station_reporter.specs.declared.schedule.Due.{Due}
-use Rattle.station_main.proofs.Common.{AllTakeFrom, most_reads, Begun, IsServedBy, Serves, AreNumbered, Closing, HavePumped, HaveWorked, IsClosed}
+use Rattle.station_main.proofs.Common.{AllTakeFrom, FailsBetweenLines, most_reads, Begun, IsServedBy, Serves, AreNumbered, Closing, HavePumped, HaveWorked, IsClosed}
 use Rattle.station_main.proofs.RunJobLemmas.{length_new_seats}
 use Rattle.command_line.proofs.FoundLemmas.{some_same}
 use Rattle.station_main.proofs.SeatNumberLemmas.{all_once}
@@ -152,13 +152,14 @@ closed_by start n entries seats reporter receivers numbered same closes = record
 
 -- what a station that is closed has served, and what it counted of it
 pub serves_by : (begun : Begun) (start : Start) (closing : Closing) (now sources : List SourceState) (options : List (Option (Result Tally PumpFault))) (answers : List (Result Tally PumpFault))
-    → (served : IsServedBy begun start closing.receivers now options) → sources ≡ now → AddsAll begun.answers options answers → IsClosed start closing
+    → (served : IsServedBy begun start closing.receivers now options) → sources ≡ now → AddsAll begun.answers options answers → All FailsBetweenLines sources → IsClosed start closing
     → (serves : Serves begun start closing sources answers) × (serves.counted ≡ served.counted)
-serves_by begun start closing now sources options answers served same adds closed = (
+serves_by begun start closing now sources options answers served same adds failed closed = (
   record {
     goes_on = served.goes_on;
     counted = served.counted;
     pumped = subst (λ (ss : List SourceState). HavePumped start begun.given.entries begun.sources ss closing.receivers served.counted) (sym same) served.pumped;
+    failed = failed;
     sums = adds_each begun.answers served.counted answers (subst (λ (os : List (Option (Result Tally PumpFault))). AddsAll begun.answers os answers) served.answers_are adds);
     closed = closed;
   },

@@ -1,13 +1,14 @@
 -- The inputs of a run: what threads send of what opening the paths gave.
-use Rattle.std.specs.Prelude.{◌≡◌, ◌⊎◌, ℕ, List, [], ◌∷◌, Option, None, Some, ⊤}
+use Rattle.std.specs.Prelude.{◌≡◌, ◌<◌, ◌⊎◌, ℕ, List, [], ◌∷◌, IfSome, Option, None, Some, ⊤}
 use Rattle.std.specs.String.{string_bytes}
-use Rattle.streams.specs.Source.{SourceState}
+use Rattle.streams.specs.Source.{IsBorder, SourceState}
 use Rattle.clap.specs.Words.{Text}
 use Rattle.rtrb.specs.Ring.{sent}
 use Rattle.station_portions.specs.Rings.{reader_ring}
 use Rattle.station_portions.specs.Whole.{GivesPath}
 use Rattle.station_portions.specs.declared.finished_path.WholePath.{WholePath}
-use Rattle.station_portions.specs.declared.message.PathEnd.TheVariants.{AtEnd}
+use Rattle.station_portions.specs.declared.message.PathEnd.{PathEnd}
+use Rattle.station_portions.specs.declared.message.PathEnd.TheVariants.{AtEnd, ReadFailed}
 use Rattle.station_main.specs.declared.opened.Opened.{Opened}
 
 -- the path that was opened
@@ -38,20 +39,28 @@ AreFed [] [] [] = ⊤
 AreFed (path ∷ paths) (promise ∷ promises) (source ∷ sources) = IsFedBy path promise source × AreFed paths promises sources
 AreFed paths promises sources = ⊥
 
--- the path of this source is at its end; the lines of all bytes that the source gave are those of all that reading the path gave,
--- which is `left` where that is known
-pub record GaveAll (left : Option (List ℕ)) (source : SourceState) : Type 0 where
+-- once a read of a source has failed, its path is over, and no line is begun in what it gave
+abbrev pub FailsBetweenLines : SourceState → Type 0
+FailsBetweenLines source = 0 < source.failures → (source.left ≡ Some []) × IfSome source.given IsBorder
+
+-- the path of this source is over; the lines of all bytes that the source gave are those of all that reading the path gave, up to its
+-- end or to a failed read. What reading it gives is `left` where that is known
+pub record GaveAll (end : PathEnd) (left : Option (List ℕ)) (source : SourceState) : Type 0 where
   pub given : List ℕ
   pub given_is : source.given ≡ Some given
   pub over : source.left ≡ Some []
-  pub path : GivesPath left AtEnd given
+  pub path : GivesPath left end given
 
--- these paths, in their order, weren't read to their ends, or their sources didn't give all; each other source did
+-- why a path is unfinished: it goes on, or a read of it failed, and its source gave all up to that
+abbrev pub IsUnfinished : Option (List ℕ) → SourceState → Type 0
+IsUnfinished left source = (source.left ≡ None) ⊎ GaveAll ReadFailed left source
+
+-- these paths, in their order, are unfinished; each other one was read to its end, and its source gave all
 abbrev pub GaveAllBut : List Text → List (Option (List ℕ)) → List SourceState → List Text → Type 0
 GaveAllBut [] [] [] unfinished = unfinished ≡ []
 GaveAllBut (path ∷ paths) (left ∷ lefts) (source ∷ sources) unfinished =
-    (GaveAll left source × GaveAllBut paths lefts sources unfinished)
-    ⊎ ((others : List Text) × (unfinished ≡ path ∷ others) × GaveAllBut paths lefts sources others)
+    (GaveAll AtEnd left source × GaveAllBut paths lefts sources unfinished)
+    ⊎ ((others : List Text) × (unfinished ≡ path ∷ others) × IsUnfinished left source × GaveAllBut paths lefts sources others)
 GaveAllBut paths lefts sources unfinished = ⊥
 
 -- 1 if a path is among them

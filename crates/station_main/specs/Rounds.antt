@@ -14,7 +14,7 @@ use Rattle.station_history.specs.Start.{Start, log_of}
 use Rattle.station_lines.specs.declared.pumping.PumpFault.{PumpFault}
 use Rattle.station_lines.specs.declared.tally.Tally.{Tally}
 use Rattle.station_shared.specs.Seats.{Seated, newcomer}
-use Rattle.station_main.specs.Inputs.{GaveAllBut, unfinished_status}
+use Rattle.station_main.specs.Inputs.{FailsBetweenLines, GaveAllBut, unfinished_status}
 use Rattle.station_main.specs.Limits.{program_limits}
 use Rattle.station_reporter.specs.Recorded.{IfRecording, IsNewRecord, Recording, RecordsRest, record_status}
 use Rattle.messages.specs.Status.{fault_status}
@@ -101,12 +101,13 @@ pub record IsFirst (asked : RunPlan) (given : RoundStart) (begun : Begun) : Type
   pub many_answers : length begun.answers ≡ length asked.paths
   pub none : All HasNoLines begun.answers
 
--- the work of a station: its receivers have pumped the sources, what they counted is added to what was counted before, and it is
--- closed with all its seats
+-- the work of a station: its receivers have pumped the sources, and a source whose read failed has left no begun line; what they
+-- counted is added to what was counted before, and it is closed with all its seats
 pub record Serves (begun : Begun) (start : Start) (closing : Closing) (sources : List SourceState) (answers : List (Result Tally PumpFault)) : Type 0 where
   pub goes_on : GoesOnFrom begun.given start
   pub counted : List (Result Tally PumpFault)
   pub pumped : HavePumped start begun.given.entries begun.sources sources closing.receivers counted
+  pub failed : All FailsBetweenLines sources
   pub sums : AddsEach begun.answers counted answers
   pub closed : IsClosed start closing
 
@@ -141,7 +142,7 @@ pub record IsHandOver (begun next : Begun) (before after : SinkState) (was is : 
   pub is_kept : KeepsRecent start closing.journal next.given shown is
 
 -- the last station of a round: it hands over to none, as no hand-over was asked for, no path goes on, or an answer ends the run. Paths
--- that weren't read to their ends are printed where no fault was; where the status is 0 there are none
+-- that weren't read to their ends go on, or their reads failed; they are printed where no fault was. Where the status is 0 there are none
 pub record IsLastStation (asked : RunPlan) (begun : Begun) (start : Start) (closing : Closing) (before after : Option (List ℕ)) (was is : Option Recording) (err_old err_new : Told) (status : ℕ) : Type 0 where
   pub sources : List SourceState
   pub answers : List (Result Tally PumpFault)

@@ -3,6 +3,7 @@
 
 mod display_job;
 mod kept;
+pub mod laws;
 mod limits;
 mod obeying;
 mod opened;

@@ -108,6 +108,9 @@ border_given all now none = rw none (subst IsBorder (sym (given_all all)) (ends_
 pub nothing_held : (held : List ℕ) → not (nat_lt 0 (length held)) ≡ true → held ≡ []
 nothing_held held none = nil_from_length held (grind (arith, nat_tests))
 
+pub some_held : (held : List ℕ) → not (nat_lt 0 (length held)) ≡ false → 0 < length held
+some_held held some = grind (arith, nat_tests)
+
 -- nothing is given where nothing is left
 pub nothing_given : (held buffer now : List ℕ) (n : ℕ) → n ≤ length buffer → held ≡ [] → held ≡ take n buffer ++ now → n ≡ 0
 nothing_given held buffer now n within none is =
@@ -123,6 +126,11 @@ last_end-more (y ∷ z ∷ all) x = last_end-more (z ∷ all) x
 pub end_refilled : (old new : List Message) (batch : Batch) (end : Option PathEnd) → is_some end ≡ false → new ≡ old ++ Lines batch ∷ [] → end ≡ last_end new
 end_refilled old new batch None none is = sym (ap last_end is ∙ last_end-more old (Lines batch))
 end_refilled old new batch (Some end) none is = absurd (search rules)
+
+-- a path that goes on has no end
+pub no_end : (end : Option PathEnd) (last : PathEnd) → is_some end ≡ false → end ≡ Some last → ⊥
+no_end None last none is = absurd (search rules)
+no_end (Some end) last none is = absurd (search rules)
 
 pub end_over : (old new : List Message) (end : PathEnd) → new ≡ old ++ Over end ∷ [] → Some end ≡ last_end new
 end_over old new end is = sym (ap last_end is ∙ last_end-more old (Over end))

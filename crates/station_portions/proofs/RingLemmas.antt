@@ -2,10 +2,9 @@
 use Rattle.std.proofs.Common.{◌≡◌, ◌∙◌, sym, ap}
 use Rattle.std.specs.declared.alloc.Global.{Global}
 use Rattle.rtrb.specs.Ends.{SameRing}
-use Rattle.rtrb.specs.Ring.{IsFinishedOf, IsPair, SameConsumer}
+use Rattle.rtrb.specs.Ring.{IsPair, SameConsumer}
 use Rattle.rtrb.specs.declared.AnyItems.{AnyItems}
 use Rattle.rtrb.specs.declared.consumer.Consumer.{Consumer}
-use Rattle.rtrb.specs.declared.finished.Finished.{Finished}
 use Rattle.rtrb.specs.declared.producer.Producer.{Producer}
 use Rattle.station_portions.proofs.Common.{Message}
 use Rattle.station_portions.specs.Rings.{reader_ring, source_ring}
@@ -18,11 +17,11 @@ same_source a b same = cc (same.0.0, same.0.1, same.0.2, same.0.3)
 pub pair_ring : (p : Producer Message Global AnyItems) (c : Consumer Message Global AnyItems) → IsPair p c → source_ring c ≡ reader_ring p
 pair_ring p c pair = cc (pair.0, pair.1, pair.2, pair.3)
 
--- what is left of a producer whose ring a source has
-pub finished_of : (p : Producer Message Global AnyItems) (f : Finished Message Global AnyItems) (c : Consumer Message Global AnyItems) → SameRing p.end f.end → source_ring c ≡ reader_ring p → IsFinishedOf f c
-finished_of p f c closed ring = (
-  ap (λ r. r.words) ring ∙ sym closed.0,
-  ap (λ r. r.slots) ring ∙ sym closed.1,
-  ap (λ r. r.names) ring ∙ sym closed.2,
-  ap (λ r. r.heap) ring ∙ sym closed.3,
+-- what a thread sends by, once it has ended, and a source that has the ring that it had when it began
+pub still_pair : (first last : Producer Message Global AnyItems) (c : Consumer Message Global AnyItems) → SameRing first.end last.end → source_ring c ≡ reader_ring first → IsPair last c
+still_pair first last c same ring = (
+  ap (λ r. r.words) ring ∙ sym same.0,
+  ap (λ r. r.slots) ring ∙ sym same.1,
+  ap (λ r. r.names) ring ∙ sym same.2,
+  ap (λ r. r.heap) ring ∙ sym same.3,
 )

@@ -104,7 +104,7 @@ keeps_short read sent held none f = elim (cases_Bool (nat_le (length held) longe
 ]
 
 -- at a border all lines are ended
-cuts_border : (xs : List ℕ) → IsBorder xs → cuts xs ≡ ended_cuts xs
+pub cuts_border : (xs : List ℕ) → IsBorder xs → cuts xs ≡ ended_cuts xs
 cuts_border xs (inl none) = rw none refl
 cuts_border xs (inr (front, is)) =
     let e : (pieces xs).rest ≡ [] = ap (λ l. (pieces l).rest) is ∙ ap (λ p. p.rest) (pieces-line_feed front) in

@@ -1,11 +1,10 @@
 -- The lines of a whole path.
-use Rattle.std.specs.Prelude.{◌≡◌, ℕ, List, [], ◌∷◌, ◌++◌, Option, IfSome}
+use Rattle.std.specs.Prelude.{◌≡◌, ℕ, List, [], ◌∷◌, ◌++◌, Option}
 use Rattle.std.specs.Io.KnownBytes.{Consumes, IsAtEnd}
 use Rattle.modes_frame.specs.Lines.{cuts}
 use Rattle.rtrb.specs.Ends.{SameRing}
-use Rattle.rtrb.specs.Ring.{all_sent, sent}
+use Rattle.rtrb.specs.Ring.{sent}
 use Rattle.rtrb.specs.declared.producer.Producer.{Producer}
-use Rattle.rtrb.specs.declared.finished.Finished.{Finished}
 use Rattle.station_portions.specs.Messages.{AreLines, bytes_of_messages}
 use Rattle.station_portions.specs.Sending.{lines_of}
 use Rattle.station_portions.specs.declared.message.Message.{Message}
@@ -23,10 +22,10 @@ pub record SendsAll (left_old left_new : Option (List ℕ)) (before after : List
   pub lines : cuts (bytes_of_messages more) ≡ lines_of end read
   pub over : end ≡ AtEnd → IsAtEnd left_new
 
--- the same of the messages of a thread that ended, unless the source was dropped before
-abbrev pub SendsWhole : {A P : Type 0} → Option (List ℕ) → Option (List ℕ) → Producer Message A P → PathEnd → Option (Finished Message A P) → Type 0
-SendsWhole left_old left_new messages end finished =
-    IfSome finished (λ f. SameRing messages.end f.end × SendsAll left_old left_new (sent messages) (all_sent f) end)
+-- the same of what a thread sends by, when it begins and when it has ended
+abbrev pub SendsWhole : {A P : Type 0} → Option (List ℕ) → Option (List ℕ) → Producer Message A P → PathEnd → Producer Message A P → Type 0
+SendsWhole left_old left_new first end last =
+    SameRing first.end last.end × SendsAll left_old left_new (sent first) (sent last) end
 
 -- the lines of the bytes that were given are those of all bytes read of a path: of all that it has, or up to a failed read
 pub record GivesPath (left : Option (List ℕ)) (end : PathEnd) (given : List ℕ) : Type 0 where

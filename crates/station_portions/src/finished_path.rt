@@ -3,7 +3,7 @@ ghost use Rattle.station_portions.specs.Whole.{SendsWhole};
 
 use crate::message::{Message, PathEnd};
 use crate::path_reader::PathReader;
-use rtrb::Finished;
+use rtrb::Producer;
 use std::io::Read;
 use std::snapshot::Snapshot;
 use std::thread::Promise;
@@ -15,8 +15,8 @@ pub struct FinishedPath<I> {
     pub from: I,
     /// How the reading ended.
     pub end: PathEnd,
-    // All messages that were sent. `None` where the source was dropped before the end.
-    pub(crate) sent: Option<Finished<Message>>,
+    // The sending end of its ring, which shows all messages that were sent.
+    pub(crate) messages: Producer<Message>,
 }
 
 /// The promise of a reader's thread: the lines that it sends are those of all bytes that it reads.
@@ -28,5 +28,5 @@ pub struct WholePath<I> {
 
 impl<I: Read> Promise<FinishedPath<I>> for WholePath<I> {
     ghost kept_by = { λ p r. SendsWhole (I.remaining p.from.value) (I.remaining r.from)
-        p.reader.value.messages r.end r.sent };
+        p.reader.value.messages r.end r.messages };
 }

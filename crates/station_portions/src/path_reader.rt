@@ -145,7 +145,7 @@ impl PathReader {
 
     // Sends a path, and that it is over.
     fn run<R: Wait, I: Read>(self, rt: &R, from: I) -> FinishedPath<I>
-        ensures { SendsWhole (I.remaining from) (I.remaining result.from) self.messages result.end result.sent }
+        ensures { SendsWhole (I.remaining from) (I.remaining result.from) self.messages result.end result.messages }
     {
         let (mut reader, mut from) = (self, from);
         let end = reader.send_path(rt, &mut from);
@@ -159,7 +159,7 @@ impl PathReader {
         FinishedPath {
             from,
             end,
-            sent: messages.finish(),
+            messages,
         }
     }
 
@@ -188,7 +188,7 @@ impl PathReader {
         from: I,
         again: O,
     ) -> FinishedPath<I>
-        ensures { SendsWhole (I.remaining from) (I.remaining result.from) self.messages result.end result.sent }
+        ensures { SendsWhole (I.remaining from) (I.remaining result.from) self.messages result.end result.messages }
     {
         let (mut reader, mut from, mut again) = (self, from, again);
         for _ in rt.forever() {
@@ -217,7 +217,7 @@ impl PathReader {
             promise,
             move || -> FinishedPath<I>
                 ensures { SendsWhole (I.remaining from) (I.remaining result.from)
-                    reader.messages result.end result.sent }
+                    reader.messages result.end result.messages }
             { reader.run(&own, from) },
         )?;
         Ok(handle)
@@ -250,7 +250,7 @@ impl PathReader {
             promise,
             move || -> FinishedPath<I>
                 ensures { SendsWhole (I.remaining from) (I.remaining result.from)
-                    reader.messages result.end result.sent }
+                    reader.messages result.end result.messages }
             { reader.run_again(&own, from, again) },
         )?;
         Ok(handle)

@@ -1,7 +1,8 @@
 //! A source over the lines that a path's reader sends.
-ghost use Rattle.std.specs.Prelude.{◌≡◌, ◌<◌, ◌≤◌, ◌++◌, [], is_some, length, take, true};
+ghost use Rattle.std.specs.Prelude.{◌≡◌, ◌<◌, ◌≤◌, ◌++◌, [], Some, is_some, length, take, true};
 ghost use Rattle.rtrb.specs.Ring.{received};
 ghost use Rattle.station_portions.specs.Messages.{bytes_of_messages, bytes_before, last_end, ungiven_of};
+ghost use Rattle.station_portions.specs.declared.message.PathEnd.TheVariants.{ReadFailed};
 
 mod receiving;
 mod whole;
@@ -34,6 +35,7 @@ pub struct Portions<'a, R> {
         ≡ bytes_of_messages (received messages) },
     ghost over: { is_some end ≡ true → ungiven_of batch at ≡ [] },
     ghost told: { end ≡ last_end (received messages) },
+    ghost failed: { 0 < failures → end ≡ Some ReadFailed },
 }
 
 // Gives what is left of a batch, as far as there is room.

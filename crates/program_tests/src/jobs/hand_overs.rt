@@ -240,3 +240,34 @@ fn hand_overs_lose_no_line_and_print_no_table(rt: HostRuntime) -> Result<(), Fai
     same(&rt, text(&recorded).split('*').count(), 122);
     trials.remove(&folder)
 }
+
+// The first path is a folder: its read fails before the first hand-over.
+#[test]
+fn a_failed_read_is_reported_once_over_hand_overs(rt: HostRuntime) -> Result<(), Fail> {
+    let (trials, alloc) = (Trials::on(&rt), rt.alloc());
+    let folder = trials.new_folder()?;
+    let record = format!(in alloc; "{}/record", folder.as_str())?;
+    let moments = late_moments(alloc)?;
+    let staged = Staged::new(&rt, moments.as_slice());
+    let second = trials.lasting_path()?;
+    let (second_lines, second_path) = (second.lines, second.path);
+    let first_path = format!(in alloc; "{folder}")?;
+    let path = format!(in alloc; "{record}")?;
+    let staged_trials = trials.over(&staged);
+    let lines = all_call_replies(alloc, 1, FRAMES * TIMES)?;
+    let (were_fed, ran) = join(
+        &rt,
+        || feed(&rt, second_lines, lines.as_str(), path.as_str()),
+        move || staged_trials.run_by_hand_overs(record, first_path, second_path),
+    );
+    holds(&rt, were_fed?);
+    let ran = ran?;
+    let tallies = concat!(
+        "lines 0 frames 0 ticks 0 shows 0 blank 0 modeac 0 faults 0 accepted 0 refused 0\n",
+        "groundstation: read failed\n",
+        "lines 120 frames 120 ticks 0 shows 0 blank 0 modeac 0 faults 0 accepted 120 refused 0\n",
+    );
+    let (_, shown) = trials.shown_again(path.as_str())?;
+    trials.leaves(&ran, 1, text(&shown), tallies);
+    trials.remove(&folder)
+}

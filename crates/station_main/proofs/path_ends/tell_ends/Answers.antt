@@ -33,7 +33,7 @@ loop-input-preserved g c =
     record {
       take = (first_take (λ t. t.handle.promise) _ _ c.in-Some.thread _ _ c.in-Some.input threads_split split was.take).1;
       most = omega (arith, new_is, was.most, one.most);
-      so_far = ends-more (λ t. string_bytes t.path.now) (λ t. g.I.Read.remaining t.handle.promise.from.value) _ _ _ c.in-Some.thread _ _ _ c.in-Some.input _ _ _ _ _ _ _ threads_split split c.requires.before one.most one.whole one.told new_is was.so_far;
+      so_far = ends-more (λ t. string_bytes t.path.now) (λ t. g.I.Read.remaining t.handle.promise.from.value) _ _ _ c.in-Some.thread _ _ _ c.in-Some.input _ _ _ _ _ _ _ threads_split split c.requires.before one.most one.whole one.unfinished one.told new_is was.so_far;
     }
 
 pub returns-clause-ends : goal.returns-clause-ends

@@ -6,6 +6,7 @@ use Rattle.station_reporter.proofs.Common.{not_before}
 use Rattle.station_reporter.specs.declared.duties.Duties.{Duties}
 use Rattle.station_main.proofs.Common.{Closing, may_go_on}
 use Rattle.station_main.proofs.GoingOnLemmas.{work-on}
+use Rattle.station_main.proofs.BorderLemmas.{all_fail_between}
 use Rattle.station_main.proofs.ReceiverLemmas.{reports_by, serves_by}
 use Rattle.station_main.proofs.shift.ending.hand_over.Goals as goal
 
@@ -14,7 +15,7 @@ returns-clause-ended g c = λ begun at before was duties_are answers_are served 
     let receivers = c.args.left.receivers.items in
     let closing : Closing = record { reporter = c.args.left.report.seat; receivers = map (λ r. r.seat) receivers; journal = c.in_ok-closed.closed.journal.log.entries } in
     let serves = serves_by begun g.L.StationName.start closing (map state_of (map (λ r. r.source) receivers)) (map state_of c.in_ok-closed.closed.inputs.items) (map (λ r. r.answer) receivers) c.in_ok-closed.closed.answers.items served
-    c.in_ok-closed.ensures.inputs (subst (λ before. AddsAll before (map (λ r. r.answer) receivers) c.in_ok-closed.closed.answers.items) (sym answers_are) c.in_ok-closed.ensures.sums) c.in_ok-closed.ensures.closed in
+    c.in_ok-closed.ensures.inputs (subst (λ before. AddsAll before (map (λ r. r.answer) receivers) c.in_ok-closed.closed.answers.items) (sym answers_are) c.in_ok-closed.ensures.sums) (all_fail_between c.in_ok-closed.closed.inputs.items) c.in_ok-closed.ensures.closed in
     record {
       start = g.L.StationName.start;
       closing = closing;

@@ -9,7 +9,6 @@ returns g c =
     let last = c.send_over.new.self.messages in
     let left = g.I.Read.remaining c.args.from in
     let new = g.I.Read.remaining c.send_path-end.new.from in
-    whole_sent left new first last _ c.finish.result
+    whole_sent left new first last _
     (same_ring first mid last c.send_path-end.ensures.ring c.send_over.ensures.ring).0
     (over_sent left new (sent first) (sent mid) (sent last) _ c.send_path-end.ensures.sends c.send_over.ensures.sent)
-    c.finish.ensures

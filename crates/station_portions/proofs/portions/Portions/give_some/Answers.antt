@@ -1,4 +1,4 @@
-use Rattle.std.proofs.Common.{take, Some}
+use Rattle.std.proofs.Common.{take}
 use Rattle.rtrb.specs.Ring.{received}
 use Rattle.station_portions.specs.Messages.{ungiven_of}
 use Rattle.station_portions.proofs.GivingLemmas.{given_more, kept_more, nothing_given, nothing_left, border_given}
@@ -14,6 +14,7 @@ invariant_of-self g c =
           nothing_left (ungiven_of portions.batch portions.at) c.give.new.buffer _ c.give.result
           (nothing_given (ungiven_of portions.batch portions.at) c.give.new.buffer _ c.give.result c.give.ensures.within none c.give.ensures.given) none c.give.ensures.given;
       told = portions.told;
+      failed = portions.failed;
     }
 
 pub returns-clause-given : goal.returns-clause-given

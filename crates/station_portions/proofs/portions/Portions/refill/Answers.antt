@@ -1,7 +1,7 @@
 use Rattle.std.proofs.Common.{[], ◌∷◌, ◌++◌, ap, ◌∙◌, inl, sym}
 use Rattle.rtrb.specs.Ring.{received}
 use Rattle.station_portions.specs.Messages.{ungiven_of}
-use Rattle.station_portions.proofs.GivingLemmas.{end_over, end_refilled, kept_over, kept_refilled, given_refilled, given_over, some_refilled}
+use Rattle.station_portions.proofs.GivingLemmas.{end_over, end_refilled, kept_over, kept_refilled, given_refilled, given_over, no_end, some_refilled}
 use Rattle.station_portions.proofs.portions.Portions.refill.Goals as goal
 
 pub invariant_of-self-in-Some-Lines-clause-kept : goal.invariant_of-self-in-Some-Lines-clause-kept
@@ -30,6 +30,9 @@ invariant_of-self-in-Some-Over-clause-kept g c =
 
 pub invariant_of-self-in-Some-Over-clause-over : goal.invariant_of-self-in-Some-Over-clause-over
 invariant_of-self-in-Some-Over-clause-over g c = λ _. ap (λ batch. ungiven_of batch c.args.self.now.at) c.take-emptied.ensures.after
+
+pub invariant_of-self-in-Some-Over-clause-failed : goal.invariant_of-self-in-Some-Over-clause-failed
+invariant_of-self-in-Some-Over-clause-failed g c = λ some. absurd (no_end _ _ (sym c.is_some.ensures ∙ c.if-is_some.false) (c.args.self.now.failed some))
 
 pub returns-in-Some-Lines-clause-found : goal.returns-in-Some-Lines-clause-found
 returns-in-Some-Lines-clause-found g c = λ _. inl (some_refilled c.in-Some-Lines.batch)

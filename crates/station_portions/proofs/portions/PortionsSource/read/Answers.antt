@@ -1,4 +1,4 @@
-use Rattle.std.proofs.Common.{◌≡◌, ◌∙◌, ◌⊎◌, [], ◌<◌, ◌++◌, inl, inr, ap, is_some, true, false, not, nat_eq, length, Some, sym, arith, rules}
+use Rattle.std.proofs.Common.{◌≡◌, ◌⊎◌, [], is_some, true, not, Some, rules}
 use Rattle.station_portions.specs.Giving.{ungiven_bytes}
 use Rattle.station_portions.specs.declared.message.PathEnd.TheVariants.{AtEnd}
 use Rattle.station_portions.proofs.GivingLemmas.{why_none}
