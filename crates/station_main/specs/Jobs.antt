@@ -8,8 +8,7 @@ use Rattle.streams.specs.Sink.{AppendsFront}
 use Rattle.command_line.specs.Command.{IsStation, NamesJob, format_since, misplaced, reopens_rounds}
 use Rattle.station_main.specs.Limits.{forget_at, program_limits}
 use Rattle.station_main.specs.Replay.{EndsReplay}
-use Rattle.station_main.specs.Inputs.{unknown}
-use Rattle.station_main.specs.Rounds.{RunsAsked, RunsForDisplays}
+use Rattle.station_main.specs.Rounds.{RunsAsked, RunsForDisplays, plan}
 use Rattle.messages.specs.Telling.{OutOfMemory, Tells, Told, not_a_place_text, reopens_rounds_text}
 use Rattle.command_line.specs.declared.words.Job.{Job}
 use Rattle.command_line.specs.declared.words.Job.TheVariants.{Replay, Run}
@@ -21,13 +20,8 @@ IsDone (Replay form site) origin input before None alarm err_old err_new status 
 IsDone (Replay form site) origin input before (Some after) alarm err_old err_new status = EndsReplay (format_since form 0) (program_limits site) input before after err_old err_new status
 IsDone (Run arguments) origin input before after alarm err_old err_new status =
     RunsForDisplays (is_some arguments.displays)
-    (RunsAsked (option_map string_bytes arguments.record) (record {
-      tables = record { pace = arguments.pace; format = format_since arguments.format origin };
-      paths = map string_bytes arguments.paths.items;
-      known = unknown (map string_bytes arguments.paths.items);
-      hand_over_at = forget_at;
-      site = arguments.site;
-    }) (arguments.rounds - 1) before after alarm err_old err_new)
+    (RunsAsked (option_map string_bytes arguments.record) (plan (record { pace = arguments.pace; format = format_since arguments.format origin })
+    (map string_bytes arguments.paths.items) forget_at arguments.site) (arguments.rounds - 1) before after alarm err_old err_new)
     after err_old err_new status
 
 -- `clap` accepts the command line, and the job that it names is done

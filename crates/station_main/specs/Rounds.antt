@@ -1,5 +1,6 @@
 -- What the job `run` leaves: its rounds, one after another.
 use Rattle.std.specs.Prelude.{◌≡◌, ◌≤◌, ◌⊎◌, ℕ, ◌+◌, zero, suc, Bool, true, false, List, [], All, is_some, length, map, max, reverse, Option, Some, None, Result, Ok, option_map}
+use Rattle.std.specs.String.{string_bytes}
 use Rattle.station_portions.specs.Giving.{state_of}
 use Rattle.streams.specs.Source.{SourceState}
 use Rattle.streams.specs.Sink.{SinkState}
@@ -14,7 +15,7 @@ use Rattle.station_history.specs.Start.{Start, log_of}
 use Rattle.station_lines.specs.declared.pumping.PumpFault.{PumpFault}
 use Rattle.station_lines.specs.declared.tally.Tally.{Tally}
 use Rattle.station_shared.specs.Seats.{Seated, newcomer}
-use Rattle.station_main.specs.Inputs.{FailsBetweenLines, GaveAllBut, unfinished_status}
+use Rattle.station_main.specs.Inputs.{FailsBetweenLines, GaveAllBut, unfinished_status, unknown}
 use Rattle.station_main.specs.Limits.{program_limits}
 use Rattle.station_reporter.specs.Recorded.{IfRecording, IsNewRecord, Recording, RecordsRest, record_status}
 use Rattle.messages.specs.Status.{fault_status}
@@ -27,6 +28,7 @@ use Rattle.messages.specs.declared.faults.Fault.TheVariants as fault
 use Rattle.station_reporter.specs.declared.kept.Kept.{Kept}
 use Rattle.station_reporter.specs.declared.duties.Duties.{Duties}
 use Rattle.station_main.specs.declared.round.Round.{Round}
+use Rattle.station_main.specs.declared.run_job.RunOptions.{RunOptions}
 use Rattle.station_main.specs.declared.round.Round.TheVariants.{Over, GoesOn}
 use Rattle.station_reporter.specs.declared.schedule.Tables.{Tables}
 use Rattle.station_main.specs.declared.shift.Ended.{Ended}
@@ -73,6 +75,14 @@ pub record RunPlan : Type 0 where
   pub known : List (Option (List ℕ))
   pub hand_over_at : ℕ
   pub site : Site
+
+-- what is asked of a run over paths whose content isn't known
+abbrev pub plan : Tables → List Text → ℕ → Site → RunPlan
+plan tables paths hand_over_at site = record { tables = tables; paths = paths; known = unknown paths; hand_over_at = hand_over_at; site = site }
+
+-- the same, by the options of a run
+abbrev pub plan_of : RunOptions → RunPlan
+plan_of options = plan options.tables (map string_bytes options.paths.now.items) options.hand_over_at options.site
 
 -- ---- the stations of a round
 

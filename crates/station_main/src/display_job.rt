@@ -1,13 +1,12 @@
 //! The job `run`, with or without tables for displays.
 ghost use Rattle.std.specs.Prelude.{◌≡◌, ◌-◌, ◌≤◌, IfErr, IfOk, None, is_some, length, map, option_map, true};
 ghost use Rattle.std.specs.String.{string_bytes};
-ghost use Rattle.station_main.specs.Inputs.{unknown};
-ghost use Rattle.station_main.specs.Rounds.{RunsAsked, RunsForDisplays};
+ghost use Rattle.station_main.specs.Rounds.{RunsAsked, RunsForDisplays, plan_of};
 ghost use Rattle.messages.specs.Telling.{told_of};
 
 use crate::output::{JobResult, without_output};
-use crate::path_host::PathHost;
 use crate::run_job::{RunOptions, run_paths};
+use crate::system::{PathSystem, System};
 use messages::{Alarms, Fault, StandardError};
 use station_reporter::displays::status_of;
 use station_reporter::{Beside, Displays, LimitAlarm};
@@ -15,16 +14,13 @@ use std::alloc::{AllocError, Global};
 use std::fs::File;
 use std::io::Write;
 use std::rt::Files;
-use std::sync::Wait;
-use std::thread::Threads;
-use std::time::Clock;
 use streams::Sink;
 
 /// Runs the rounds, as [`run_paths`] does, and puts each table where displays find it if that is asked. The first failed
 /// write for displays is reported at once. Then tables go on, and the status is 1.
 pub fn run_for_displays<
-    R: Threads + Wait + Clock + Files<File = File, Dir: Send> + Sync,
-    W: Wait + Clock + PathHost + Copy + Send + 'static,
+    R: System,
+    W: PathSystem,
     O: Write + Send + Drop,
     A: Write + Send + Drop,
     E: Write,
@@ -41,7 +37,7 @@ pub fn run_for_displays<
     requires paths { length asked.paths.now.items ≤ 8 }
     ensures most { result.status ≤ 1 }
     ensures runs { RunsForDisplays (is_some asked.entry.displays.now) (RunsAsked (option_map string_bytes asked.entry.record.now)
-        (record { tables = asked.entry.tables; paths = map string_bytes asked.entry.paths.now.items; known = unknown (map string_bytes asked.entry.paths.now.items); hand_over_at = asked.entry.hand_over_at; site = asked.entry.site })
+        (plan_of asked.entry)
         (asked.entry.rounds - 1) (O.contents out) (option_map (λ left. O.contents left) result.out) (A.contents alarms.record)
         (told_of E.contents err.old) (told_of E.contents err.new))
         (option_map (λ left. O.contents left) result.out) (told_of E.contents err.old) (told_of E.contents err.new) result.status }

@@ -17,6 +17,7 @@ mod replay_job;
 mod round;
 mod run_job;
 mod shift;
+mod system;
 mod threads;
 
 pub use command_line::{Job, Pace, RunArguments, TableFormat, WordsFault, read_words};
@@ -29,3 +30,4 @@ pub use path_host::{PathEvent, PathHost};
 pub use process::{exit_code, own_words};
 pub use run_job::RunOptions;
 pub use station_reporter::{Act, Bell, Due, Duties, Kept, Tables, act_at};
+pub use system::{PathSystem, System};

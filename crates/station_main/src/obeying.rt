@@ -7,19 +7,14 @@ ghost use Rattle.std.specs.Prelude.{◌≡◌, ◌≤◌, ◌⊎◌, ℕ, List, 
 
 use crate::display_job::run_for_displays;
 use crate::output::{JobResult, without_output};
-use crate::path_host::PathHost;
 use crate::replay_job::replay_input;
 use crate::run_job::RunOptions;
+use crate::system::{PathSystem, System};
 use command_line::{Job, WordsFault, read_words};
 use messages::{Alarms, Fault, StandardError};
 use station_reporter::milliseconds_since_1970;
 use std::alloc::Global;
-use std::fs::File;
 use std::io::{Read, Write};
-use std::rt::Files;
-use std::sync::Wait;
-use std::thread::Threads;
-use std::time::Clock;
 use streams::{ToWrite, write_all};
 
 // Why `--reopen` with `--rounds` is refused, in the form of `clap`.
@@ -33,8 +28,8 @@ const REOPENS_ROUNDS: &str = concat!(
 /// does. `err` is a handle that can be copied, as that of a process is: two threads may write to it. `own` is what the
 /// threads that read the paths of a run have of the system.
 pub fn program<
-    R: Threads + Wait + Clock + Files<File = File, Dir: Send> + Sync,
-    W: Wait + Clock + PathHost + Copy + Send + 'static,
+    R: System,
+    W: PathSystem,
     I: Read + Drop,
     O: Write + Send + Drop,
     E: Write + Copy + Send + Drop,
@@ -67,8 +62,8 @@ pub fn program<
 /// `alarms` are further standard errors, for what is reported at once while a job goes on. `own` is what the threads that read
 /// the paths of a run have of the system.
 pub fn obey<
-    R: Threads + Wait + Clock + Files<File = File, Dir: Send> + Sync,
-    W: Wait + Clock + PathHost + Copy + Send + 'static,
+    R: System,
+    W: PathSystem,
     I: Read + Drop,
     O: Write + Send + Drop,
     A: Write + Send + Drop,
@@ -106,8 +101,8 @@ pub fn obey<
 
 // Does the job that the arguments name.
 fn do_job<
-    R: Threads + Wait + Clock + Files<File = File, Dir: Send> + Sync,
-    W: Wait + Clock + PathHost + Copy + Send + 'static,
+    R: System,
+    W: PathSystem,
     I: Read + Drop,
     O: Write + Send + Drop,
     A: Write + Send + Drop,

@@ -8,8 +8,8 @@ ghost use Rattle.station_main.specs.Rounds.{HasNoLines};
 ghost use Rattle.station_main.specs.Run.{IsUnopened, IsUnstarted};
 
 use crate::opened::{Opened, OpenedPath};
-use crate::path_host::PathHost;
 use crate::reopening::Reopening;
+use crate::system::PathSystem;
 use crate::threads::Input;
 use messages::{Answer, Fault};
 use station_portions::{FinishedPath, HandOver, PathReader, WholePath, connect};
@@ -19,9 +19,8 @@ use std::fs::{self, File};
 use std::io::{self, ErrorKind, Read};
 use std::os::unix::fs::FileTypeExt;
 use std::rt::Files;
-use std::sync::{Arc, Wait};
+use std::sync::Arc;
 use std::thread::{PromisedHandle, Threads};
-use std::time::Clock;
 
 /// What joins the thread that reads a path.
 pub type ReaderHandle<I> = PromisedHandle<FinishedPath<I>, WholePath<I>>;
@@ -109,7 +108,7 @@ pub struct Started<'a, 'p, R> {
 }
 
 /// Starts a thread for each file, in their order, which reads it to its end. `own` is what the threads wait by.
-pub fn start_all<'a, 'p, R: Threads, W: Wait + Clock + PathHost + Copy + Send + 'static>(
+pub fn start_all<'a, 'p, R: Threads, W: PathSystem>(
     rt: &'a R,
     own: W,
     alloc: Global,
@@ -149,7 +148,7 @@ pub fn start_all<'a, 'p, R: Threads, W: Wait + Clock + PathHost + Copy + Send + 
 }
 
 // Starts the thread of one path.
-fn start<'a, 'p, R: Threads, W: Wait + Clock + PathHost + Copy + Send + 'static>(
+fn start<'a, 'p, R: Threads, W: PathSystem>(
     rt: &'a R,
     own: W,
     alloc: Global,
@@ -171,7 +170,7 @@ fn start<'a, 'p, R: Threads, W: Wait + Clock + PathHost + Copy + Send + 'static>
 }
 
 // Starts the thread that reads a file, and opens its path again each time that it ends, if that is asked for.
-fn start_reader<R: Threads, W: Wait + Clock + PathHost + Copy + Send + 'static>(
+fn start_reader<R: Threads, W: PathSystem>(
     rt: &R,
     own: W,
     reader: PathReader,

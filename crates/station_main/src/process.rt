@@ -5,24 +5,20 @@ ghost use Rattle.std.specs.String.{string_bytes};
 ghost use Rattle.station_main.specs.Jobs.{GivesStatus};
 
 use crate::obeying::obey;
-use crate::path_host::PathHost;
+use crate::system::{PathSystem, System};
 use messages::{Alarms, Fault, StandardError, tell};
 use station_reporter::milliseconds_since_1970;
 use std::alloc::{AllocError, Global};
 use std::env;
-use std::fs::File;
 use std::io::{ErrorKind, Read, Write};
 use std::process::ExitCode;
-use std::rt::{Env, Files};
-use std::sync::Wait;
-use std::thread::Threads;
-use std::time::Clock;
+use std::rt::Env;
 
 /// Runs the program on its arguments. Answers the exit code that its process ends with: 1 if there was no memory for the
 /// arguments, 2 if one isn't UTF-8, and else that of [`obey`](crate::obey).
 pub fn exit_code<
-    R: Threads + Wait + Clock + Files<File = File, Dir: Send> + Sync,
-    W: Wait + Clock + PathHost + Copy + Send + 'static,
+    R: System,
+    W: PathSystem,
     I: Read + Drop,
     O: Write + Send + Drop,
     A: Write + Send + Drop,

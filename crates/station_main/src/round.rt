@@ -17,19 +17,18 @@ use crate::output::{ClosedOutput, JobResult, without_output};
 use crate::path_ends::tell_ends;
 use crate::paths::Paths;
 use crate::shift::{Ended, Finished, Shift, run_shift};
+use crate::system::System;
 use messages::{Fault, StandardError, tell, tell_end};
 use station_portions::HandOver;
 use station_reporter::{Beside, Kept};
 use station_shared::Places;
 use std::alloc::Global;
-use std::fs::File;
 use std::io::{Read, Write};
 use std::marker::Brand;
-use std::rt::Files;
 use std::sync::ledger::Blank;
 use std::sync::{Arc, Wait};
 use std::thread::Threads;
-use std::time::{Clock, Instant};
+use std::time::Instant;
 use streams::Sink;
 
 /// How a round ends.
@@ -44,13 +43,7 @@ pub enum Round<O> {
 /// Runs a round: one station, and further ones as long as they hand over. A round that is not the last hands on the recent
 /// entries, unless a fault was printed. Its status is 0 only if each path was read to its end and all of it was given to its
 /// receivers.
-pub fn run_round<
-    'a,
-    R: Threads + Wait + Clock + Files<File = File, Dir: Send> + Sync,
-    O: Write + Send + Drop,
-    E: Write,
-    I: Read + Drop,
->(
+pub fn run_round<'a, R: System, O: Write + Send + Drop, E: Write, I: Read + Drop>(
     rt: &'a R,
     alloc: Global,
     start: Option<Instant>,
@@ -89,11 +82,7 @@ pub fn run_round<
 }
 
 // Runs one station, which is given a name.
-fn one_shift<
-    'a,
-    R: Threads + Wait + Clock + Files<File = File, Dir: Send> + Sync,
-    O: Write + Send + Drop,
->(
+fn one_shift<'a, R: System, O: Write + Send + Drop>(
     rt: &'a R,
     alloc: Global,
     start: Option<Instant>,

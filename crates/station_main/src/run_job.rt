@@ -3,21 +3,21 @@ ghost use Rattle.std.specs.Prelude.{◌≡◌, ◌⊎◌, ◌-◌, ◌≤◌, No
 ghost use Rattle.std.specs.String.{string_bytes};
 ghost use Rattle.station_journal.specs.Resume.{IsSound};
 ghost use Rattle.command_line.specs.Command.{format_since};
-ghost use Rattle.station_main.specs.Inputs.{AllTakeFrom, AreFed, unknown};
+ghost use Rattle.station_main.specs.Inputs.{AllTakeFrom, AreFed};
 ghost use Rattle.station_portions.specs.Giving.{state_of};
 ghost use Rattle.station_main.specs.Limits.{forget_at, program_limits};
 ghost use Rattle.station_main.specs.Output.{buffered_of};
-ghost use Rattle.station_main.specs.Rounds.{EndsRound, IsFirst, RunsRounds, RunsAsked, begun_of, start_of, no_start};
+ghost use Rattle.station_main.specs.Rounds.{EndsRound, IsFirst, RunsRounds, RunsAsked, begun_of, start_of, no_start, plan_of};
 ghost use Rattle.station_main.specs.Run.{IsEarly};
 ghost use Rattle.messages.specs.Telling.{told_of};
 
 use crate::limits::{FORGET_AT, TABLE_ROOM};
 use crate::opened::Opened;
 use crate::output::{JobResult, without_output};
-use crate::path_host::PathHost;
 use crate::paths::{Paths, open_all, start_all};
 use crate::round::{Round, run_round};
 use crate::shift::Shift;
+use crate::system::{PathSystem, System};
 use crate::threads::Output;
 use command_line::RunArguments;
 use messages::{Fault, StandardError};
@@ -30,7 +30,7 @@ use std::io::{BufWriter, Write};
 use std::rt::Files;
 use std::sync::Wait;
 use std::thread::Threads;
-use std::time::{Clock, Instant};
+use std::time::Instant;
 use streams::{Sink, ToWrite};
 
 /// The options of a run.
@@ -99,8 +99,8 @@ impl<'a> RunOptions<'a> {
 /// the record ends the record alone: it is reported to `alarm` at once, and the status is 1. Answers the output, unless a
 /// round, or one of its stations, couldn't begin or be closed. `beside` has no record yet.
 pub fn run_paths<
-    R: Threads + Wait + Clock + Files<File = File, Dir: Send> + Sync,
-    W: Wait + Clock + PathHost + Copy + Send + 'static,
+    R: System,
+    W: PathSystem,
     O: Write + Send + Drop,
     A: Write + Send + Drop,
     E: Write,
@@ -119,7 +119,7 @@ pub fn run_paths<
     requires unrecorded { beside.old.record ≡ None }
     ensures most { result.status ≤ 1 }
     ensures runs { RunsAsked (option_map string_bytes asked.entry.record.now)
-        (record { tables = asked.entry.tables; paths = map string_bytes asked.entry.paths.now.items; known = unknown (map string_bytes asked.entry.paths.now.items); hand_over_at = asked.entry.hand_over_at; site = asked.entry.site })
+        (plan_of asked.entry)
         (asked.entry.rounds - 1) (O.contents out) (option_map (λ left. O.contents left) result.out) (A.contents alarm)
         (told_of E.contents err.old) (told_of E.contents err.new) result.status }
 {
@@ -138,13 +138,9 @@ pub fn run_paths<
 }
 
 // Runs the rounds, with or without a record.
-fn run_rounds<
-    R: Threads + Wait + Clock + Files<File = File, Dir: Send> + Sync,
-    O: Write + Send + Drop,
-    E: Write,
->(
+fn run_rounds<R: System, O: Write + Send + Drop, E: Write>(
     rt: &R,
-    own: impl Wait + Clock + PathHost + Copy + Send + 'static,
+    own: impl PathSystem,
     alloc: Global,
     asked: RunOptions<'_>,
     out: O,
@@ -154,7 +150,7 @@ fn run_rounds<
     requires rounds { 1 ≤ asked.rounds }
     requires paths { length asked.paths.now.items ≤ 8 }
     ensures most { result.status ≤ 1 }
-    ensures runs { RunsRounds (record { tables = asked.entry.tables; paths = map string_bytes asked.entry.paths.now.items; known = unknown (map string_bytes asked.entry.paths.now.items); hand_over_at = asked.entry.hand_over_at; site = asked.entry.site })
+    ensures runs { RunsRounds (plan_of asked.entry)
         (asked.entry.rounds - 1) (no_start asked.entry.site) (O.contents out) (option_map (λ left. O.contents left) result.out)
         beside.old.record beside.new.record
         (told_of E.contents err.old) (told_of E.contents err.new) result.status }
@@ -178,8 +174,8 @@ fn run_rounds<
 
 // Runs one round.
 fn one_round<
-    R: Threads + Wait + Clock + Files<File = File, Dir: Send> + Sync,
-    W: Wait + Clock + PathHost + Copy + Send + 'static,
+    R: System,
+    W: PathSystem,
     O: Write + Send + Drop,
     T: Sink + Send + Drop,
     A: Write + Send + Drop,
@@ -198,7 +194,7 @@ fn one_round<
 ) -> Round<O>
     requires few { length asked.paths.now.items ≤ 8 }
     requires sound { IsSound (program_limits kept.site) kept.recent.base (reverse kept.recent.entries.items) }
-    ensures { EndsRound O.contents (record { tables = asked.entry.tables; paths = map string_bytes asked.entry.paths.now.items; known = unknown (map string_bytes asked.entry.paths.now.items); hand_over_at = asked.entry.hand_over_at; site = asked.entry.site })
+    ensures { EndsRound O.contents (plan_of asked.entry)
         is_last (start_of kept) (O.contents out)
         beside.old.record beside.new.record
         (told_of E.contents err.old) (told_of E.contents err.new) result }
@@ -212,7 +208,7 @@ fn one_round<
 // Makes what a round needs: its paths with their threads, and what its first station is begun with.
 fn prepare<'a, 'p, R: Threads + Wait + Files<File = File>, O: Write + Drop>(
     rt: &'a R,
-    own: impl Wait + Clock + PathHost + Copy + Send + 'static,
+    own: impl PathSystem,
     alloc: Global,
     asked: RunOptions<'p>,
     kept: Kept,
@@ -226,7 +222,7 @@ fn prepare<'a, 'p, R: Threads + Wait + Files<File = File>, O: Write + Drop>(
     ensures named { IfOk result (λ made. map (λ t. string_bytes t.path.now) made.0.threads.items ≡ map string_bytes asked.entry.paths.now.items) }
     ensures inputs { IfOk result (λ made. length made.1.inputs.items ≡ length asked.entry.paths.now.items) }
     ensures answers { IfOk result (λ made. length made.1.answers.items ≡ length asked.entry.paths.now.items) }
-    ensures first { IfOk result (λ made. IsFirst (record { tables = asked.entry.tables; paths = map string_bytes asked.entry.paths.now.items; known = unknown (map string_bytes asked.entry.paths.now.items); hand_over_at = asked.entry.hand_over_at; site = asked.entry.site })
+    ensures first { IfOk result (λ made. IsFirst (plan_of asked.entry)
         (start_of kept) (begun_of made.1)) }
     ensures out { IfOk result (λ made. buffered_of O.contents made.1.out
         ≡ record { taken = O.contents out; failures = 0 }) }

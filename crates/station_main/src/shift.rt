@@ -14,6 +14,7 @@ use crate::limits::AIRCRAFT;
 use crate::output::ClosedOutput;
 use crate::shift::ending::{finish, hand_over};
 use crate::shift::opening::begin;
+use crate::system::System;
 use crate::threads::{Input, Output, Receiver, run_threads};
 use messages::{Answer, Fault};
 use station_journal::Journal;
@@ -21,13 +22,10 @@ use station_portions::{HandOver, PathEnd};
 use station_reporter::{Beside, Duties, Kept, Reporter};
 use station_shared::{Places, PumpFault, StationName};
 use std::alloc::Global;
-use std::fs::File;
 use std::io::Write;
-use std::rt::Files;
 use std::sync::ledger::Blank;
 use std::sync::{Arc, Wait};
-use std::thread::Threads;
-use std::time::{Clock, Instant};
+use std::time::Instant;
 use streams::Sink;
 
 /// What a station is begun with.
@@ -67,12 +65,7 @@ pub struct Finished<'a, R, O> {
 /// Starts a station and runs its threads to their ends. It hands over just where its reporter asked for it, a path goes on and
 /// no answer ends the run: then the next station goes on from what is recent in its journal. Else the last table is printed.
 /// The station is closed with all its seats.
-pub fn run_shift<
-    'a,
-    L: StationName + Send + Sync,
-    R: Threads + Wait + Clock + Files<File = File, Dir: Send> + Sync,
-    O: Write + Send + Drop,
->(
+pub fn run_shift<'a, L: StationName + Send + Sync, R: System, O: Write + Send + Drop>(
     rt: &R,
     alloc: Global,
     start: Option<Instant>,

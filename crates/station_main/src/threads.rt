@@ -6,6 +6,7 @@ ghost use Rattle.station_main.specs.Run.{HaveWorked, PrintsLast};
 
 use crate::limits::{AIRCRAFT, TURNS};
 use crate::output::{ClosedOutput, drop_unwritten, unbuffered};
+use crate::system::System;
 use station_portions::{HandOver, Portions};
 use station_report::Format;
 use station_reporter::{
@@ -20,7 +21,7 @@ use std::snapshot::Snapshot;
 use std::sync::{Arc, Wait};
 use std::thread;
 use std::thread::Threads;
-use std::time::{Clock, Instant};
+use std::time::Instant;
 use streams::{Sink, ToWrite};
 
 /// A path that a receiver reads.
@@ -52,7 +53,7 @@ pub type Left<'a, L, R, S, K> = Outcome<
 pub fn run_threads<
     'a,
     L: StationName + Send + Sync,
-    R: Threads + Wait + Clock + Files<File = File, Dir: Send> + Sync,
+    R: System,
     S: Sink + Send + Drop,
     T: Sink + Send + Drop,
     A: Write + Send + Drop,

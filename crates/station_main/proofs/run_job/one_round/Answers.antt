@@ -1,6 +1,6 @@
 use Rattle.std.proofs.Common.{◌≡◌, ◌∙◌, List, ap, map, length, sym, string_bytes}
 use Rattle.std.proofs.lemmas.List.{length-map}
-use Rattle.station_main.proofs.Common.{RunPlan, unknown}
+use Rattle.station_main.specs.Rounds.{plan_of}
 use Rattle.station_main.proofs.PartLemmas.{unknown_is}
 use Rattle.station_main.proofs.run_job.one_round.Goals as goal
 
@@ -10,5 +10,4 @@ returns-in-Ok g c =
     let threads = c.in-Ok.paths.threads.items in
     let paths : List _ = map string_bytes c.args.asked.paths.now.items in
     let many : length threads ≡ length paths = sym (length-map threads (λ t. string_bytes t.path.now)) ∙ ap length made.named in
-    let asked : RunPlan = record { tables = c.args.asked.tables; paths = paths; known = unknown paths; hand_over_at = c.args.asked.hand_over_at; site = c.args.asked.site } in
-    c.run_round.ensures asked _ _ (sym made.named) (unknown_is paths threads many) made.first made.out
+    c.run_round.ensures (plan_of c.args.asked) _ _ (sym made.named) (unknown_is paths threads many) made.first made.out

@@ -1,15 +1,15 @@
-use Rattle.std.proofs.Common.{ℕ, ◌-◌, List, Option, map, reverse, string_bytes}
+use Rattle.std.proofs.Common.{ℕ, ◌-◌, List, Option, reverse}
 use Rattle.station_journal.specs.Resume.{IsSound}
 use Rattle.messages.proofs.Common.{Told, told_of}
 use Rattle.station_reporter.proofs.Common.{Recording}
-use Rattle.station_main.proofs.Common.{program_limits, RunPlan, RunsRounds, start_of, no_start}
-use Rattle.station_main.specs.Inputs.{unknown}
+use Rattle.station_main.proofs.Common.{program_limits, RunsRounds, start_of, no_start}
+use Rattle.station_main.specs.Rounds.{plan_of}
 use Rattle.station_main.proofs.run_job.run_rounds.Given as goal
 
 -- all rounds leave what the rounds to come leave
 abbrev pub invariant-loop-ran : goal.invariant-loop-ran
 invariant-loop-ran g l =
-    let asked : RunPlan = record { tables = l.asked.tables; paths = map string_bytes l.asked.paths.now.items; known = unknown (map string_bytes l.asked.paths.now.items); hand_over_at = l.asked.hand_over_at; site = l.asked.site } in
+    let asked = plan_of l.asked in
     let contents = g.O.Write.contents in
     let told = told_of g.E.Write.contents in
     record {
