@@ -32,7 +32,7 @@ pub enum Fault<'a> {
     JournalFull,
     /// A frame of another aircraft met a full table. It ends no job.
     TableFull,
-    /// This path, as it was given, wasn't read to its end, or its receiver didn't take all of it, and no other fault was printed.
+    /// This path, as it was given, wasn't read to its end: it goes on, or a read of it failed. No other fault was printed.
     Unfinished(&'a str),
 }
 
