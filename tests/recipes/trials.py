@@ -130,7 +130,7 @@ def a_record(it):
         it.expect("the replay ends", terminal.is_over() and terminal.waits("^lines "), terminal.said())
         it.expect("it prints what the run printed", tables(terminal.said()) == printed, terminal.said())
         terminal.type(recipe)
-        it.expect("a file that has bytes is refused", terminal.waits("^groundstation: cannot record to day.avr$"), terminal.said())
+        it.expect("a file that has bytes is refused", terminal.waits(r"^groundstation: cannot record to day.avr \(it has bytes\)$"), terminal.said())
 
 
 def a_receiver_that_drops(it):

@@ -7,7 +7,7 @@ use Rattle.clap.specs.Kinds.{or_else}
 use Rattle.clap.specs.Simple.{help_shape, Shape, built, built_leaf, entered, label_of, rows_at, argument_words, names_of}
 use Rattle.clap.specs.Lexer.{long_of, short_of}
 use Rattle.std.proofs.lemmas.Slice.Eq.{bytes_eq-Decides}
-use Rattle.clap.specs.Walk.{Held, Names, Outcome, Step, Waiting, Walk, after_flag, after_step, arg_by_index, arg_by_long, bundle, done, idle, long_met, long_or_other, next, option, plain, plain_word, positional, refused, short_or_plain, subcommand, subcommand_met, subcommand_or_other, to_positional, trailing, value, waits, walked, walked_from, word_met, Row, Rule, Text, answers_to, finished, settled, walk, walk_from, nothing_held}
+use Rattle.clap.specs.Walk.{Held, Names, Outcome, Step, Waiting, Walk, after_flag, after_step, arg_by_index, arg_by_long, bundle, done, long_met, long_or_other, next, option, plain, plain_word, refused, short_or_plain, subcommand, subcommand_met, subcommand_or_other, to_positional, trailing, value, waits, walked, walked_from, word_met, Row, Rule, Text, answers_to, finished, settled, walk, walk_from, nothing_held}
 use Rattle.clap.specs.Words.{subcommand_of}
 use Rattle.command_line.specs.Command.{FormatNames, station}
 use Rattle.command_line.proofs.WalkedLemmas.{both_empty, not_none}
@@ -21,16 +21,13 @@ NoHelp None = ⊤
 NoHelp (Some p) = bytes_eq p.0 (codes "help") ≡ false
 
 abbrev StepNoHelp : Step → Type 0
-StepNoHelp (next waiting) = ⊤
-StepNoHelp (trailing position) = ⊤
 StepNoHelp (subcommand name) = bytes_eq name (codes "help") ≡ false
-StepNoHelp value = ⊤
+StepNoHelp _ = ⊤
 
 module _ (s : Shape) (with_help : s.disable_help_subcommand ≡ false) where
   plain_step : (waiting : Waiting) (word : Text) (h : Held) → StepNoHelp (plain_word s.rules waiting word h).1
   plain_step (option id) word h = tt
-  plain_step idle word h = tt
-  plain_step positional word h = tt
+  plain_step _ word h = tt
 
   flag_step : (out : Outcome) (waiting : Waiting) (word : Text) (h : Held) → StepNoHelp (after_flag s.rules waiting word h out).1
   flag_step done waiting word h = tt

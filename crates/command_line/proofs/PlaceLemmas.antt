@@ -1,18 +1,11 @@
 -- What the reading of a place needs.
-use Rattle.std.proofs.Common.{◌≡◌, ◌≢◌, ◌≤◌, ◌^◌, ◌==◌, ℕ, zero, suc, Bool, true, false, List, [], ◌∷◌, refl, arith, eqb-true}
+use Rattle.std.proofs.Common.{◌≡◌, ◌≢◌, ◌≤◌, ◌^◌, ◌==◌, ℕ, suc, Bool, true, false, List, [], ◌∷◌, refl, arith, eqb-true}
 use Rattle.std.specs.Str.Parse.{starts_with_minus}
 
 -- seven digits write the most
 pub ten_to : (digits : ℕ) → digits ≤ 7 → 10 ^ digits ≤ 10 ^ 7
-ten_to zero few = omega arith
-ten_to (suc zero) few = omega arith
-ten_to (suc (suc zero)) few = omega arith
-ten_to (suc (suc (suc zero))) few = omega arith
-ten_to (suc (suc (suc (suc zero)))) few = omega arith
-ten_to (suc (suc (suc (suc (suc zero))))) few = omega arith
-ten_to (suc (suc (suc (suc (suc (suc zero)))))) few = omega arith
-ten_to (suc (suc (suc (suc (suc (suc (suc zero))))))) few = omega arith
 ten_to (suc (suc (suc (suc (suc (suc (suc (suc n)))))))) few = absurd (omega (arith, few))
+ten_to _ few = omega arith
 
 other_byte : (b : Bool) (byte : ℕ) (rest : List ℕ) → (byte == 45) ≡ b → ((after : List ℕ) → byte ∷ rest ≢ 45 ∷ after) → b ≡ false
 other_byte true byte rest is other = absurd (other rest (let same : byte ≡ 45 = eqb-true byte 45 is in cc))

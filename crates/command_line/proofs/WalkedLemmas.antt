@@ -3,7 +3,7 @@ use Rattle.std.proofs.Common.{◌≡◌, ℕ, Bool, true, false, zero, suc, List
 use Rattle.std.specs.Option.{option_map_or}
 use Rattle.clap.specs.Lexer.{long_of, short_of}
 use Rattle.clap.specs.Kinds.{Kinds, or_else}
-use Rattle.clap.specs.Walk.{Held, Names, Outcome, Row, Rule, Step, Text, Waiting, Walk, after_flag, after_step, arg_by_id, arg_by_index, arg_by_long, arg_by_short, attached_value, bundle, bundle_met, long_met, long_or_other, option_met, plain_word, reacted, settled, settled_rows, short_met, short_or_plain, subcommand_met, subcommand_or_other, takes_several, takes_values, is_pending, to_positional, used, used_by_id, walked, walked_from, word_met, option_word, option, idle, positional, done, waits, plain, refused, next, trailing, subcommand, value, bundle_step, flag_met}
+use Rattle.clap.specs.Walk.{Held, Names, Outcome, Row, Rule, Step, Text, Waiting, Walk, after_flag, after_step, arg_by_id, arg_by_index, arg_by_long, arg_by_short, attached_value, bundle, bundle_met, long_met, long_or_other, option_met, plain_word, reacted, settled, settled_rows, short_met, short_or_plain, subcommand_met, subcommand_or_other, takes_several, takes_values, is_pending, to_positional, used, used_by_id, walked, walked_from, word_met, option_word, option, idle, positional, done, waits, plain, refused, trailing, value, bundle_step, flag_met}
 use Rattle.clap.specs.Faults.{bundle_fault, bundle_step_fault, flag_word_fault, flags_fault, long_fault, option_fault, other_fault, positional_fault, react_fault, settle_fault, short_fault, step_fault, stray_fault, turn_fault, use_fault, walk_fault, word_fault}
 use Rattle.clap.specs.Simple.{Shape}
 use Rattle.clap.specs.declared.error.kind.ErrorKind.{ErrorKind}
@@ -144,10 +144,8 @@ module _ (s : Shape) (P : List Row → Type 0) (keeps : Keeps s.rules s.args_ove
   to_positionals (Some a) word w h e p = positional_rows (is_pending a h.pending && takes_several a) h e p
 
   after_steps : (step : Step) (word : Text) (w : Walk) (h : Held) → step_fault s w.position h step ≡ [] → P h.rows → P (after_step s.rules word w h step).held.rows
-  after_steps (next waiting) word w h e p = p
-  after_steps (trailing position) word w h e p = p
-  after_steps (subcommand name) word w h e p = p
   after_steps value word w h e p = to_positionals (arg_by_index s.rules w.position) word w h e p
+  after_steps _ word w h e p = p
 
   turns_from : (stopped : Option (Text × List Text)) (names : Names) (w : Walk) (word : Text)
       → (let met = word_met s.rules names w.is_trailing w.waiting w.position word w.held in

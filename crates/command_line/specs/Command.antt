@@ -10,7 +10,7 @@ use Rattle.clap.specs.declared.builder.arg.Arg.{Arg}
 use Rattle.clap.specs.declared.builder.command.Command.{Command}
 use Rattle.clap.specs.declared.builder.command.Command.TheViews.{out-Command}
 use Rattle.clap.specs.declared.builder.action.ArgAction.TheVariants.{Set, SetTrue}
-use Rattle.clap.specs.declared.builder.value_parser.ValueParser.TheVariants.{Names, Signed}
+use Rattle.clap.specs.declared.builder.value_parser.ValueParser.TheVariants.{Names, NonEmptyString, Signed}
 use Rattle.station_report.specs.declared.formats.Format.{Format}
 use Rattle.station_report.specs.declared.formats.Format.TheVariants as Formats
 use Rattle.station_journal.specs.Past.{Site}
@@ -56,11 +56,12 @@ reopen = record (new_rule (codes "reopen")) {
   action = Some SetTrue;
 }
 
--- `--record FILE`: any text, at most once, and not required
+-- `--record FILE`: any text but the empty one, at most once, and not required
 abbrev pub record_file : Rule
 record_file = record (new_rule (codes "record")) {
   long = Some (codes "record");
   value_names = 1;
+  parser = Some NonEmptyString;
 }
 
 -- `--at LAT,LON`: any text, at most once, and not required
@@ -85,11 +86,12 @@ format names = record (new_rule (codes "format")) {
   parser = Some (Names names);
 }
 
--- `--json DIR`: any text, at most once, and not required
+-- `--json DIR`: any text but the empty one, at most once, and not required
 abbrev pub json_folder : Rule
 json_folder = record (new_rule (codes "json")) {
   long = Some (codes "json");
   value_names = 1;
+  parser = Some NonEmptyString;
 }
 
 -- `PATH..`: required, 1 to 8 of them, one after another

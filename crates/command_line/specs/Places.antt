@@ -29,7 +29,7 @@ abbrev pub size_by : Text → Option (Text × Text) → Option ℕ
 size_by text None = option_map (λ n. n * 10000000) (number 3 text)
 size_by text (Some parts) = option_and_then (λ n. option_map (λ part. n * 10000000 + part) (decimals parts.1)) (number 3 parts.0)
 
--- at most so many degrees
+-- n, if it is at most this many degrees
 abbrev pub up_to : (most n : ℕ) → Option ℕ
 up_to most n = if nat_le n (most * 10000000) then Some n else None
 

@@ -187,10 +187,12 @@ fn format_arg<'a>(alloc: Global, names: &'a [&'a str]) -> Arg<'a>
 fn json_arg<'a>(alloc: Global) -> Arg<'a>
     ensures { IsArg json_folder result }
 {
+    let folder = ValueParser::NonEmptyString;
     Arg::new(alloc, "json")
         .long("json")
         .value_name("DIR")
         .help("Folder for each table as aircraft.json, for displays")
+        .value_parser(folder)
 }
 
 // `--rounds R`. Without a default of `clap`, so that its matches say whether it is given.
@@ -219,10 +221,12 @@ fn reopen_arg<'a>(alloc: Global) -> Arg<'a>
 fn record_arg<'a>(alloc: Global) -> Arg<'a>
     ensures { IsArg record_file result }
 {
+    let file = ValueParser::NonEmptyString;
     Arg::new(alloc, "record")
         .long("record")
         .value_name("FILE")
         .help("File to record the run to, for replay")
+        .value_parser(file)
 }
 
 // `--at LAT,LON`

@@ -19,7 +19,7 @@ pub fn place_named(text: &str) -> Option<Reference>
     })
 }
 
-// Degrees with a sign, in 1/10,000,000: at most so many.
+// At most `most` degrees with a sign, in 1/10,000,000.
 fn angle(text: &str, most: u64) -> Option<i32>
     requires { most ≤ 180 }
     ensures { result ≡ spec.angle most text.now }

@@ -6,6 +6,7 @@ use Rattle.std.proofs.lemmas.List.Sums.{fold_more}
 use Rattle.station_lines.specs.declared.pumping.PumpFault.{PumpFault}
 use Rattle.station_lines.specs.declared.tally.Tally.{Tally}
 use Rattle.messages.proofs.Common.{status_of, Tells, Told, cannot_record, fault_line, telling_line, pump_lines}
+use Rattle.messages.specs.declared.reason.Reason.{Reason}
 use Rattle.messages.specs.declared.faults.Fault.{Fault}
 use Rattle.messages.specs.declared.faults.Fault.TheVariants as fault
 
@@ -37,7 +38,8 @@ one_more_status answers i x status one new inside at so_far one_is new_is =
     ∙ sym (fold_more worst 0 answers i x inside)
 
 -- no memory for a record, or a file that takes none
-pub record_fault_told : (a b : Told) (f : Fault) (path : Bor (List ℕ)) (file : List ℕ) → (f ≡ fault.NoMemory) ⊎ (f ≡ fault.CannotRecord path) → path.now ≡ file → Tells a b (fault_line f)
-    → Tells a b (fault_line fault.NoMemory) ⊎ Tells a b (telling_line (cannot_record file))
+pub record_fault_told : (a b : Told) (f : Fault) (path : Bor (List ℕ)) (file : List ℕ) → (f ≡ fault.NoMemory) ⊎ ((reason : Reason) × (f ≡ fault.CannotRecord path reason)) → path.now ≡ file → Tells a b (fault_line f)
+    → Tells a b (fault_line fault.NoMemory) ⊎ ((reason : Reason) × Tells a b (telling_line (cannot_record file reason)))
 record_fault_told a b f path file (inl memory) is told = inl (subst (λ g. Tells a b (fault_line g)) memory told)
-record_fault_told a b f path file (inr refused) is told = inr (subst (λ p. Tells a b (telling_line (cannot_record p))) is (subst (λ g. Tells a b (fault_line g)) refused told))
+record_fault_told a b f path file (inr refused) is told =
+    inr (refused.0, subst (λ p. Tells a b (telling_line (cannot_record p refused.0))) is (subst (λ g. Tells a b (fault_line g)) refused.1 told))

@@ -1,3 +1,4 @@
+pub mod Reasons
 pub mod Status
 pub mod Sums
 pub mod Telling

@@ -8,6 +8,8 @@ use Rattle.station_lines.specs.declared.pumping.PumpFault.TheVariants as pump
 use Rattle.station_replay.specs.declared.replaying.ReplayFault.{ReplayFault}
 use Rattle.station_replay.specs.declared.replaying.ReplayFault.TheVariants as replay
 use Rattle.station_lines.specs.declared.tally.Tally.{Tally}
+use Rattle.messages.specs.Reasons.{reason_text}
+use Rattle.messages.specs.declared.reason.Reason.{Reason}
 use Rattle.messages.specs.declared.faults.Fault.{Fault}
 use Rattle.messages.specs.declared.faults.Fault.TheVariants as fault
 use Rattle.messages.specs.declared.standard_error.StandardError.{StandardError}
@@ -27,12 +29,12 @@ pub record Tells (old new : Told) (text : List ℕ) : Type 0 where
 
 -- ---- lines
 
--- what is printed if this path can't be opened, or can't take a record
+-- what is printed if this path can't be opened, or can't take a record for a reason
 abbrev pub cannot_open : List ℕ → List ℕ
 cannot_open path = codes "cannot open " ++ path
 
-abbrev pub cannot_record : List ℕ → List ℕ
-cannot_record path = codes "cannot record to " ++ path
+abbrev pub cannot_record : List ℕ → Reason → List ℕ
+cannot_record path reason = codes "cannot record to " ++ path ++ reason_text reason
 
 -- what is printed of a path that wasn't read to its end
 abbrev pub unfinished_words : List ℕ → List ℕ
@@ -45,9 +47,10 @@ fault_words fault.TooManyReads = codes "too many reads"
 fault_words fault.NoMemory = codes "no memory"
 fault_words (fault.CannotOpen path) = cannot_open path.now
 fault_words fault.ThreadNotStarted = codes "thread not started"
-fault_words (fault.CannotRecord path) = cannot_record path.now
-fault_words fault.Record = codes "record failed"
-fault_words (fault.CannotWrite path) = codes "cannot write " ++ path.now
+fault_words (fault.CannotRecord path reason) = cannot_record path.now reason
+fault_words (fault.Record reason) = codes "record failed" ++ reason_text reason
+fault_words (fault.CannotWrite path reason) = codes "cannot write " ++ path.now ++ reason_text reason
+fault_words (fault.WritesAgain path) = codes "writing " ++ path.now ++ codes " again"
 fault_words fault.JournalFull = codes "journal full"
 fault_words fault.TableFull = codes "table full"
 fault_words (fault.Unfinished path) = unfinished_words path.now

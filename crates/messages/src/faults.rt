@@ -2,6 +2,7 @@
 ghost use Rattle.std.specs.Prelude.{◌≡◌, ◌++◌};
 ghost use Rattle.messages.specs.Telling.{Tells, fault_line, tally_line, told_of};
 
+use crate::reason::Reason;
 use crate::standard_error::StandardError;
 use station_lines::Tally;
 use std::fmt::{self, Display, Formatter};
@@ -23,11 +24,13 @@ pub enum Fault<'a> {
     /// The thread of a path or of the reporter couldn't be started.
     ThreadNotStarted,
     /// This file, as it was given, can't take a record.
-    CannotRecord(&'a str),
+    CannotRecord(&'a str, Reason),
     /// The record couldn't be written.
-    Record,
+    Record(Reason),
     /// This file for displays couldn't be written.
-    CannotWrite(&'a str),
+    CannotWrite(&'a str, Reason),
+    /// This file for displays is written again, after it couldn't be. It ends no job.
+    WritesAgain(&'a str),
     /// A frame or a tick met a full journal. It ends no job.
     JournalFull,
     /// A frame of another aircraft met a full table. It ends no job.
@@ -50,9 +53,10 @@ impl Display for Fault<'_> {
             Fault::NoMemory => f.write_str("no memory"),
             Fault::CannotOpen(path) => write!(f, "cannot open {path}"),
             Fault::ThreadNotStarted => f.write_str("thread not started"),
-            Fault::CannotRecord(path) => write!(f, "cannot record to {path}"),
-            Fault::Record => f.write_str("record failed"),
-            Fault::CannotWrite(path) => write!(f, "cannot write {path}"),
+            Fault::CannotRecord(path, reason) => write!(f, "cannot record to {path}{reason}"),
+            Fault::Record(reason) => write!(f, "record failed{reason}"),
+            Fault::CannotWrite(path, reason) => write!(f, "cannot write {path}{reason}"),
+            Fault::WritesAgain(path) => write!(f, "writing {path} again"),
             Fault::JournalFull => f.write_str("journal full"),
             Fault::TableFull => f.write_str("table full"),
             Fault::Unfinished(path) => write!(f, "{path} not read to its end"),

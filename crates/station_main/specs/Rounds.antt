@@ -24,6 +24,7 @@ use Rattle.station_reporter.specs.Reporter.{ReportsByAClock, after_table, not_be
 use Rattle.station_main.specs.Run.{Closing, Ends, EndsEarly, HavePumped, IsClosed, ReporterLeaves, may_go_on}
 use Rattle.messages.specs.Sums.{AddsEach}
 use Rattle.messages.specs.Telling.{OutOfMemory, Tells, Told, cannot_record, fault_line, telling_line, unfinished_lines}
+use Rattle.messages.specs.declared.reason.Reason.{Reason}
 use Rattle.messages.specs.declared.faults.Fault.TheVariants as fault
 use Rattle.station_reporter.specs.declared.kept.Kept.{Kept}
 use Rattle.station_reporter.specs.declared.duties.Duties.{Duties}
@@ -261,10 +262,10 @@ EndsRound contents asked is_last given before was is err_old err_new (GoesOn out
 
 -- ---- a run with or without a record
 
--- the record could not be begun in this file, or there was no memory for it, and nothing is read
+-- the record could not be begun in this file, which is printed with a reason, or there was no memory for it; and nothing is read
 pub record CannotRecord (file : Text) (after : Option (Option (List ℕ))) (err_old err_new : Told) (status : ℕ) : Type 0 where
   pub out : after ≡ None
-  pub told : Tells err_old err_new (fault_line fault.NoMemory) ⊎ Tells err_old err_new (telling_line (cannot_record file))
+  pub told : Tells err_old err_new (fault_line fault.NoMemory) ⊎ ((reason : Reason) × Tells err_old err_new (telling_line (cannot_record file reason)))
   pub status_is : status ≡ 1
 
 -- a run with a record, which begins blank; the status is the worse of the rounds' and the record's

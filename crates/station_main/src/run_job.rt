@@ -23,7 +23,7 @@ use command_line::RunArguments;
 use messages::{Fault, StandardError};
 use modes_cpr::Reference;
 use station_reporter::recorder::status_of;
-use station_reporter::{Beside, Duties, Kept, Tables, record_to};
+use station_reporter::{Beside, Duties, Kept, RecordFile, Tables, record_to};
 use std::alloc::Global;
 use std::fs::File;
 use std::io::{BufWriter, Write};
@@ -111,7 +111,7 @@ pub fn run_paths<
     asked: RunOptions<'_>,
     out: O,
     alarm: A,
-    beside: &mut Beside<Output<File>, A>,
+    beside: &mut Beside<Output<RecordFile>, A>,
     err: &mut StandardError<E>,
 ) -> JobResult<O>
     requires rounds { 1 ≤ asked.rounds }

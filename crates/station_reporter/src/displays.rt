@@ -1,23 +1,27 @@
 //! The folder in which displays find the tables.
-ghost use Rattle.std.specs.Prelude.{◌≡◌, ◌≤◌, IfOk, IfSome, codes, false, is_some, true};
+ghost use Rattle.std.specs.Prelude.{◌≡◌, ◌≤◌, IfOk, IfSome, codes, is_some};
 ghost use Rattle.std.specs.String.{string_bytes};
 ghost use Rattle.station_replay.specs.Replay.{table_in};
 ghost use Rattle.station_history.specs.Start.{log_of};
 ghost use Rattle.station_report.specs.declared.formats.Format.TheVariants as Formats;
-ghost use Rattle.station_reporter.specs.Displays.{cannot_write, have_failed, in_folder};
+ghost use Rattle.station_reporter.specs.Displays.{HasReportedWrite, have_failed, in_folder, shown_of};
 ghost use Rattle.messages.specs.Status.{fault_status};
-ghost use Rattle.messages.specs.Telling.{Tells, told_of};
+ghost use Rattle.messages.specs.Telling.{told_of};
 
 use command_line::VERSION;
-use messages::{Fault, StandardError, tell};
+use messages::{Fault, Reason, StandardError, tell};
 use modes_cpr::{Degrees, Position, Reference};
 use station_report::{Format, latitude_field, longitude_field, table_as};
 use station_shared::{Look, StationName};
 use std::alloc::{AllocError, Global};
-use std::fs::{self, File};
+use std::fs::{self, File, Permissions};
 use std::io::Write;
+use std::os::unix::fs::PermissionsExt;
 use std::rt::Files;
 use streams::{ToWrite, WriteFault};
+
+// Who may read a file for displays, whatever the mask of the process: all. Its owner may write it.
+const READABLE: u32 = 0o644;
 
 /// The folder in which displays find the tables, as JSON.
 #[derive(Drop)]
@@ -26,11 +30,16 @@ pub struct Displays<A> {
     // The file that displays read, and the one that is written beside it and then renamed over it.
     table: String,
     beside: String,
+    // The file that displays read first, and its text.
+    receiver: String,
+    about: Vec<u8>,
     // The time at which the clock of the tables begins, in milliseconds since 1970.
     origin: u64,
     // Whether a write failed.
     has_failed: bool,
-    // Where the first failed write is reported at once.
+    // Whether the last write failed.
+    is_failing: bool,
+    // Where a failed write is reported at once, and the next that doesn't fail.
     alarm: StandardError<A>,
 }
 
@@ -53,41 +62,66 @@ impl<A: Write + Drop> Displays<A> {
             alloc,
             table: file_in(alloc, folder, "aircraft.json")?,
             beside: file_in(alloc, folder, "aircraft.json.new")?,
+            receiver: file_in(alloc, folder, "receiver.json")?,
+            about: receiver_text(alloc, VERSION, every, site)?,
             origin,
             has_failed: false,
+            is_failing: false,
             alarm,
         };
-        let receiver = file_in(alloc, folder, "receiver.json")?;
-        let text = receiver_text(alloc, VERSION, every, site)?;
-        let written = fs::write(rt, receiver.as_str(), text.as_slice());
-        displays.report_failure(written.is_ok());
+        let written = displays.write_receiver(rt);
+        displays.report_write(written);
         Ok(displays)
     }
 }
 
 impl<A: Write> Displays<A> {
-    // Writes a table beside the one that displays read, and renames it over that. Answers whether both went well.
-    fn replace<R: Files<File = File>>(&self, rt: &R, text: &[u8]) -> bool {
-        let beside = self.beside.as_str();
-        fs::write(rt, beside, text).is_ok() && fs::rename(rt, beside, self.table.as_str()).is_ok()
+    // Writes what displays read first.
+    fn write_receiver<R: Files<File = File>>(&self, rt: &R) -> Result<(), Reason> {
+        write_readable(rt, self.receiver.as_str(), self.about.as_slice())
     }
 
-    // Reports a write that failed, unless one failed before.
-    fn report_failure(&mut self, is_written: bool)
+    // Writes a table beside the one that displays read, and renames it over that. What displays read first is written again
+    // where it may be missing.
+    fn replace<R: Files<File = File>>(&self, rt: &R, text: &[u8]) -> Result<(), Reason> {
+        if self.is_failing || !fs::exists(rt, self.receiver.as_str()).unwrap_or(false) {
+            self.write_receiver(rt)?;
+        }
+        let beside = self.beside.as_str();
+        write_readable(rt, beside, text)?;
+        fs::rename(rt, beside, self.table.as_str()).map_err(|error| Reason::of(&error))
+    }
+
+    // Reports a write that failed, unless the one before did, and one that went well after one that failed.
+    fn report_write(&mut self, written: Result<(), Reason>)
         ensures table { self.new.table ≡ self.old.table }
         ensures origin { self.new.origin ≡ self.old.origin }
-        ensures written { is_written ≡ true → self.new ≡ self.old }
-        ensures failed { is_written ≡ false → self.new.has_failed ≡ true }
-        ensures once { self.old.has_failed ≡ true → self.new ≡ self.old }
-        ensures told { is_written ≡ false → self.old.has_failed ≡ false →
-            Tells (told_of A.contents self.old.alarm) (told_of A.contents self.new.alarm)
-            (cannot_write (string_bytes self.old.table)) }
+        ensures reported { HasReportedWrite (string_bytes self.old.table) written
+            (shown_of A.contents self.old) (shown_of A.contents self.new) }
     {
-        if !is_written && !self.has_failed {
-            self.has_failed = true;
-            tell(&mut self.alarm, Fault::CannotWrite(self.table.as_str()));
+        let was_failing = self.is_failing;
+        self.is_failing = written.is_err();
+        self.has_failed = self.has_failed || written.is_err();
+        match written {
+            Ok(()) if was_failing => {
+                tell(&mut self.alarm, Fault::WritesAgain(self.table.as_str()));
+            }
+            Err(reason) if !was_failing => {
+                tell(
+                    &mut self.alarm,
+                    Fault::CannotWrite(self.table.as_str(), reason),
+                );
+            }
+            _ => {}
         }
     }
+}
+
+// Writes a file that all may read. Where its mode can't be set, as that of another's file, it stays as it is.
+fn write_readable<R: Files<File = File>>(rt: &R, path: &str, text: &[u8]) -> Result<(), Reason> {
+    let mut file = File::create(rt, path).map_err(|error| Reason::of(&error))?;
+    let _ = file.set_permissions(Permissions::from_mode(READABLE));
+    file.write_all(text).map_err(|error| Reason::of(&error))
 }
 
 // The path of a file in a folder.
@@ -168,18 +202,19 @@ pub fn table_for<const N: usize, L: StationName, A: Write>(
     }
 }
 
-/// Puts a table where displays find it, if there are any. A failed write is reported once.
+/// Puts a table where displays find it, if there are any. A failed write is reported once, and so is the next one that doesn't
+/// fail.
 pub fn put_table<R: Files<File = File>, A: Write>(
     displays: &mut Option<Displays<A>>,
     rt: &R,
     table: Option<Result<Vec<u8>, WriteFault>>,
 ) {
     if let (Some(displays), Some(table)) = (displays, table) {
-        let is_written = match table {
+        let written = match table {
             Ok(text) => displays.replace(rt, text.as_slice()),
-            Err(_) => false,
+            Err(_) => Err(Reason::NoMemory),
         };
-        displays.report_failure(is_written);
+        displays.report_write(written);
     }
 }
 

@@ -2,12 +2,36 @@
 use super::bounds::*;
 use super::json::JSON_OF_BOTH;
 use super::run::{IDENTIFICATION, ONE_FRAME_EACH, TABLE_OF_BOTH, TwoFiles, VELOCITY};
-use super::{Ran, Trials, text};
+use super::staged::Staged;
+use super::{EVERY_HOUR, NO_LINES, Ran, Trials, text};
 use crate::comparing::{holds, same};
 use std::fs;
+use std::io::{self, Write};
 use std::test::*;
 
 const RECEIVER: &str = "{\"version\":\"groundstation 1.0.0\",\"refresh\":3600000,\"history\":0}";
+
+// Makes a folder at its second write.
+#[derive(Drop)]
+struct MakesFolder<'a, R> {
+    rt: &'a R,
+    folder: &'a str,
+    writes: usize,
+}
+
+impl<'a, R: Files<File = File>> Write for MakesFolder<'a, R> {
+    fn write(&mut self, piece: &[u8]) -> io::Result<usize> {
+        self.writes = self.writes.saturating_add(1);
+        if self.writes == 2 {
+            fs::create_dir(self.rt, self.folder)?;
+        }
+        Ok(piece.len())
+    }
+
+    fn flush(&mut self) -> io::Result<()> {
+        Ok(())
+    }
+}
 
 impl<R: Host, W: Own> Trials<'_, R, W> {
     // Runs with tables in this folder.
@@ -16,10 +40,10 @@ impl<R: Host, W: Own> Trials<'_, R, W> {
         self.run_still(files, options.as_str())
     }
 
-    // Ends the test unless it was reported once that no table could be written to this folder.
-    fn reports_once(&self, ran: &Ran, folder: &str) -> Result<(), Fail> {
+    // Ends the test unless it was reported once that no table could be written to this folder, for this reason.
+    fn reports_once(&self, ran: &Ran, folder: &str, reason: &str) -> Result<(), Fail> {
         let report = format!(in self.alloc;
-            "groundstation: cannot write {folder}/aircraft.json\n"
+            "groundstation: cannot write {folder}/aircraft.json ({reason})\n"
         )?;
         same(self.rt, text(&ran.display_alarm), report.as_str());
         same(self.rt, ran.status, 1);
@@ -51,9 +75,37 @@ impl<R: Host, W: Own> Trials<'_, R, W> {
         let ran = self.run_shown(&files, folder.as_str(), "--rounds=2")?;
         let second_table = text(&ran.out).strip_prefix(TABLE_OF_BOTH);
         same(rt, second_table, Some(TABLE_OF_BOTH));
-        self.reports_once(&ran, folder.as_str())?;
+        self.reports_once(&ran, folder.as_str(), "no such file or directory")?;
         holds(rt, text(&ran.err).starts_with(ONE_FRAME_EACH));
         holds(rt, ran.record_alarm.is_empty());
+        self.remove(&files.folder)
+    }
+
+    // The folder is made between the first table and its file for the second.
+    fn tables_are_put_in_a_folder_that_is_there_again(self) -> Result<(), Fail> {
+        let (rt, alloc) = (self.rt, self.alloc);
+        let files = self.two_files(IDENTIFICATION, VELOCITY)?;
+        let folder = format!(in alloc; "{}/later", files.folder.as_str())?;
+        let folder = folder.as_str();
+        let options = format!(in alloc; "{EVERY_HOUR} --rounds=3 --json={folder}")?;
+        let out = MakesFolder {
+            rt,
+            folder,
+            writes: 0,
+        };
+        let staged = Staged::new(rt, [1_000_000].as_slice());
+        let trials = self.over(&staged);
+        let ran = trials.run_to(options.as_str(), files.paths().as_slice(), NO_LINES, out)?;
+        let reported = format!(in alloc;
+            "groundstation: cannot write {folder}/aircraft.json (no such file or directory)\ngroundstation: writing {folder}/aircraft.json again\n"
+        )?;
+        same(rt, text(&ran.display_alarm), reported.as_str());
+        same(rt, ran.status, 1);
+        for (name, text_of_file) in [("aircraft", JSON_OF_BOTH), ("receiver", RECEIVER)] {
+            let path = format!(in alloc; "{folder}/{name}.json")?;
+            let file = fs::read(rt, path.as_str())?;
+            same(rt, text(&file), text_of_file);
+        }
         self.remove(&files.folder)
     }
 
@@ -65,7 +117,7 @@ impl<R: Host, W: Own> Trials<'_, R, W> {
         fs::create_dir(self.rt, table.as_str())?;
         let ran = self.run_shown(&files, folder, "--format=json")?;
         same(self.rt, text(&ran.out), JSON_OF_BOTH);
-        self.reports_once(&ran, folder)?;
+        self.reports_once(&ran, folder, "is a directory")?;
         self.remove(&files.folder)
     }
 }
@@ -78,6 +130,11 @@ fn each_table_is_put_where_displays_find_it(rt: HostRuntime) -> Result<(), Fail>
 #[test]
 fn a_failed_write_for_displays_leaves_the_tables(rt: HostRuntime) -> Result<(), Fail> {
     Trials::on(&rt).a_failed_write_for_displays_leaves_the_tables()
+}
+
+#[test]
+fn tables_are_put_in_a_folder_that_is_there_again(rt: HostRuntime) -> Result<(), Fail> {
+    Trials::on(&rt).tables_are_put_in_a_folder_that_is_there_again()
 }
 
 #[test]

@@ -7,7 +7,7 @@ use std::fs;
 use std::io::Write;
 use std::test::*;
 
-const RECORD_FAILED: &str = "groundstation: record failed\n";
+const RECORD_FAILED: &str = "groundstation: record failed (no space left on device)\n";
 
 impl<R: Host, W: Own> Trials<'_, R, W> {
     /// The bytes of a file, and what `replay` prints of them.
@@ -125,11 +125,17 @@ impl<R: Host, W: Own> Trials<'_, R, W> {
     // A file that has bytes, and one in a folder that isn't there.
     fn a_file_that_takes_no_record_is_refused(self) -> Result<(), Fail> {
         let files = self.two_files(IDENTIFICATION, VELOCITY)?;
-        for name in ["first", "nowhere/record"] {
+        for (name, reason) in [
+            ("first", "it has bytes"),
+            ("nowhere/record", "no such file or directory"),
+            ("first/record", "not a directory"),
+        ] {
             let path = format!(in self.alloc; "{}/{name}", files.folder.as_str())?;
             let path = path.as_str();
             let ran = self.run_recorded(&files, "", path)?;
-            let refused = format!(in self.alloc; "groundstation: cannot record to {path}\n")?;
+            let refused = format!(in self.alloc;
+                "groundstation: cannot record to {path} ({reason})\n"
+            )?;
             self.leaves(&ran, 1, "", refused.as_str());
             holds(self.rt, ran.record_alarm.is_empty());
         }

@@ -99,6 +99,14 @@ fn badly_given_options_are_refused(rt: HostRuntime) -> Result<(), AllocError> {
             "error: a value is required for '--record <FILE>' but none was supplied\n",
         ),
         (
+            "run --every 5 --record= x",
+            "error: a value is required for '--record <FILE>' but none was supplied\n",
+        ),
+        (
+            "run --every 5 --json= x",
+            "error: a value is required for '--json <DIR>' but none was supplied\n",
+        ),
+        (
             "run --every 5 --reopen=true x",
             "error: unexpected value 'true' for '--reopen' found; no more were expected\n\n\
             Usage: groundstation run --every <MS> --reopen <PATH>...\n",
@@ -201,7 +209,6 @@ fn record_is_the_file_that_is_given(rt: HostRuntime) -> Result<(), WordsFault> {
         ("run --every 5 x y --record f", Some("f")),
         ("run --every 5 x --record=f", Some("f")),
         ("run --every 5 x --record=--every", Some("--every")),
-        ("run --every 5 x --record=", Some("")),
     ] {
         let is_found = match options_of(rt.alloc(), line)? {
             Some(options) => options.record.as_deref() == file,

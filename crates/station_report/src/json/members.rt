@@ -125,10 +125,7 @@ fn push_surface(object: &mut Object, speed: u16, track: Option<u8>)
 fn degrees(track: Option<u8>) -> Option<u16>
     ensures { result ≡ option_map ground_track track }
 {
-    match track {
-        Some(track) => Some(ground_track(track)),
-        None => None,
-    }
+    Some(ground_track(track?))
 }
 
 #[tactic(auto, unfolding(crate::specs::Json::track_member))]

@@ -3,6 +3,6 @@ use Rattle.station_reporter.proofs.displays.Displays.begin.Goals as goal
 
 pub returns : goal.returns
 returns g c = record {
-  table = ap string_bytes c.report_failure.ensures.table ∙ c.in_ok-file_in.ensures;
-  origin = c.report_failure.ensures.origin;
+  table = ap string_bytes c.report_write.ensures.table ∙ c.in_ok-file_in.ensures;
+  origin = c.report_write.ensures.origin;
 }
