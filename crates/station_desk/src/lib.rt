@@ -11,4 +11,4 @@ pub use places::{Opening, Places};
 pub use publish_rule::{LookingPlace, PublishRule, ReaderPlace, SeesPublished};
 pub use published::{Mark, NoOperation, Origin, PublishedTable};
 pub use published_desk::PublishedDesk;
-pub use publisher::{Publisher, give_up};
+pub use publisher::{Publisher, take_apart};

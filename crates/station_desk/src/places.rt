@@ -11,7 +11,7 @@ ghost use Rattle.station_book.specs.JournalBook.{most_aircraft};
 
 use crate::publish_rule::{PublishRule, ReaderPlace};
 use crate::published::{Mark, NoOperation, Origin, PublishedTable};
-use crate::publisher::{Publisher, begin, blank, give_up, new_place};
+use crate::publisher::{Publisher, begin, blank, new_place, take_apart};
 use crossbeam_utils::rule::Protocol;
 use left_right::Absorb;
 use station_history::History;
@@ -60,7 +60,7 @@ impl<const N: usize> Opening<N> {
             history: _,
             publisher,
         } = self;
-        give_up(rt, publisher);
+        take_apart(rt, publisher);
     }
 }
 
@@ -109,7 +109,7 @@ fn with_places<const N: usize, R: Wait>(
     let (mut publisher, mut places) = (publisher, places);
     for _made in 0..count {
         let Ok(place) = new_place(&mut publisher) else {
-            give_up(rt, publisher);
+            take_apart(rt, publisher);
             return Err(AllocError);
         };
         places.push_reserved(place);
@@ -196,6 +196,6 @@ impl<const N: usize> Places<N> {
             publisher,
             places: _,
         } = self;
-        give_up(rt, publisher);
+        take_apart(rt, publisher);
     }
 }

@@ -1,7 +1,7 @@
 //! What is published to readers. There are two copies of it, and the desk changes the one that nobody reads.
 use left_right::Absorb;
 use station_book::Book;
-use station_history::Front;
+use station_history::Beginning;
 use station_journal::Limits;
 use std::alloc::AllocError;
 
@@ -16,14 +16,14 @@ pub struct Origin {
 #[derive(Drop)]
 pub struct PublishedTable<const N: usize> {
     pub book: Book<N>,
-    pub front: Front,
+    pub front: Beginning,
     pub origin: Option<Origin>,
 }
 
 /// What a reader knows of a station. No value of it is made.
 #[derive(Drop)]
 pub struct Mark {
-    pub front: Front,
+    pub front: Beginning,
     pub origin: Origin,
 }
 

@@ -13,7 +13,7 @@ use crate::published::{Mark, NoOperation, Origin, PublishedTable};
 use core::mem::replace_with;
 use left_right::writer::Writer;
 use station_book::{Book, Call, Change};
-use station_history::{Front, History};
+use station_history::{Beginning, History};
 use station_journal::Entry;
 use std::alloc::AllocError;
 use std::sync::Wait;
@@ -31,11 +31,11 @@ pub type Publisher<const N: usize> = Writer<
 #[derive(Drop)]
 pub(crate) struct NextCopy {
     pub missing_change: Option<Change>,
-    pub front: Front,
+    pub front: Beginning,
 }
 
 /// Takes the publishing end apart, once nobody reads.
-pub fn give_up<const N: usize, R: Wait>(rt: &R, publisher: Publisher<N>) {
+pub fn take_apart<const N: usize, R: Wait>(rt: &R, publisher: Publisher<N>) {
     publisher.take(rt);
 }
 
@@ -113,7 +113,7 @@ pub(crate) fn turn_in_place<const N: usize, R: Wait>(
 fn fill<const N: usize>(
     copy: &mut PublishedTable<N>,
     base: u64,
-    front: Front,
+    front: Beginning,
     origin: Origin,
     entries: &[Entry],
 ) -> Result<(), u64>
@@ -135,7 +135,7 @@ fn fill_spare<const N: usize, R: Wait>(
     rt: &R,
     publisher: Publisher<N>,
     base: u64,
-    front: Front,
+    front: Beginning,
     origin: Origin,
     entries: &[Entry],
 ) -> Result<Publisher<N>, u64>
@@ -155,7 +155,7 @@ fn fill_spare<const N: usize, R: Wait>(
     match filled {
         Ok(()) => Ok(publisher),
         Err(place) => {
-            give_up(rt, publisher);
+            take_apart(rt, publisher);
             Err(place)
         }
     }
@@ -199,7 +199,7 @@ pub(crate) fn begin<const N: usize, R: Wait>(
     rt: &R,
     publisher: Publisher<N>,
     base: u64,
-    front: Front,
+    front: Beginning,
     origin: Origin,
     entries: &[Entry],
 ) -> Result<Publisher<N>, u64>
@@ -244,7 +244,7 @@ fn blank_place<const N: usize>(publisher: &Publisher<N>) -> Result<ReaderPlace<N
 }
 
 // Gives a reader place what the publishing end knows.
-fn tell_place<const N: usize>(publisher: &mut Publisher<N>, place: &mut ReaderPlace<N>)
+fn pass_view<const N: usize>(publisher: &mut Publisher<N>, place: &mut ReaderPlace<N>)
     requires table { place.old.place.table_id ≡ publisher.old.desk.place.table_id }
     ensures same { (publisher.new.desk.shown ≡ publisher.old.desk.shown)
         × (publisher.new.desk.spare ≡ publisher.old.desk.spare)
@@ -266,6 +266,6 @@ pub(crate) fn new_place<const N: usize>(
     ensures known { IfOk result (λ place. view place.place ≡ view publisher.old.desk.place) }
 {
     let mut place = blank_place(publisher)?;
-    tell_place(publisher, &mut place);
+    pass_view(publisher, &mut place);
     Ok(place)
 }

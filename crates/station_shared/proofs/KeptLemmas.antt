@@ -1,5 +1,5 @@
 -- Lines that are parsed before the lock of their station is taken, and kept until then.
-use Rattle.std.proofs.Common.{◌≡◌, ℕ, ◌+◌, ◌<◌, List, [], ◌∷◌, ◌++◌, length, take, get_or, Result, Ok, Err, OnOk, refl, sym, ap, ◌∙◌, subst, append-nil, append_assoc, arith}
+use Rattle.std.proofs.Common.{◌≡◌, ℕ, ◌+◌, ◌<◌, List, [], ◌∷◌, ◌++◌, length, take, get_or, Result, Ok, OnOk, refl, sym, ap, ◌∙◌, subst, append-nil, append_assoc, arith}
 use Rattle.std.proofs.lemmas.List.{get_or-map, length-map, map-append, take_more}
 use Rattle.modes_frame.specs.declared.cutter.Cut.{Cut}
 use Rattle.modes_frame.specs.declared.cutter.Cut.TheVariants.{TooLong}
@@ -22,22 +22,6 @@ module _ {X E : Type 0} (Took : X → List Cut → Result (Unit {0}) E → X →
     left = ap (λ l. l ++ item ∷ []) same ∙ ap (λ p. parsed_all before ++ p ∷ []) is ∙ sym (map-append (λ (line : Cut). parsed_of (pump_command line)) before (line ∷ []));
     took = none x;
   }
-
-  -- all that were kept are taken, up to one that stops the taking
-  pub kept-settled : (x y : X) (kept : List ParsedLine) (r : Result (Unit {0}) E) → ((lines : List Cut) → kept ≡ parsed_all lines → TakesFirst Took lines x r y []) → TakesKept Took x kept [] r y []
-  kept-settled x y kept r takes before same = subst (λ (ls : List Cut). TakesFirst Took ls x r y []) (sym (append-nil before)) (takes before same)
-
-  -- a kept line stopped the taking: further lines change nothing
-  pub kept-stopped : (x y : X) (kept after later : List ParsedLine) (stop : E) (lines : List Cut) → TakesKept Took x kept [] (Err stop) y after → TakesKept Took x kept lines (Err stop) y later
-  kept-stopped x y kept after later stop lines stopped before same =
-      let first = stopped before same in
-      record {
-        lines = first.lines;
-        others = first.others ++ lines;
-        parts = ap (λ ls. ls ++ lines) (sym (append-nil before) ∙ first.parts) ∙ append_assoc first.lines first.others lines;
-        left = tt;
-        took = first.took;
-      }
 
   -- ---- all lines of a source
 

@@ -39,7 +39,7 @@ impl<const N: usize, L: StationName> Station<N, L> {
         let Station {
             alloc: _,
             locked,
-            turns: _,
+            releases: _,
             seats: _count,
             flags: _,
         } = self;
@@ -75,7 +75,7 @@ impl<const N: usize, L: StationName> Station<N, L> {
         let Station {
             alloc: _,
             locked,
-            turns: _,
+            releases: _,
             seats: _count,
             flags: _,
         } = self;

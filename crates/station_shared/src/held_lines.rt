@@ -129,10 +129,10 @@ pub(crate) fn take_held<const N: usize, L: StationName, R: Wait>(
     if ahead.is_empty() {
         return Ok(());
     }
-    let mut desk = station.turns.lock(rt, &station.locked);
+    let mut desk = station.releases.lock(rt, &station.locked);
     desk.take_page(page, ahead.len());
     desk.confirm_prefix(seat);
     let taken = take_parsed(rt, &station.flags, &mut *desk, seat, tally, ahead);
-    station.turns.free(desk);
+    station.releases.free(desk);
     taken
 }

@@ -8,12 +8,12 @@ mod held_pump;
 pub mod limits_met;
 pub mod look;
 mod receipt;
+mod releases;
 pub mod seat;
 mod seat_account;
 pub mod seat_feed;
 pub mod station;
 pub mod station_name;
-mod turns;
 pub mod worker;
 
 pub use close::{Closed, Missing};

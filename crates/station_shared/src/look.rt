@@ -14,7 +14,7 @@ use crate::seat_account::SeatAccount;
 use crate::station_name::StationName;
 use crossbeam_utils::rule::Protocol;
 use station_desk::{LookingPlace, Mark, PublishRule, PublishedTable, ReaderPlace, SeesPublished};
-use station_history::Front;
+use station_history::Beginning;
 use station_journal::{Aircraft, PlacedRows, Rows};
 use std::marker::Model;
 
@@ -63,7 +63,7 @@ fn enter<const N: usize>(place: ReaderPlace<N>) -> Result<LookingPlace<N>, Reade
 }
 
 // Whether the published table has fewer entries than `known`. It has no fewer where it was published with all of them.
-fn lacks<const N: usize>(looking: &LookingPlace<N>, known: &Front) -> bool
+fn lacks<const N: usize>(looking: &LookingPlace<N>, known: &Beginning) -> bool
     ensures fewer { IsTrue result
         ↔ (length looking.now.part.value.front.entries < length known.now.entries) }
     ensures seen { (before : Mark) → IsOfSheet (sheet_of looking.now.part.value) before →

@@ -4,13 +4,13 @@ ghost use Rattle.station_journal.specs.Log.{IsLegal};
 ghost use Rattle.station_history.specs.Start.{log_of};
 
 use crate::station_name::StationName;
-use station_history::Front;
+use station_history::Beginning;
 use std::marker::{Model, PhantomData};
 
 /// A promise that an accepted entry is in the journal of its station. Contracts see the journal up to that entry, which
 /// is legal.
 pub struct Receipt<L: StationName> {
-    pub(crate) front: Front,
+    pub(crate) front: Beginning,
     // The station that gave it.
     pub(crate) station: PhantomData<L>,
 }
@@ -31,7 +31,7 @@ impl<L: StationName> Model for Receipt<L> {
 }
 
 impl<L: StationName> Receipt<L> {
-    pub(crate) fn new(front: Front) -> Receipt<L>
+    pub(crate) fn new(front: Beginning) -> Receipt<L>
         requires some { 0 < length front.entries }
         requires history { front.name ≡ L.start.history }
         requires legal { IsLegal (log_of L.start front.entries) }

@@ -70,6 +70,15 @@ impl<const N: usize, L: StationName> Seat<N, L> {
         self.account.set_seen(longer);
     }
 
+    /// Learns from another seat of the same station: from now on it has seen all that the other has.
+    pub fn learn_from(&mut self, other: &Seat<N, L>)
+        ensures told { HasLearned self.old self.new other.now.seen }
+        ensures legal { IsLegal (log_of L.start self.new.seen) }
+    {
+        let longer = self.account.front.longer(&other.account.front);
+        self.account.set_seen(longer);
+    }
+
     /// Takes the seat apart: what it keeps whether it looks or not, and its place among the readers, if it has one.
     pub(crate) fn apart(self) -> (SeatAccount<L>, Option<ReaderPlace<N>>)
         ensures account { seat_over result.0 (is_some result.1) ≡ self }

@@ -6,7 +6,7 @@ ghost use Rattle.station_history.specs.Start.{log_of};
 ghost use Rattle.station_shared.specs.Seats.{count_of_seat, own_entries};
 
 use crate::station_name::StationName;
-use station_history::Front;
+use station_history::Beginning;
 use std::marker::Model;
 use std::sync::ledger::{Book as LedgerBook, Share as LedgerShare};
 
@@ -17,7 +17,7 @@ pub(crate) struct SeatAccount<L: StationName> {
     pub(crate) number: u8,
     pub(crate) accepted: u64,
     pub(crate) share: LedgerShare<L>,
-    pub(crate) front: Front,
+    pub(crate) front: Beginning,
 }
 
 impl<L: StationName> Model for SeatAccount<L> {
@@ -43,7 +43,7 @@ impl<L: StationName> Model for SeatAccount<L> {
 
 impl<L: StationName> SeatAccount<L> {
     /// Sets what was seen of the journal.
-    pub(crate) fn set_seen(&mut self, front: Front)
+    pub(crate) fn set_seen(&mut self, front: Beginning)
         requires history { front.name ≡ L.start.history }
         requires later { IsPrefix self.old.seen front.entries }
         requires legal { IsLegal (log_of L.start front.entries) }
@@ -57,7 +57,7 @@ impl<L: StationName> SeatAccount<L> {
     }
 
     /// Counts an accepted call, in the seat's share and in the total, and sets what was seen of the journal.
-    pub(crate) fn count(&mut self, total: &mut LedgerBook<L>, front: Front)
+    pub(crate) fn count(&mut self, total: &mut LedgerBook<L>, front: Beginning)
         requires room { self.old.accepted + 1 < 2 ^ 64 }
         requires history { front.name ≡ L.start.history }
         requires counted { self.old.accepted + 1 ≤ count_of_seat self.old.number (own_entries L.start front.entries) }
@@ -81,7 +81,7 @@ impl<L: StationName> SeatAccount<L> {
     }
 
     /// Takes it apart: the share, and what was seen.
-    pub(crate) fn into_parts(self) -> (LedgerShare<L>, Front)
+    pub(crate) fn into_parts(self) -> (LedgerShare<L>, Beginning)
         ensures share { (result.0.parts ≡ 1) × (result.0.amount ≡ self.accepted) }
         ensures front { (result.1.name ≡ L.start.history) × (result.1.entries ≡ self.seen) }
         ensures counted { self.accepted ≤ count_of_seat self.number (own_entries L.start self.seen) }

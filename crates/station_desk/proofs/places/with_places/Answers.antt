@@ -24,5 +24,5 @@ drop-places-requires g c κs = search none_within
 pub new_place-requires : goal.new_place-requires
 new_place-requires g c = search
 
-pub give_up-requires : goal.give_up-requires
-give_up-requires g c = search
+pub take_apart-requires : goal.take_apart-requires
+take_apart-requires g c = search

@@ -7,5 +7,5 @@ open-open-requires g c κs outlives = search none_within
 pub fill-filled-requires : goal.fill-filled-requires
 fill-filled-requires g c = (search, search)
 
-pub give_up-requires : goal.give_up-requires
-give_up-requires g c = search
+pub take_apart-requires : goal.take_apart-requires
+take_apart-requires g c = search

@@ -3,5 +3,5 @@ use Rattle.station_desk.proofs.publisher.new_place.Goals as goal
 pub blank_place-requires : goal.blank_place-requires
 blank_place-requires g c = search
 
-pub tell_place-requires : goal.tell_place-requires
-tell_place-requires g c = (search, c.in_ok-place.ensures.table)
+pub pass_view-requires : goal.pass_view-requires
+pass_view-requires g c = (search, c.in_ok-place.ensures.table)

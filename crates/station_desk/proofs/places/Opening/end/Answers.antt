@@ -2,5 +2,5 @@ use Rattle.std.proofs.Common.{arith}
 use Rattle.station_desk.proofs.RoomLemmas.{copy_fits}
 use Rattle.station_desk.proofs.places.Opening.end.Goals as goal
 
-pub give_up-requires : goal.give_up-requires
-give_up-requires g c = copy_fits g.row.N (omega (arith, c.args.self.small))
+pub take_apart-requires : goal.take_apart-requires
+take_apart-requires g c = copy_fits g.row.N (omega (arith, c.args.self.small))

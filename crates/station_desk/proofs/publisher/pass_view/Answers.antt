@@ -1,7 +1,7 @@
 use Rattle.std.proofs.Common.{rules}
 use Rattle.station_desk.specs.Published.{sheet_of}
 use Rattle.station_desk.proofs.PublishRuleLemmas.{forks, merges}
-use Rattle.station_desk.proofs.publisher.tell_place.Goals as goal
+use Rattle.station_desk.proofs.publisher.pass_view.Goals as goal
 
 pub tell-requires : goal.tell-requires
 tell-requires g c = forks _ (λ x. sheet_of x) _ _

@@ -1,5 +1,5 @@
 use Rattle.station_desk.proofs.RoomLemmas.{none_within}
-use Rattle.station_desk.proofs.publisher.give_up.Goals as goal
+use Rattle.station_desk.proofs.publisher.take_apart.Goals as goal
 
 pub take-requires : goal.take-requires
 take-requires g c κs outlives = search none_within

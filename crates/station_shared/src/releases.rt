@@ -14,13 +14,13 @@ const MOST_SLEEPS: u32 = 4096;
 
 /// How often receivers have freed the lock.
 #[derive(Drop)]
-pub(crate) struct Turns {
+pub(crate) struct Releases {
     freed: AtomicU64,
 }
 
-impl Turns {
+impl Releases {
     pub(crate) fn new() -> Self {
-        Turns {
+        Releases {
             freed: AtomicU64::new(0),
         }
     }
