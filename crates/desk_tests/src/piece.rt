@@ -52,7 +52,7 @@ impl LineTaker for Lengths {
     ghost then = { λ _ _ _ _ _ _ _ _. tt };
 }
 
-// The source ends so in this many turns, with so many lines before each settling.
+// The source ends so in this many turns, with n lines before each settling.
 fn gathers<S: Source>(rt: &impl Abort, from: &mut S, turns: u32, end: Ended<()>, pieces: &[usize]) {
     let mut taker = Lengths {
         count: 0,

@@ -172,8 +172,8 @@ impl<const N: usize> Table<N> {
         requires room { length self.old < N }
         ensures { self.new ≡ put_track track.now self.old }
     {
-        lower(&mut self.oldest, track.heard);
-        self.addresses.insert(rank, track.address);
+        lower(&mut self.oldest, track.heard());
+        self.addresses.insert(rank, track.address());
         self.tracks.insert(rank, *track);
     }
 
@@ -200,14 +200,15 @@ impl<const N: usize> Table<N> {
     fn put(&mut self, track: &Track)
         ensures { self.new ≡ with_track N (Some track.now) self.old }
     {
-        let place = self.locate(track.address);
+        let place = self.locate(track.address());
         if place.is_err() && self.is_full() {
             return;
         }
         match place {
             Ok(rank) => {
-                lower(&mut self.oldest, track.heard);
-                self.tracks[rank] = *track;
+                lower(&mut self.oldest, track.heard());
+                let kept = &mut self.tracks[rank];
+                kept.copy_from(track);
             }
             Err(rank) => self.insert(rank, track),
         }
@@ -255,7 +256,7 @@ fn rank_of(addresses: &[u32], address: u32) -> usize
 fn retain_recent<const N: usize>(tracks: &mut ArrayVec<Track, N>, now: u64)
     ensures { tracks.new.items ≡ tracks_left now tracks.old.items }
 {
-    tracks.retain(|track| now.saturating_sub(track.heard) <= LIFE_MS);
+    tracks.retain(|track| now.saturating_sub(track.heard()) <= LIFE_MS);
 }
 
 // Sets the addresses to those of the tracks.
@@ -265,7 +266,7 @@ fn set_addresses<const N: usize>(addresses: &mut ArrayVec<u32, N>, tracks: &[Tra
 {
     addresses.clear();
     for track in tracks {
-        addresses.push(track.address);
+        addresses.push(track.address());
     }
 }
 
@@ -275,7 +276,7 @@ fn oldest_of(tracks: &[Track]) -> u64
 {
     let mut oldest = u64::MAX;
     for track in tracks {
-        oldest = oldest.min(track.heard);
+        oldest = oldest.min(track.heard());
     }
     oldest
 }

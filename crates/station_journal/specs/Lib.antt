@@ -9,6 +9,8 @@ pub mod Verdict
 pub mod FullLimit
 pub mod Log
 pub mod Follow
+pub mod Known
+pub mod Halves
 pub mod Track
 pub mod Found
 pub mod Looked

@@ -12,14 +12,8 @@ pub fn fresh<T: Copy>(limit: u64, now: u64, kept: Option<Stamped<T>>) -> Option<
     ensures { result ≡ fresh limit now kept }
 {
     match kept {
-        Some(kept) => {
-            if now.saturating_sub(kept.at) <= limit {
-                Some(kept.value)
-            } else {
-                None
-            }
-        }
-        None => None,
+        Some(kept) if now.saturating_sub(kept.at) <= limit => Some(kept.value),
+        _ => None,
     }
 }
 
@@ -47,17 +41,10 @@ pub fn with_parity(odd: bool, spot: Option<Spot>) -> Option<Spot>
 fn fix_of(site: Option<Reference>, even: Spot, odd: Spot, newest_odd: bool) -> Option<Position>
     ensures { result ≡ fix_of site even odd newest_odd }
 {
-    if even.surface {
-        if odd.surface {
-            let reference = site?;
-            surface_pair(even.place(), odd.place(), newest_odd, reference)
-        } else {
-            None
-        }
-    } else if odd.surface {
-        None
-    } else {
-        pair(even.place(), odd.place(), newest_odd)
+    match (even.surface, odd.surface) {
+        (true, true) => surface_pair(even.place(), odd.place(), newest_odd, site?),
+        (false, false) => pair(even.place(), odd.place(), newest_odd),
+        _ => None,
     }
 }
 
@@ -65,15 +52,11 @@ fn fix_of(site: Option<Reference>, even: Spot, odd: Spot, newest_odd: bool) -> O
 pub fn pair_with(site: Option<Reference>, spot: Spot, other: Option<Spot>) -> Option<Position>
     ensures { result ≡ pair_with site spot other }
 {
-    match other {
-        Some(other) => {
-            if spot.odd {
-                fix_of(site, other, spot, true)
-            } else {
-                fix_of(site, spot, other, false)
-            }
-        }
-        None => None,
+    let other = other?;
+    if spot.odd {
+        fix_of(site, other, spot, true)
+    } else {
+        fix_of(site, spot, other, false)
     }
 }
 
@@ -88,14 +71,10 @@ pub fn fix_from(
 ) -> Option<Position>
     ensures { result ≡ fix_from site now even odd spot }
 {
-    match spot {
-        Some(spot) => {
-            if spot.odd {
-                pair_with(site, spot, fresh(PAIR_MS, now, even))
-            } else {
-                pair_with(site, spot, fresh(PAIR_MS, now, odd))
-            }
-        }
-        None => None,
+    let spot = spot?;
+    if spot.odd {
+        pair_with(site, spot, fresh(PAIR_MS, now, even))
+    } else {
+        pair_with(site, spot, fresh(PAIR_MS, now, odd))
     }
 }

@@ -18,10 +18,8 @@ impl Rate {
     pub fn of(feet: Option<i32>, source: Option<RateSource>) -> Option<Self>
         ensures { result ≡ rate_with source feet }
     {
-        match feet {
-            Some(feet) => Some(Rate { feet, source }),
-            None => None,
-        }
+        let feet = feet?;
+        Some(Rate { feet, source })
     }
 }
 
@@ -29,18 +27,12 @@ impl Rate {
 pub fn feet_in(rate: Option<Rate>) -> Option<i32>
     ensures { result ≡ feet_in rate }
 {
-    match rate {
-        Some(rate) => Some(rate.feet),
-        None => None,
-    }
+    Some(rate?.feet)
 }
 
 /// What measured a rate, if there is one.
 pub fn source_in(rate: Option<Rate>) -> Option<RateSource>
     ensures { result ≡ source_in rate }
 {
-    match rate {
-        Some(rate) => rate.source,
-        None => None,
-    }
+    rate?.source
 }

@@ -12,49 +12,103 @@ use modes_cpr::{Position, Reference};
 use modes_fields::readers::carried;
 use modes_fields::{Callsign, Carried, Category, Emergency, Squawk, Surface, Velocity};
 use modes_frame::Frame;
+use std::marker::Model;
 use std::mem::size_of;
 
 /// What is known of an aircraft: the newest value of each field, the newest even and odd places, and the newest
-/// position.
+/// position. Contracts see it as one record.
 #[derive(Clone, Copy, Default)]
 pub struct Track {
-    pub address: u32,
-    /// The time of its newest frame.
-    pub heard: u64,
-    pub callsign: Latest<Callsign>,
-    pub category: Latest<Category>,
-    pub altitude: Latest<i32>,
-    pub squawk: Latest<Squawk>,
-    pub emergency: Latest<Emergency>,
-    pub velocity: Latest<Velocity>,
-    pub rate: LatestRate,
-    pub on_ground: Latest<bool>,
-    pub even: Latest<Spot>,
-    pub odd: Latest<Spot>,
-    pub position: Latest<Position>,
+    readings: Readings,
+    course: Course,
 }
 
-// A copy of a table gets a whole track after each frame.
-const _: () = prove!(size_of::<Track>() <= 256);
+// A copy of a table gets a whole track after each frame. Up to 128 bytes are copied without a call, so a track has two
+// halves.
+#[derive(Clone, Copy, Default)]
+struct Readings {
+    address: u32,
+    callsign: Latest<Callsign>,
+    category: Latest<Category>,
+    altitude: Latest<i32>,
+    squawk: Latest<Squawk>,
+    emergency: Latest<Emergency>,
+    rate: LatestRate,
+    on_ground: Latest<bool>,
+}
+
+#[derive(Clone, Copy, Default)]
+struct Course {
+    // The time of the newest frame.
+    heard: u64,
+    velocity: Latest<Velocity>,
+    even: Latest<Spot>,
+    odd: Latest<Spot>,
+    position: Latest<Position>,
+}
+
+const _: () = prove!(size_of::<Readings>() <= 128);
+
+const _: () = prove!(size_of::<Course>() <= 128);
+
+impl Model for Track {
+    ghost use Rattle.station_journal.specs.Known.{Known};
+
+    ghost Value = { Known };
+
+    ghost use Rattle.station_journal.specs.Halves.{known_in, halves_of};
+
+    ghost view = { known_in };
+
+    ghost inverse = { halves_of };
+}
+
+impl Track {
+    /// The address of the aircraft, below 2^24.
+    pub fn address(&self) -> u32
+        ensures { result ≡ self.now.address }
+    {
+        self.readings.address
+    }
+
+    /// The time of its newest frame.
+    pub fn heard(&self) -> u64
+        ensures { result ≡ self.now.heard }
+    {
+        self.course.heard
+    }
+
+    /// Becomes a copy of another track.
+    pub fn copy_from(&mut self, other: &Track)
+        ensures { self.new ≡ other.now }
+    {
+        self.readings = other.readings;
+        self.course = other.course;
+    }
+}
 
 /// A track of which nothing is known yet.
 pub fn blank(address: u32) -> Track
     ensures { result ≡ blank address }
 {
     Track {
-        address,
-        heard: 0,
-        callsign: Latest::nothing(),
-        category: Latest::nothing(),
-        altitude: Latest::nothing(),
-        squawk: Latest::nothing(),
-        emergency: Latest::nothing(),
-        velocity: Latest::nothing(),
-        rate: LatestRate::nothing(),
-        on_ground: Latest::nothing(),
-        even: Latest::nothing(),
-        odd: Latest::nothing(),
-        position: Latest::nothing(),
+        readings: Readings {
+            address,
+            callsign: Latest::nothing(),
+            category: Latest::nothing(),
+            altitude: Latest::nothing(),
+            squawk: Latest::nothing(),
+            emergency: Latest::nothing(),
+            rate: LatestRate::nothing(),
+            on_ground: Latest::nothing(),
+        },
+        course: Course {
+            heard: 0,
+            velocity: Latest::nothing(),
+            even: Latest::nothing(),
+            odd: Latest::nothing(),
+            position: Latest::nothing(),
+        },
     }
 }
 
@@ -66,15 +120,15 @@ fn keep_spot(track: &mut Track, site: Option<Reference>, now: u64, spot: Spot)
     let position = fix_from(
         site,
         now,
-        track.even.stamped(),
-        track.odd.stamped(),
+        track.course.even.stamped(),
+        track.course.odd.stamped(),
         Some(spot),
     );
-    track.even.keep(now, with_parity(false, Some(spot)));
-    track.odd.keep(now, with_parity(true, Some(spot)));
-    track.position.keep(now, position);
+    track.course.even.keep(now, with_parity(false, Some(spot)));
+    track.course.odd.keep(now, with_parity(true, Some(spot)));
+    track.course.position.keep(now, position);
     if site.is_some() {
-        track.on_ground.keep(now, Some(spot.surface));
+        track.readings.on_ground.keep(now, Some(spot.surface));
     }
 }
 
@@ -87,11 +141,12 @@ pub fn update(track: &mut Track, site: Option<Reference>, now: u64, frame: &Fram
 }
 
 // Updates the track by a surface position, where there is a site.
+#[inline(never)]
 fn keep_surface(track: &mut Track, site: Option<Reference>, now: u64, surface: Surface)
     ensures { track.new ≡ with_surface site now surface track.old }
 {
     if site.is_some() {
-        track.velocity.keep(now, surface.velocity);
+        track.course.velocity.keep(now, surface.velocity);
         keep_spot(track, site, now, Spot::new(true, surface.place));
     }
 }
@@ -101,18 +156,18 @@ fn keep_surface(track: &mut Track, site: Option<Reference>, now: u64, surface: S
 fn take(track: &mut Track, site: Option<Reference>, now: u64, carried: Carried)
     ensures { track.new ≡ updated_track site now (fields_by carried) track.old }
 {
-    track.heard = now;
+    track.course.heard = now;
     match carried {
         Carried::Nothing => {}
-        Carried::Altitude(altitude) => track.altitude.keep(now, altitude),
-        Carried::Squawk(squawk) => track.squawk.keep(now, Some(squawk)),
+        Carried::Altitude(altitude) => track.readings.altitude.keep(now, altitude),
+        Carried::Squawk(squawk) => track.readings.squawk.keep(now, Some(squawk)),
         Carried::Identification { callsign, category } => {
-            track.callsign.keep(now, callsign);
-            track.category.keep(now, category);
+            track.readings.callsign.keep(now, callsign);
+            track.readings.category.keep(now, category);
         }
         Carried::SurfacePosition(position) => keep_surface(track, site, now, position),
         Carried::AirbornePosition { altitude, place } => {
-            track.altitude.keep(now, altitude);
+            track.readings.altitude.keep(now, altitude);
             keep_spot(track, site, now, Spot::new(false, place));
         }
         Carried::GnssPosition(place) => keep_spot(track, site, now, Spot::new(false, place)),
@@ -121,10 +176,11 @@ fn take(track: &mut Track, site: Option<Reference>, now: u64, carried: Carried)
             vertical,
             rate_source,
         } => {
-            track.velocity.keep(now, velocity);
-            track.rate.keep(now, Rate::of(vertical, rate_source));
+            track.course.velocity.keep(now, velocity);
+            let rate = Rate::of(vertical, rate_source);
+            track.readings.rate.keep(now, rate);
         }
-        Carried::AircraftStatus(emergency) => track.emergency.keep(now, emergency),
+        Carried::AircraftStatus(emergency) => track.readings.emergency.keep(now, emergency),
     }
 }
 
@@ -132,26 +188,26 @@ fn take(track: &mut Track, site: Option<Reference>, now: u64, carried: Carried)
 pub fn track_placed(now: u64, track: &Track) -> Option<u64>
     ensures { result ≡ track_placed now track.now }
 {
-    fresh_moment(LIFE_MS, now, track.position.stamped())
+    fresh_moment(LIFE_MS, now, track.course.position.stamped())
 }
 
 /// The row that the track shows.
 pub fn track_row(now: u64, track: &Track) -> Aircraft
     ensures { result ≡ track_row now track.now }
 {
-    let rate = fresh(LIFE_MS, now, track.rate.stamped());
+    let rate = fresh(LIFE_MS, now, track.readings.rate.stamped());
     Aircraft {
-        address: track.address,
-        callsign: fresh(LIFE_MS, now, track.callsign.stamped()),
-        category: fresh(LIFE_MS, now, track.category.stamped()),
-        altitude: fresh(LIFE_MS, now, track.altitude.stamped()),
-        squawk: fresh(LIFE_MS, now, track.squawk.stamped()),
-        emergency: fresh(LIFE_MS, now, track.emergency.stamped()),
-        velocity: fresh(LIFE_MS, now, track.velocity.stamped()),
+        address: track.readings.address,
+        callsign: fresh(LIFE_MS, now, track.readings.callsign.stamped()),
+        category: fresh(LIFE_MS, now, track.readings.category.stamped()),
+        altitude: fresh(LIFE_MS, now, track.readings.altitude.stamped()),
+        squawk: fresh(LIFE_MS, now, track.readings.squawk.stamped()),
+        emergency: fresh(LIFE_MS, now, track.readings.emergency.stamped()),
+        velocity: fresh(LIFE_MS, now, track.course.velocity.stamped()),
         vertical: feet_in(rate),
         rate_source: source_in(rate),
-        on_ground: fresh(LIFE_MS, now, track.on_ground.stamped()),
-        position: fresh(LIFE_MS, now, track.position.stamped()),
-        heard: track.heard,
+        on_ground: fresh(LIFE_MS, now, track.readings.on_ground.stamped()),
+        position: fresh(LIFE_MS, now, track.course.position.stamped()),
+        heard: track.course.heard,
     }
 }

@@ -240,7 +240,7 @@ module _ {X E : Type 0} (Took : X → List Cut → Result (Unit {0}) E → X →
       given = so_far.given;
       left_out = [];
       bytes = so_far.bytes;
-      front = last.all_told ∙ ap (λ ls. ls ++ last.lines) taken_so_far ∙ sym (append-nil _);
+      front = last.all_given ∙ ap (λ ls. ls ++ last.lines) taken_so_far ∙ sym (append-nil _);
       ends = ends;
       failures = rw read_well so_far.failures;
       reads = (before, within, so_far.reads, so_far.asked);

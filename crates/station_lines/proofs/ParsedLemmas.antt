@@ -45,37 +45,24 @@ parsed-plain false line frame h = ap (λ said_so. parsed_of (of_line said_so)) (
 -- ---- what was parsed
 
 pub parsed_frame : (r : Result Command CommandFault) (frame : List ℕ) → parsed.Frame frame ≡ parsed_of r → r ≡ Ok (Received (Frame frame))
-parsed_frame (Ok (Tick at)) frame e = cc
-parsed_frame (Ok Show) frame e = cc
 parsed_frame (Ok (Received (Frame f))) frame e = cc
-parsed_frame (Ok (Received ModeAc)) frame e = cc
-parsed_frame (Ok (Received Blank)) frame e = cc
-parsed_frame (Err fault) frame e = cc
+parsed_frame _ frame e = cc
 
 pub parsed_tick : (r : Result Command CommandFault) (at : ℕ) → parsed.Tick at ≡ parsed_of r → r ≡ Ok (Tick at)
-parsed_tick (Ok (Tick t)) at e = cc
-parsed_tick (Ok Show) at e = cc
 parsed_tick (Ok (Received (Frame f))) at e = cc
-parsed_tick (Ok (Received ModeAc)) at e = cc
-parsed_tick (Ok (Received Blank)) at e = cc
-parsed_tick (Err fault) at e = cc
+parsed_tick _ at e = cc
 
 pub parsed_show : (r : Result Command CommandFault) → parsed.Show ≡ parsed_of r → r ≡ Ok Show
-parsed_show (Ok (Tick t)) e = cc
 parsed_show (Ok Show) e = refl
 parsed_show (Ok (Received (Frame f))) e = cc
-parsed_show (Ok (Received ModeAc)) e = cc
-parsed_show (Ok (Received Blank)) e = cc
-parsed_show (Err fault) e = cc
+parsed_show _ e = cc
 
 -- neither a frame, nor a Mode A/C reply, nor blanks
 abbrev is_other : ParsedLine → Bool
-is_other (parsed.Frame frame) = false
 is_other (parsed.Tick at) = true
 is_other parsed.Show = true
-is_other parsed.ModeAc = false
-is_other parsed.Blank = false
 is_other parsed.Fault = true
+is_other _ = false
 
 -- a line that says nothing to a pump
 pub record IsQuiet (r : Result Command CommandFault) : Type 0 where
@@ -85,17 +72,15 @@ pub record IsQuiet (r : Result Command CommandFault) : Type 0 where
   pub blanks : is_blank_line r ≡ false
 
 parsed_other : (r : Result Command CommandFault) → is_other (parsed_of r) ≡ true → IsQuiet r
-parsed_other (Ok (Tick at)) e = record { no_frame = refl; frames = refl; mode_acs = refl; blanks = refl }
-parsed_other (Ok Show) e = record { no_frame = refl; frames = refl; mode_acs = refl; blanks = refl }
 parsed_other (Ok (Received (Frame f))) e = absurd (cc)
 parsed_other (Ok (Received ModeAc)) e = absurd (cc)
 parsed_other (Ok (Received Blank)) e = absurd (cc)
-parsed_other (Err fault) e = record { no_frame = refl; frames = refl; mode_acs = refl; blanks = refl }
+parsed_other _ e = record { no_frame = refl; frames = refl; mode_acs = refl; blanks = refl }
 
-told_other : (p : ParsedLine) → ((at : ℕ) × (p ≡ parsed.Tick at)) ⊎ ((p ≡ parsed.Show) ⊎ (p ≡ parsed.Fault)) → is_other p ≡ true
-told_other p (inl tick) = ap is_other tick.1
-told_other p (inr (inl show)) = ap is_other show
-told_other p (inr (inr fault)) = ap is_other fault
+said_other : (p : ParsedLine) → ((at : ℕ) × (p ≡ parsed.Tick at)) ⊎ ((p ≡ parsed.Show) ⊎ (p ≡ parsed.Fault)) → is_other p ≡ true
+said_other p (inl tick) = ap is_other tick.1
+said_other p (inr (inl show)) = ap is_other show
+said_other p (inr (inr fault)) = ap is_other fault
 
 pub parsed_quiet : (p : ParsedLine) (r : Result Command CommandFault) → p ≡ parsed_of r → ((at : ℕ) × (p ≡ parsed.Tick at)) ⊎ ((p ≡ parsed.Show) ⊎ (p ≡ parsed.Fault)) → IsQuiet r
-parsed_quiet p r e other = parsed_other r (ap is_other (sym e) ∙ told_other p other)
+parsed_quiet p r e other = parsed_other r (ap is_other (sym e) ∙ said_other p other)

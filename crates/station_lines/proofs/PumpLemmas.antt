@@ -4,11 +4,11 @@ use Rattle.std.specs.declared.alloc.AllocError.{AllocError}
 use Rattle.modes_frame.specs.declared.cutter.Cut.{Cut}
 use Rattle.modes_frame.specs.declared.cutter.Cut.TheVariants.{Whole, TooLong}
 use Rattle.modes_frame.specs.declared.line.Line.{Line}
-use Rattle.modes_frame.specs.declared.line.Line.TheVariants.{Frame, ModeAc, Blank}
+use Rattle.modes_frame.specs.declared.line.Line.TheVariants.{Frame}
 use Rattle.modes_frame.specs.declared.line.LineFault.{LineFault}
 use Rattle.modes_frame.specs.Reading.{reading_of}
 use Rattle.station_journal.specs.declared.refusal.Refusal.{Refusal}
-use Rattle.station_journal.specs.declared.refusal.Refusal.TheVariants.{Unsupported, BadParity, Unassigned, Unknown, JournalFull, BookFull, NoMemory, NotLater, Repeated}
+use Rattle.station_journal.specs.declared.refusal.Refusal.TheVariants.{NoMemory}
 use Rattle.station_lines.proofs.Common.{pump_command, heard_line, of_line, Counts, CountsNoCall, is_tick, is_show, Taken, ending_as, stopped_as, is_reply, Wants, Pumping, Pumps, PumpsFrame, PumpsAll, pump_answer, tally_of_pump, want_of, pump_ending, Tally}
 use Rattle.streams.proofs.Common.{SourceState}
 use Rattle.station_lines.specs.declared.command.Command.TheVariants.{Line as Received}
@@ -27,16 +27,8 @@ module _ {F : Type 0} (gives : F → List ℕ → Result (Unit {0}) Refusal → 
   one_want line frame answer false is asks same = record { front = []; last = line; frame = frame; replies = []; parts = refl; asks = asks; told = want answer is; others = refl }
     where
       want : (answer : Result (Unit {0}) Refusal) → is_reply answer ≡ false → answer ∷ [] ≡ Err NoMemory ∷ []
-      want (Ok taken) e = cc
-      want (Err (Unsupported df)) e = cc
-      want (Err (BadParity remainder)) e = cc
-      want (Err (Unassigned address)) e = cc
-      want (Err (Unknown address)) e = cc
-      want (Err JournalFull) e = cc
-      want (Err BookFull) e = cc
       want (Err NoMemory) e = refl
-      want (Err (NotLater now)) e = cc
-      want (Err Repeated) e = cc
+      want _ e = cc
 
   pub Pumps-frame : (line : Cut) (frame : List ℕ) (before after : F) (s t : Tally) (r : Result (Unit {0}) AllocError) → PumpsFrame gives before after frame s t r → pump_command line ≡ Ok (Received (Frame frame))
       → Pumps gives (record { feed = before; tally = s }) (line ∷ []) r (record { feed = after; tally = t })
@@ -59,15 +51,11 @@ module _ {F : Type 0} (gives : F → List ℕ → Result (Unit {0}) Refusal → 
 
 of_line_tick : (r : Result Line LineFault) → is_tick (of_line r) ≡ false
 of_line_tick (Ok (Frame frame)) = refl
-of_line_tick (Ok ModeAc) = refl
-of_line_tick (Ok Blank) = refl
-of_line_tick (Err fault) = refl
+of_line_tick _ = refl
 
 of_line_show : (r : Result Line LineFault) → is_show (of_line r) ≡ false
 of_line_show (Ok (Frame frame)) = refl
-of_line_show (Ok ModeAc) = refl
-of_line_show (Ok Blank) = refl
-of_line_show (Err fault) = refl
+of_line_show _ = refl
 
 pub no_tick : (line : Cut) → is_tick (pump_command line) ≡ false
 unfolding heard_line

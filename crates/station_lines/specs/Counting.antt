@@ -1,5 +1,5 @@
 -- The kinds of lines, and what a tally counts of each.
-use Rattle.std.specs.Prelude.{◌≡◌, ℕ, ◌+◌, Bool, true, false, List, Result, Ok, Err, length, count_by, if◌then◌else◌}
+use Rattle.std.specs.Prelude.{◌≡◌, ℕ, ◌+◌, Bool, true, false, List, Result, Ok, length, count_by, if◌then◌else◌}
 use Rattle.modes_frame.specs.declared.cutter.Cut.{Cut}
 use Rattle.modes_frame.specs.declared.line.Line.TheVariants.{Frame, ModeAc, Blank}
 use Rattle.station_lines.specs.declared.command.Command.{Command}
@@ -9,48 +9,28 @@ use Rattle.station_lines.specs.declared.tally.Tally.{Tally}
 
 -- the line has a frame of 56 or 112 bits
 abbrev pub is_frame : Result Command CommandFault → Bool
-is_frame (Ok (Tick at)) = false
-is_frame (Ok Show) = false
 is_frame (Ok (Received (Frame frame))) = true
-is_frame (Ok (Received ModeAc)) = false
-is_frame (Ok (Received Blank)) = false
-is_frame (Err fault) = false
+is_frame _ = false
 
 -- the line is a tick
 abbrev pub is_tick : Result Command CommandFault → Bool
 is_tick (Ok (Tick at)) = true
-is_tick (Ok Show) = false
-is_tick (Ok (Received (Frame frame))) = false
-is_tick (Ok (Received ModeAc)) = false
-is_tick (Ok (Received Blank)) = false
-is_tick (Err fault) = false
+is_tick _ = false
 
 -- the line asks for the table
 abbrev pub is_show : Result Command CommandFault → Bool
-is_show (Ok (Tick at)) = false
 is_show (Ok Show) = true
-is_show (Ok (Received (Frame frame))) = false
-is_show (Ok (Received ModeAc)) = false
-is_show (Ok (Received Blank)) = false
-is_show (Err fault) = false
+is_show _ = false
 
 -- the line is a Mode A/C reply or a heartbeat
 abbrev pub is_mode_ac : Result Command CommandFault → Bool
-is_mode_ac (Ok (Tick at)) = false
-is_mode_ac (Ok Show) = false
-is_mode_ac (Ok (Received (Frame frame))) = false
 is_mode_ac (Ok (Received ModeAc)) = true
-is_mode_ac (Ok (Received Blank)) = false
-is_mode_ac (Err fault) = false
+is_mode_ac _ = false
 
 -- the line is of blanks alone
 abbrev pub is_blank_line : Result Command CommandFault → Bool
-is_blank_line (Ok (Tick at)) = false
-is_blank_line (Ok Show) = false
-is_blank_line (Ok (Received (Frame frame))) = false
-is_blank_line (Ok (Received ModeAc)) = false
 is_blank_line (Ok (Received Blank)) = true
-is_blank_line (Err fault) = false
+is_blank_line _ = false
 
 -- the lines, read by `read`, are counted by their kinds, on top of the old counts; the others are faults
 pub record CountsLines (read : Cut → Result Command CommandFault) (old new : Tally) (lines : List Cut) : Type 0 where

@@ -68,10 +68,8 @@ EndsAs given lines left_out turns old new LineStopped = Unit {0}
 
 -- a failed read ended the call
 abbrev pub is_read_failed : Ending → Bool
-is_read_failed AtEnd = false
 is_read_failed ReadFailed = true
-is_read_failed TurnsOver = false
-is_read_failed LineStopped = false
+is_read_failed _ = false
 
 -- the bytes that the reads of a call gave, and the lines taken of them: a prefix of all lines
 pub record Draws (old new : SourceState) (turns : ℕ) (ending : Ending) (lines : List Cut) : Type 0 where
@@ -106,7 +104,7 @@ TakesBytes Took before bytes held x y (Err stop) = StopsWithin Took before bytes
 -- the last line, without its line feed, where it isn't empty
 pub record TakesLast {X E : Type 0} (Took : X → List Cut → Result (Unit {0}) E → X → Type 0) (before : List ℕ) (x y : X) (result : Result (Unit {0}) E) : Type 0 where
   pub lines : List Cut
-  pub all_told : cuts before ≡ ended_cuts before ++ lines
+  pub all_given : cuts before ≡ ended_cuts before ++ lines
   pub took : Took x lines result y
 
 -- all lines that a call took, as Took says, of the bytes that its source gave
@@ -124,10 +122,8 @@ ending_as (Ends.Stopped stop) = LineStopped
 
 -- whether a line stopped the call, by its answer
 abbrev pub stopped_as : {E : Type 0} → Ended E → Result (Unit {0}) E
-stopped_as Ends.AtEnd = Ok tt
-stopped_as Ends.ReadFailed = Ok tt
-stopped_as Ends.TurnsOver = Ok tt
 stopped_as (Ends.Stopped stop) = Err stop
+stopped_as _ = Ok tt
 
 -- why a call ended whose source reached its end, by the answer to its last line
 abbrev pub ended_by : {E : Type 0} → Result (Unit {0}) E → Ended E

@@ -1,7 +1,7 @@
 -- Frames fed one after another.
-use Rattle.std.specs.Prelude.{◌≡◌, ℕ, Bool, true, false, List, [], ◌∷◌, Result, Ok, Err}
+use Rattle.std.specs.Prelude.{◌≡◌, ℕ, Bool, true, false, List, [], ◌∷◌, Result, Err}
 use Rattle.station_journal.specs.declared.refusal.Refusal.{Refusal}
-use Rattle.station_journal.specs.declared.refusal.Refusal.TheVariants.{Unsupported, BadParity, Unassigned, Unknown, JournalFull, BookFull, NoMemory, NotLater, Repeated}
+use Rattle.station_journal.specs.declared.refusal.Refusal.TheVariants.{NoMemory}
 
 -- the steps of a feed for these frames, in order, with these answers, and no other step
 abbrev pub Feeds : {F : Type 0} → (F → List ℕ → Result (Unit {0}) Refusal → F → Type 0) → F → List (List ℕ) → List (Result (Unit {0}) Refusal) → F → Type 0
@@ -12,13 +12,5 @@ Feeds {F} gives x (frame ∷ frames) (answer ∷ answers) y = (z : F) × gives x
 
 -- any answer but out of memory
 abbrev pub is_reply : Result (Unit {0}) Refusal → Bool
-is_reply (Ok taken) = true
-is_reply (Err (Unsupported df)) = true
-is_reply (Err (BadParity remainder)) = true
-is_reply (Err (Unassigned address)) = true
-is_reply (Err (Unknown address)) = true
-is_reply (Err JournalFull) = true
-is_reply (Err BookFull) = true
 is_reply (Err NoMemory) = false
-is_reply (Err (NotLater now)) = true
-is_reply (Err Repeated) = true
+is_reply _ = true

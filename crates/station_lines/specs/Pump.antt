@@ -76,10 +76,8 @@ tally_of_pump (Err (Faults.NoMemory tally)) = tally
 
 -- whether the pump was out of memory, by its answer
 abbrev pub want_of : Result Tally PumpFault → Result (Unit {0}) AllocError
-want_of (Ok tally) = Ok tt
-want_of (Err (Faults.Read tally)) = Ok tt
-want_of (Err (Faults.TooManyTurns tally)) = Ok tt
 want_of (Err (Faults.NoMemory tally)) = Err alloc_error
+want_of _ = Ok tt
 
 -- why no further line was taken, by the pump's answer
 abbrev pub pump_ending : Result Tally PumpFault → Ending

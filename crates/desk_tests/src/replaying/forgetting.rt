@@ -12,7 +12,7 @@ use station_replay::{
 use std::sync::Wait;
 use streams::Sink;
 
-// Replays lines by a desk that forgets once it has so many entries. Gives its journal too.
+// Replays lines by a desk that forgets once it has n entries. Gives its journal too.
 pub(super) fn replayed<const N: usize, S: Sink, O: LimitObserver, R: Wait>(
     rt: &R,
     mut desk: Desk<N>,

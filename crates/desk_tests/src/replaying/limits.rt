@@ -60,7 +60,7 @@ impl<'a> Sink for Watching<'a> {
 // What a replay answers, how often it met a full journal and a full table, and how many limits it had met at each flush.
 type Observed = (Result<Tally, ReplayFault>, (u64, u64), ArrayVec<u64, 8>);
 
-// Replays lines by a desk that forgets once it has so many entries.
+// Replays lines by a desk that forgets once it has n entries.
 fn observed<const N: usize, R: Wait>(rt: &R, desk: Desk<N>, most: u64, lines: &str) -> Observed {
     let count = AtomicU64::new(0);
     let mut noted = Noted {

@@ -29,16 +29,11 @@ fn looked_next(frame: &Frame, looked: Looked, entry: &Entry) -> Looked
         Entry::Heard {
             seat: _,
             frame: other,
-        } => {
-            if looked.count < MOST_LOOKED_AT {
-                Looked {
-                    count: looked.count + 1,
-                    same: looked.same || frame.bytes() == other.bytes(),
-                }
-            } else {
-                looked
-            }
-        }
+        } if looked.count < MOST_LOOKED_AT => Looked {
+            count: looked.count + 1,
+            same: looked.same || frame.bytes() == other.bytes(),
+        },
+        Entry::Heard { seat: _, frame: _ } => looked,
     }
 }
 

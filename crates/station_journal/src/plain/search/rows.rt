@@ -16,8 +16,8 @@ fn lowered(best: Option<u32>, address: u32) -> Option<u32>
     ensures { result ≡ lower_of best address }
 {
     match best {
-        Some(b) => { if address < b { Some(address) } else { Some(b) } }
-        None => Some(address),
+        Some(b) if b <= address => Some(b),
+        _ => Some(address),
     }
 }
 
@@ -37,14 +37,10 @@ fn best_after(
     match entry {
         Entry::Tick { seat: _, at: _ } => best,
         Entry::Heard { seat: _, frame } => match claim(frame) {
-            Ok(claim) => {
-                if claim.address >= from && is_live(entries, base, claim.address) {
-                    lowered(best, claim.address)
-                } else {
-                    best
-                }
+            Ok(claim) if claim.address >= from && is_live(entries, base, claim.address) => {
+                lowered(best, claim.address)
             }
-            Err(_) => best,
+            _ => best,
         },
     }
 }
