@@ -16,15 +16,9 @@ length-byte_bits b = refl
 -- bit j of a byte, counted from 0
 get_or-byte_bits : (b j : ℕ) → j < 8 → get_or (byte_bits b) j false ≡ (b / 2 ^ (7 - j) % 2 == 1)
 unfolding byte_bits
-get_or-byte_bits b zero h = refl
-get_or-byte_bits b (suc zero) h = refl
-get_or-byte_bits b (suc (suc zero)) h = refl
-get_or-byte_bits b (suc (suc (suc zero))) h = refl
-get_or-byte_bits b (suc (suc (suc (suc zero)))) h = refl
-get_or-byte_bits b (suc (suc (suc (suc (suc zero))))) h = refl
-get_or-byte_bits b (suc (suc (suc (suc (suc (suc zero)))))) h = refl
 get_or-byte_bits b (suc (suc (suc (suc (suc (suc (suc zero))))))) h = let e : b ≡ b / 1 = omega arith in ap (λ n. n % 2 == 1) e
 get_or-byte_bits b (suc (suc (suc (suc (suc (suc (suc (suc j)))))))) h = absurd (omega (arith, h))
+get_or-byte_bits b _ h = refl
 
 -- bit n is in byte (n - 1) / 8
 pub bit_of-bits_of : (bytes : List ℕ) (n : ℕ) → 1 ≤ n → n ≤ 8 * length bytes

@@ -64,8 +64,5 @@ claim-assigned-at bytes c e = subst (λ r. IfOk r IsAssigned) e (claim-assigned 
 -- the second, third and fourth byte of a frame, and the address that they write
 pub address_field-bytes : (bytes : List ℕ) → 4 ≤ length bytes → slice_index bytes 1 < 256 → slice_index bytes 2 < 256 → slice_index bytes 3 < 256
     → slice_index bytes 1 * 65536 + slice_index bytes 2 * 256 + slice_index bytes 3 ≡ address_field bytes
-address_field-bytes [] few lb lc ld = absurd (omega arith)
-address_field-bytes (a ∷ []) few lb lc ld = absurd (omega arith)
-address_field-bytes (a ∷ b ∷ []) few lb lc ld = absurd (omega arith)
-address_field-bytes (a ∷ b ∷ c ∷ []) few lb lc ld = absurd (omega arith)
 address_field-bytes (a ∷ b ∷ c ∷ d ∷ rest) few lb lc ld = sym (address_field-is a b c d rest lb lc ld)
+address_field-bytes _ few lb lc ld = absurd (omega arith)

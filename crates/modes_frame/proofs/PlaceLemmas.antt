@@ -83,12 +83,9 @@ remainder-after_zeros (suc n) bytes = remainder-after_zeros n bytes
 -- the number that they write
 pub number-of_three : (bytes : List ℕ) → length bytes ≡ 3 → get_or bytes 0 0 < 256 → get_or bytes 1 0 < 256 → get_or bytes 2 0 < 256
     → get_or bytes 0 0 * 65536 + get_or bytes 1 0 * 256 + get_or bytes 2 0 ≡ number_of (bits_of bytes)
-number-of_three [] three la lb lc = absurd (omega arith)
-number-of_three (a ∷ []) three la lb lc = absurd (omega arith)
-number-of_three (a ∷ b ∷ []) three la lb lc = absurd (omega arith)
 number-of_three (a ∷ b ∷ c ∷ []) three la lb lc =
     sym (ap (λ bits. number_of (byte_bits a ++ (byte_bits b ++ bits))) (append-nil (byte_bits c)) ∙ number-three a b c la lb lc)
-number-of_three (a ∷ b ∷ c ∷ d ∷ rest) three la lb lc = absurd (omega arith)
+number-of_three _ three la lb lc = absurd (omega arith)
 
 -- ---- the tables
 

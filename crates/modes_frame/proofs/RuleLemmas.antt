@@ -7,17 +7,15 @@ use Rattle.modes_frame.proofs.TrimLemmas.{trimmed_line-is}
 use Rattle.std.proofs.lemmas.List.Elements.{All-nil, All-cons}
 use Rattle.hex.specs.Hex.{decode_pairs, digit_or_error, hex_digit_value, ◌>>=◌}
 use Rattle.hex.specs.declared.error.FromHexError.{FromHexError}
-use Rattle.hex.specs.declared.error.FromHexError.TheVariants.{InvalidHexCharacter, OddLength, InvalidStringLength, OutOfMemory}
+use Rattle.hex.specs.declared.error.FromHexError.TheVariants.{InvalidHexCharacter, OddLength}
 
 -- ---- digits
 
 -- what decoding digits answers: the bytes that they write, or the first byte that is no digit
-abbrev Tells : ℕ → List ℕ → Result (List ℕ) FromHexError → Type 0
-Tells i digits (Ok bytes) = Writes digits bytes × All IsDigit digits
-Tells i digits (Err (InvalidHexCharacter c index)) = (place : ℕ) × (index ≡ i + place) × IsFirstBad digits (place + 1)
-Tells i digits (Err OddLength) = ⊥
-Tells i digits (Err InvalidStringLength) = ⊥
-Tells i digits (Err OutOfMemory) = ⊥
+abbrev IsDecoded : ℕ → List ℕ → Result (List ℕ) FromHexError → Type 0
+IsDecoded i digits (Ok bytes) = Writes digits bytes × All IsDigit digits
+IsDecoded i digits (Err (InvalidHexCharacter c index)) = (place : ℕ) × (index ≡ i + place) × IsFirstBad digits (place + 1)
+IsDecoded i digits _ = ⊥
 
 is_digit : (c v : ℕ) → hex_digit_value c ≡ Some v → IsDigit c
 is_digit c v e = rw e refl
@@ -44,27 +42,26 @@ nth_later d e digits place hd he b =
     let n : place + 1 + 1 + 1 ≡ place + 2 + 1 = omega arith in
     subst (λ (k : ℕ). IsFirstBad (d ∷ e ∷ digits) k) n (bad_later d (e ∷ digits) (place + 1 + 1) hd (bad_later e digits (place + 1) he b))
 
-pair-tells : (i high low : ℕ) (v w : Option ℕ) (digits : List ℕ) (rest : Result (List ℕ) FromHexError)
-    → hex_digit_value high ≡ v → hex_digit_value low ≡ w → Tells (i + 2) digits rest
-    → Tells i (high ∷ low ∷ digits)
+pair-decoded : (i high low : ℕ) (v w : Option ℕ) (digits : List ℕ) (rest : Result (List ℕ) FromHexError)
+    → hex_digit_value high ≡ v → hex_digit_value low ≡ w → IsDecoded (i + 2) digits rest
+    → IsDecoded i (high ∷ low ∷ digits)
     ((digit_or_error high i v >>= λ h. digit_or_error low (i + 1) w >>= λ l. Ok (h * 16 + l)) >>= λ byte. rest >>= λ bytes. Ok (byte ∷ bytes))
-pair-tells i high low None w digits rest e f t = (0, (omega arith), bad_first high (low ∷ digits) (no_digit high e))
-pair-tells i high low (Some h) None digits rest e f t =
+pair-decoded i high low None w digits rest e f t = (0, (omega arith), bad_first high (low ∷ digits) (no_digit high e))
+pair-decoded i high low (Some h) None digits rest e f t =
     (1, refl, bad_later high (low ∷ digits) 1 (is_digit high h e) (bad_first low digits (no_digit low f)))
-pair-tells i high low (Some h) (Some l) digits (Ok bytes) e f t =
+pair-decoded i high low (Some h) (Some l) digits (Ok bytes) e f t =
     (((h, l, e, f, (omega arith)), t.0), All-cons IsDigit high (low ∷ digits) (is_digit high h e) (All-cons IsDigit low digits (is_digit low l f) t.1))
-pair-tells i high low (Some h) (Some l) digits (Err (InvalidHexCharacter c k)) e f t =
+pair-decoded i high low (Some h) (Some l) digits (Err (InvalidHexCharacter c k)) e f t =
     (t.0 + 2, t.1 ∙ (omega arith), nth_later high low digits t.0 (is_digit high h e) (is_digit low l f) t.2)
-pair-tells i high low (Some h) (Some l) digits (Err OddLength) e f t = t
-pair-tells i high low (Some h) (Some l) digits (Err InvalidStringLength) e f t = t
-pair-tells i high low (Some h) (Some l) digits (Err OutOfMemory) e f t = t
+pair-decoded i high low (Some h) (Some l) digits (Err OddLength) e f t = t
+pair-decoded i high low (Some h) (Some l) digits _ e f t = t
 
-pub decode-tells : (i k : ℕ) (digits : List ℕ) → length digits ≡ 2 * k → Tells i digits (decode_pairs i digits)
+pub decode-decoded : (i k : ℕ) (digits : List ℕ) → length digits ≡ 2 * k → IsDecoded i digits (decode_pairs i digits)
 unfolding decode_pairs
-decode-tells i k [] e = (refl, All-nil IsDigit)
-decode-tells i k (d ∷ []) e = absurd (omega arith)
-decode-tells i k (high ∷ low ∷ digits) e =
-    pair-tells i high low (hex_digit_value high) (hex_digit_value low) digits (decode_pairs (i + 2) digits) refl refl (decode-tells (i + 2) (k - 1) digits (omega arith))
+decode-decoded i k [] e = (refl, All-nil IsDigit)
+decode-decoded i k (d ∷ []) e = absurd (omega arith)
+decode-decoded i k (high ∷ low ∷ digits) e =
+    pair-decoded i high low (hex_digit_value high) (hex_digit_value low) digits (decode_pairs (i + 2) digits) refl refl (decode-decoded (i + 2) (k - 1) digits (omega arith))
 
 drop-nil : (n : ℕ) → drop {A = ℕ} n [] ≡ []
 drop-nil zero = refl
@@ -129,7 +126,7 @@ module _ (rest : List ℕ) (start counter : ℕ) (digits : List ℕ) (starts : I
       (λ f. (carries, nat-same (length bytes) (cond (nat_lt (df_of bytes) 16) 7 14) f))
       (λ f. (bytes, carries, seven-or-fourteen (length digits) counter (length bytes) has count (nat-other (length bytes) 2 e), nat-other (length bytes) (cond (nat_lt (df_of bytes) 16) 7 14) f, refl)))
 
-  says-decoded : (r : Result (List ℕ) FromHexError) → Tells 0 digits r → HasLength counter digits → Says rest (from_digits start r)
+  says-decoded : (r : Result (List ℕ) FromHexError) → IsDecoded 0 digits r → HasLength counter digits → Says rest (from_digits start r)
   says-decoded (Ok bytes) t has =
       says-bytes (drop (counter_len start / 2) bytes)
       (subst (λ (n : ℕ). Writes (drop n digits) (drop (counter_len start / 2) bytes)) (counter-even start counter starts) (Writes-drop (counter_len start / 2) digits bytes t.0))
@@ -137,8 +134,7 @@ module _ (rest : List ℕ) (start counter : ℕ) (digits : List ℕ) (starts : I
   says-decoded (Err (InvalidHexCharacter c index)) t has =
       (counter, digits, enclosed, has, subst (λ (n : ℕ). IsFirstBad digits (n + 1)) (sym (t.1 ∙ zero-add t.0)) t.2)
   says-decoded (Err OddLength) t has = absurd t
-  says-decoded (Err InvalidStringLength) t has = absurd t
-  says-decoded (Err OutOfMemory) t has = absurd t
+  says-decoded _ t has = absurd t
 
   says-digits : Says rest (digits_of start digits)
   says-digits =
@@ -146,7 +142,7 @@ module _ (rest : List ℕ) (start counter : ℕ) (digits : List ℕ) (starts : I
       let even : 2 * (counter / 2) ≡ counter = ap (λ n. 2 * (n / 2)) (sym same) ∙ counter-even start counter starts in
       says-if rest (fits_length start (length digits)) _ _
       (λ e. let has : HasLength counter digits = has-length (length digits) counter (subst (λ (m : ℕ). (length digits == m + 4 || length digits == m + 14 || length digits == m + 28) ≡ true) same e) in
-      says-decoded (decode_pairs 0 digits) (decode-tells 0 (length digits / 2) digits (half-length (length digits) counter 0 has even)) has)
+      says-decoded (decode_pairs 0 digits) (decode-decoded 0 (length digits / 2) digits (half-length (length digits) counter 0 has even)) has)
       (λ e. (counter, digits, enclosed, no-length (length digits) counter (subst (λ (m : ℕ). (length digits == m + 4 || length digits == m + 14 || length digits == m + 28) ≡ false) same e), refl))
 
 -- a list that ends with this

@@ -54,10 +54,10 @@ cut_after held byte = if byte == 10 then Whole [] else grown_cut held byte
 abbrev pub cut_ended_by : Cut → ℕ → Option Cut
 cut_ended_by held byte = if byte == 10 then Some held else None
 
-abbrev pub told_last : Cut → Option Cut
-told_last (Whole []) = None
-told_last (Whole (c ∷ cs)) = Some (Whole (c ∷ cs))
-told_last TooLong = Some TooLong
+abbrev pub last_given : Cut → Option Cut
+last_given (Whole []) = None
+last_given (Whole (c ∷ cs)) = Some (Whole (c ∷ cs))
+last_given TooLong = Some TooLong
 
 -- a line with bytes after it, none of them a line feed
 abbrev pub lengthened_cut : Cut → List ℕ → Cut

@@ -75,9 +75,7 @@ reading_of line = if nat_lt longest_line (length line) then Err Faults.TooLong e
 abbrev pub Decoded : Result (List ℕ) FromHexError → List ℕ → Result (Unit {0}) ℕ → Type 0
 Decoded (Ok decoded) bytes result = (result ≡ Ok tt) × (bytes ≡ decoded)
 Decoded (Err (InvalidHexCharacter c index)) bytes result = result ≡ Err (index + 1)
-Decoded (Err OddLength) bytes result = ⊥
-Decoded (Err InvalidStringLength) bytes result = ⊥
-Decoded (Err OutOfMemory) bytes result = ⊥
+Decoded _ bytes result = ⊥
 
 abbrev pub Decodes : List ℕ → List ℕ → Result (Unit {0}) ℕ → Type 0
 Decodes digits bytes result = Decoded (decode_pairs 0 digits) bytes result

@@ -122,7 +122,7 @@ last_end-more [] x = refl
 last_end-more (y ∷ []) x = refl
 last_end-more (y ∷ z ∷ all) x = last_end-more (z ∷ all) x
 
--- the end after a batch, and after the message that tells it
+-- the end after a batch, and after the message with it
 pub end_refilled : (old new : List Message) (batch : Batch) (end : Option PathEnd) → is_some end ≡ false → new ≡ old ++ Lines batch ∷ [] → end ≡ last_end new
 end_refilled old new batch None none is = sym (ap last_end is ∙ last_end-more old (Lines batch))
 end_refilled old new batch (Some end) none is = absurd (search rules)

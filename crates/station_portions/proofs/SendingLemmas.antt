@@ -117,19 +117,19 @@ some_cut c cs is = elim (cases_Bool (nat_le (length (c ∷ cs)) 64)) [
   | inr long ↦ let e : Whole [] ≡ TooLong = is ∙ ap (λ b. cond b (Whole (c ∷ cs)) TooLong) long in cc
 ]
 
-none_told : (rest : List ℕ) → cut_of [] ≡ cut_of rest → map cut_of (last_line rest) ≡ []
-none_told [] is = refl
-none_told (c ∷ cs) is = absurd (some_cut c cs is)
+no_last : (rest : List ℕ) → cut_of [] ≡ cut_of rest → map cut_of (last_line rest) ≡ []
+no_last [] is = refl
+no_last (c ∷ cs) is = absurd (some_cut c cs is)
 
-some_told : (c : ℕ) (cs rest : List ℕ) → cut_of (c ∷ cs) ≡ cut_of rest → map cut_of (last_line rest) ≡ cut_of (c ∷ cs) ∷ []
-some_told c cs [] is = absurd (some_cut c cs (sym is))
-some_told c cs (d ∷ ds) is = ap (λ k. k ∷ []) (sym is)
+one_last : (c : ℕ) (cs rest : List ℕ) → cut_of (c ∷ cs) ≡ cut_of rest → map cut_of (last_line rest) ≡ cut_of (c ∷ cs) ∷ []
+one_last c cs [] is = absurd (some_cut c cs (sym is))
+one_last c cs (d ∷ ds) is = ap (λ k. k ∷ []) (sym is)
 
 -- the last line is ended
 pub line_ended : (read sent held : List ℕ) → IsBorder sent → HasNoLineFeed held → KeepsLines read sent held → cuts (sent ++ ended_line held) ≡ cuts read
 line_ended read sent [] border none f =
     ap cuts (append-nil sent) ∙ cuts_border sent border ∙ sym (append-nil (ended_cuts sent)) ∙ sym f.lines
-    ∙ sym (append-nil (ended_cuts read)) ∙ ap (λ l. ended_cuts read ++ l) (sym (none_told (pieces read).rest f.begun))
+    ∙ sym (append-nil (ended_cuts read)) ∙ ap (λ l. ended_cuts read ++ l) (sym (no_last (pieces read).rest f.begun))
     ∙ sym (cuts-ended read)
 line_ended read sent (c ∷ cs) border none f =
     let held = c ∷ cs in
@@ -141,7 +141,7 @@ line_ended read sent (c ∷ cs) border none f =
     ∙ sym (append_assoc (ended_cuts sent) (ended_cuts held) (pending held ∷ []))
     ∙ ap (λ l. l ++ pending held ∷ []) (sym f.lines)
     ∙ ap (λ k. ended_cuts read ++ k ∷ []) (none_pending held none)
-    ∙ ap (λ l. ended_cuts read ++ l) (sym (some_told c cs (pieces read).rest begun))
+    ∙ ap (λ l. ended_cuts read ++ l) (sym (one_last c cs (pieces read).rest begun))
     ∙ sym (cuts-ended read)
 
 -- ---- what was sent
@@ -276,8 +276,8 @@ sent_up_to_failure left new before after held so_far none = record {
 }
 
 same_last : (one other : List ℕ) → cut_of one ≡ cut_of other → map cut_of (last_line one) ≡ map cut_of (last_line other)
-same_last [] other is = sym (none_told other is)
-same_last (c ∷ cs) other is = sym (some_told c cs other is)
+same_last [] other is = sym (no_last other is)
+same_last (c ∷ cs) other is = sym (one_last c cs other is)
 
 -- portions that end at a border have the lines of the whole
 pub cuts_portions : (front rest : List ℕ) → IsBorder front → cuts (front ++ rest) ≡ cuts front ++ cuts rest

@@ -34,7 +34,7 @@ pub struct Portions<'a, R> {
     ghost kept: { bytes_before (received messages) (ungiven_of batch at) ++ ungiven_of batch at
         ≡ bytes_of_messages (received messages) },
     ghost over: { is_some end ≡ true → ungiven_of batch at ≡ [] },
-    ghost told: { end ≡ last_end (received messages) },
+    ghost ended: { end ≡ last_end (received messages) },
     ghost failed: { 0 < failures → end ≡ Some ReadFailed },
 }
 

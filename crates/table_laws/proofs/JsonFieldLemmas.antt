@@ -14,7 +14,7 @@ use Rattle.modes_fields.specs.declared.category.Category.{Category}
 use Rattle.modes_fields.specs.declared.category.CategorySet.{CategorySet}
 use Rattle.modes_fields.specs.declared.category.CategorySet.TheVariants.{A, B, C, D}
 use Rattle.modes_fields.specs.declared.emergency.Emergency.{Emergency}
-use Rattle.modes_fields.specs.declared.emergency.Emergency.TheVariants.{NoEmergency, General, Lifeguard, MinimumFuel, NoCommunications, UnlawfulInterference, Downed}
+use Rattle.modes_fields.specs.declared.emergency.Emergency.TheVariants.{NoEmergency}
 use Rattle.modes_fields.specs.declared.velocity.RateSource.{RateSource}
 use Rattle.modes_fields.specs.declared.velocity.RateSource.TheVariants.{Gnss, Barometric}
 use Rattle.modes_fields.specs.declared.velocity.Velocity.{Velocity}
@@ -230,9 +230,4 @@ category_written c h =
 pub emergency_written : (e : Emergency) → AreWritten (emergency_pair e) (emergency e)
 unfolding emergency escape_byte
 emergency_written NoEmergency = record { plain = tt; text_is = refl }
-emergency_written General = record { plain = ((refl, refl), tt); text_is = refl }
-emergency_written Lifeguard = record { plain = ((refl, refl), tt); text_is = refl }
-emergency_written MinimumFuel = record { plain = ((refl, refl), tt); text_is = refl }
-emergency_written NoCommunications = record { plain = ((refl, refl), tt); text_is = refl }
-emergency_written UnlawfulInterference = record { plain = ((refl, refl), tt); text_is = refl }
-emergency_written Downed = record { plain = ((refl, refl), tt); text_is = refl }
+emergency_written _ = record { plain = ((refl, refl), tt); text_is = refl }

@@ -4,12 +4,12 @@ use Rattle.std.specs.List.{AllByRecursion}
 use Rattle.std.specs.Option.{option_map}
 use Rattle.std.proofs.lemmas.List.Elements.{All-from_recursion}
 use Rattle.std.proofs.lemmas.List.Kept.{AllPairs-cons}
-use Rattle.json.specs.Json.{Json, null, boolean, number, string, array, object}
+use Rattle.json.specs.Json.{Json, array, object}
 use Rattle.json.specs.Strict.{keys, AreDistinct, HasUniqueKeys, MembersHaveUniqueKeys}
 use Rattle.modes_fields.specs.declared.emergency.Emergency.{Emergency}
-use Rattle.modes_fields.specs.declared.emergency.Emergency.TheVariants.{NoEmergency, General, Lifeguard, MinimumFuel, NoCommunications, UnlawfulInterference, Downed}
+use Rattle.modes_fields.specs.declared.emergency.Emergency.TheVariants.{NoEmergency}
 use Rattle.modes_fields.specs.declared.velocity.RateSource.{RateSource}
-use Rattle.modes_fields.specs.declared.velocity.RateSource.TheVariants.{Gnss, Barometric}
+use Rattle.modes_fields.specs.declared.velocity.RateSource.TheVariants.{Gnss}
 use Rattle.modes_fields.specs.declared.velocity.Velocity.{Velocity}
 use Rattle.modes_fields.specs.declared.velocity.Velocity.TheVariants.{Ground, Air, Surface}
 use Rattle.station_journal.specs.declared.aircraft.Aircraft.{Aircraft}
@@ -74,12 +74,9 @@ ranked_distinct low high ((key, value) ∷ rest) h =
     (ranked_distinct (suc (rank key)) high rest h.1)
 
 plain_unique : (value : Json) → IsPlainValue value → HasUniqueKeys value
-plain_unique null h = tt
-plain_unique (boolean b) h = tt
-plain_unique (number s) h = tt
-plain_unique (string s) h = tt
 plain_unique (array js) h = absurd h
 plain_unique (object ms) h = absurd h
+plain_unique _ h = tt
 
 pub pairs_unique : (pairs : Pairs) → ArePlain pairs → MembersHaveUniqueKeys (members_of pairs)
 pairs_unique [] h = tt
@@ -107,18 +104,12 @@ ranked_velocity (Surface speed track) = (omega arith, (omega arith, ranked_if 6 
 ranked_rate : (source : Option RateSource) (feet : ℤ) → AreRanked 10 13 (rate_pairs source feet)
 unfolding rank place_in known_keys same_key
 ranked_rate (Some Gnss) feet = (omega arith, (omega arith, omega arith))
-ranked_rate (Some Barometric) feet = (omega arith, (omega arith, omega arith))
-ranked_rate None feet = (omega arith, (omega arith, omega arith))
+ranked_rate _ feet = (omega arith, (omega arith, omega arith))
 
 ranked_emergency : (e : Emergency) → AreRanked 18 19 (emergency_pair e)
 unfolding rank place_in known_keys same_key
 ranked_emergency NoEmergency = omega arith
-ranked_emergency General = (omega arith, omega arith)
-ranked_emergency Lifeguard = (omega arith, omega arith)
-ranked_emergency MinimumFuel = (omega arith, omega arith)
-ranked_emergency NoCommunications = (omega arith, omega arith)
-ranked_emergency UnlawfulInterference = (omega arith, omega arith)
-ranked_emergency Downed = (omega arith, omega arith)
+ranked_emergency _ = (omega arith, omega arith)
 
 module _ (now : ℕ) (a : Aircraft) (placed : Option ℕ) where
   ranked_fields : AreRanked 1 19 (field_pairs now a placed)

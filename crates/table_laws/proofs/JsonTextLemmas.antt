@@ -10,12 +10,9 @@ use Rattle.table_laws.specs.JsonValue.{Pairs, members_of}
 -- ---- plain members
 
 abbrev pub IsPlainValue : Json → Type 0
-IsPlainValue null = ⊥
-IsPlainValue (boolean b) = ⊥
 IsPlainValue (number s) = IsNumber s
 IsPlainValue (string s) = escape s ≡ s
-IsPlainValue (array js) = ⊥
-IsPlainValue (object ms) = ⊥
+IsPlainValue _ = ⊥
 
 abbrev pub IsPlainPair : List ℕ × Json → Type 0
 IsPlainPair (key, value) = (escape key ≡ key) × IsPlainValue value
@@ -24,12 +21,9 @@ abbrev pub ArePlain : Pairs → Type 0
 ArePlain = AllByRecursion IsPlainPair
 
 abbrev value_text : Json → List ℕ
-value_text null = []
-value_text (boolean b) = []
 value_text (number s) = s
 value_text (string s) = 34 ∷ (s ++ 34 ∷ [])
-value_text (array js) = []
-value_text (object ms) = []
+value_text _ = []
 
 -- a member behind a comma
 abbrev pub pair_text : List ℕ × Json → List ℕ
@@ -72,24 +66,18 @@ print_pairs ((key, value) ∷ pairs) ts h =
 -- ---- depth and numbers
 
 plain_depth : (value : Json) → IsPlainValue value → depth value ≡ 0
-plain_depth null h = absurd h
-plain_depth (boolean b) h = absurd h
 plain_depth (number s) h = refl
 plain_depth (string s) h = refl
-plain_depth (array js) h = absurd h
-plain_depth (object ms) h = absurd h
+plain_depth _ h = absurd h
 
 pub pairs_depth : (pairs : Pairs) → ArePlain pairs → members_depth (members_of pairs) ≡ 0
 pairs_depth [] h = refl
 pairs_depth ((key, value) ∷ pairs) h = omega (arith, plain_depth value h.0.1, pairs_depth pairs h.1)
 
 plain_numbers : (value : Json) → IsPlainValue value → HasNumbers value
-plain_numbers null h = absurd h
-plain_numbers (boolean b) h = absurd h
 plain_numbers (number s) h = h
 plain_numbers (string s) h = tt
-plain_numbers (array js) h = absurd h
-plain_numbers (object ms) h = absurd h
+plain_numbers _ h = absurd h
 
 pub pairs_numbers : (pairs : Pairs) → ArePlain pairs → MembersHaveNumbers (members_of pairs)
 pairs_numbers [] h = tt

@@ -1,5 +1,5 @@
 -- The ranges of positions.
-use Rattle.std.proofs.Common.{◌≡◌, ℕ, ◌*◌, ◌<◌, ◌==◌, ◌&&◌, Bool, true, false, if◌then◌else◌, List, Option, Some, None, IfSome, ℤ, pos, ◌+ℤ◌, ◌-ℤ◌, ◌*ℤ◌, ◌≤ℤ◌, ◌<ℤ◌, int_le, unsigned_abs, leb-true, refl, ap, arith}
+use Rattle.std.proofs.Common.{◌≡◌, ℕ, ◌*◌, ◌<◌, ◌==◌, ◌&&◌, Bool, true, false, if◌then◌else◌, List, Option, Some, None, IfSome, ℤ, pos, ◌+ℤ◌, ◌-ℤ◌, ◌*ℤ◌, ◌≤ℤ◌, ◌<ℤ◌, int_le, unsigned_abs, leb-true, refl, arith}
 use Rattle.std.proofs.lemmas.Int.{ints}
 use Rattle.modes_fields.specs.declared.place.Place.{Place}
 use Rattle.modes_fields.specs.Places.{place_in}
@@ -9,8 +9,8 @@ use Rattle.modes_cpr.specs.declared.points.Reference.{Reference}
 use Rattle.modes_cpr.proofs.Common.{bins, modulo, angle, decoded_angle, is_latitude, longitude_zones, zone_index, position_by, position_of, zone_count}
 use Rattle.modes_cpr.proofs.SurfaceCommon.{decoded_near, surface_position_by, surface_position_of, without_turns, reference_point}
 use Rattle.modes_cpr.proofs.FloorLemmas.{floor_is}
-use Rattle.modes_cpr.proofs.AngleLemmas.{decoded_angle-angle}
-use Rattle.modes_cpr.proofs.SurfaceAngleLemmas.{decoded_near-angle}
+use Rattle.modes_cpr.proofs.PositionLemmas.{decoded_whole}
+use Rattle.modes_cpr.proofs.SurfacePositionLemmas.{near_whole}
 use Rattle.modes_cpr.proofs.BinLemmas.{some_zone}
 use Rattle.table_laws.specs.Ranges.{IsWithin, IsOnEarth}
 use Rattle.table_laws.proofs.FieldLemmas.{field-lt}
@@ -56,16 +56,6 @@ without_turns_within a some =
     let low = r.least in
     let high = r.most in
     record { whole = some; range = omega (arith, ints) }
-
-decoded_whole : (limit z y : ℕ) (j : ℤ) → 0 < z → 0 < (decoded_angle limit z j y).den
-decoded_whole limit z y j some =
-    let e : (decoded_angle limit z j y).den ≡ z * bins = ap (λ (d : Degrees). d.den) (decoded_angle-angle limit z y j).1 in
-    omega arith
-
-near_whole : (r : Degrees) (z y : ℕ) (j : ℤ) → 0 < z → 0 < (decoded_near r z j y).den
-near_whole r z y j some =
-    let e : (decoded_near r z j y).den ≡ z * bins = ap (λ (d : Degrees). d.den) (decoded_near-angle r z y j).1 in
-    omega arith
 
 -- ---- positions
 

@@ -13,7 +13,7 @@ invariant_of-self g c =
           let none = portions.over e in
           nothing_left (ungiven_of portions.batch portions.at) c.give.new.buffer _ c.give.result
           (nothing_given (ungiven_of portions.batch portions.at) c.give.new.buffer _ c.give.result c.give.ensures.within none c.give.ensures.given) none c.give.ensures.given;
-      told = portions.told;
+      ended = portions.ended;
       failed = portions.failed;
     }
 

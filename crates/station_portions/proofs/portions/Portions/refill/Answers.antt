@@ -10,14 +10,14 @@ invariant_of-self-in-Some-Lines-clause-kept g c =
     kept_refilled before _ c.in-Some-Lines.batch
     (c.in-Some-Lines.ensures.some ∙ ap (λ x. before ++ x ∷ []) c.in-Some-Lines.field-0-is)
 
-pub invariant_of-self-in-Some-Lines-clause-told : goal.invariant_of-self-in-Some-Lines-clause-told
-invariant_of-self-in-Some-Lines-clause-told g c =
+pub invariant_of-self-in-Some-Lines-clause-ended : goal.invariant_of-self-in-Some-Lines-clause-ended
+invariant_of-self-in-Some-Lines-clause-ended g c =
     let before = received c.args.self.now.messages in
     end_refilled before _ c.in-Some-Lines.batch _ (sym c.is_some.ensures ∙ c.if-is_some.false)
     (c.in-Some-Lines.ensures.some ∙ ap (λ x. before ++ x ∷ []) c.in-Some-Lines.field-0-is)
 
-pub invariant_of-self-in-Some-Over-clause-told : goal.invariant_of-self-in-Some-Over-clause-told
-invariant_of-self-in-Some-Over-clause-told g c =
+pub invariant_of-self-in-Some-Over-clause-ended : goal.invariant_of-self-in-Some-Over-clause-ended
+invariant_of-self-in-Some-Over-clause-ended g c =
     let before = received c.args.self.now.messages in
     end_over before _ c.in-Some-Over.end
     (c.in-Some-Over.ensures.some ∙ ap (λ x. before ++ x ∷ []) c.in-Some-Over.field-0-is)
