@@ -1,0 +1,6 @@
+mod ClosedLemmas
+mod ExampleLemmas
+mod MergeLemmas
+mod SeatLemmas
+mod StepLemmas
+mod WalkLemmas
