@@ -1,5 +1,5 @@
 -- A replay of the record of a run.
-use Rattle.std.proofs.Common.{rules, ◌≡◌, ◌∙◌, inl, inr, ℕ, zero, suc, Bool, true, false, List, Option, Some, None, Result, Ok, Err, refl, subst, arith, max}
+use Rattle.std.proofs.Common.{rules, ◌≡◌, ◌∙◌, inl, inr, ℕ, Bool, true, false, List, [], ◌∷◌, Option, Some, None, Result, Ok, Err, ap, is_some, length, refl, subst, sym, arith, max}
 use Rattle.std.specs.Io.KnownBytes.{Appends}
 use Rattle.streams.specs.Source.{SourceState}
 use Rattle.modes_frame.specs.declared.cutter.Cut.{Cut}
@@ -17,9 +17,12 @@ use Rattle.station_replay.proofs.LimitLemmas.{forgets-unreached}
 use Rattle.station_record.proofs.ReplayLemmas.{lines-drawn}
 use Rattle.messages.proofs.Common.{fault_status, status_of, Told}
 use Rattle.station_reporter.proofs.Common.{Recording, record_status}
-use Rattle.station_main.proofs.Common.{forget_at, most_between_ticks, program_limits, RunPlan, RoundStart, IsCutShort, RunsRounds, RunsRecorded, no_start}
+use Rattle.station_reporter.specs.declared.schedule.Tables.{Tables}
+use Rattle.station_main.specs.Stations.{IsBlank}
+use Rattle.station_main.proofs.Common.{Begun, IsFirst, RoundStart, RunEnd, RunPlan, Runs, RunsOn, RunsStation, RunsStations, Station, Streams, forget_at, most_between_ticks, no_start, program_limits}
 use Rattle.shown_again.proofs.Common.{HasPrinted, HasRecorded, HasRoom, IsOneStation, ReplayPrints}
-use Rattle.shown_again.proofs.ShownAgainLemmas.{handed-on-record, round-record, run-shown-again}
+use Rattle.shown_again.proofs.SaidLemmas.{Said}
+use Rattle.shown_again.proofs.ShownAgainLemmas.{said-again, stations-said}
 use Rattle.shown_again.proofs.StationLemmas.{kept-whole, no-fault}
 
 -- ---- a replay without a fault
@@ -49,58 +52,57 @@ replayed site lines text is room before after err_old err_new ends =
 
 -- ---- a run without a fault
 
--- its output is there, and its record
-record Left (after : Option (Option (List ℕ))) (is : Option Recording) : Type 0 where
-  output : Option (List ℕ)
-  left : after ≡ Some output
-  recording : Recording
-  recorded : is ≡ Some recording
-
-cut-short : (asked : RunPlan) (given : RoundStart) (before : Option (List ℕ)) (after : Option (Option (List ℕ))) (was is : Option Recording) (err_old err_new : Told) → IsCutShort asked given before after was is err_old err_new 0 → ⊥
-cut-short asked given before None was is err_old err_new cut = not-one cut.status_is
-cut-short asked given before (Some after) was is err_old err_new (inl cut) = not-one cut.2
-cut-short asked given before (Some after) was is err_old err_new (inr cut) = not-one cut.status_is
-
-left-of : (asked : RunPlan) (more : ℕ) (given : RoundStart) (before : Option (List ℕ)) (after : Option (Option (List ℕ))) (was : Recording) (is : Option Recording) (err_old err_new : Told)
-    → RunsRounds asked more given before after (Some was) is err_old err_new 0 → Left after is
-left-of asked zero given before None was is err_old err_new runs = absurd (not-one runs.status_is)
-left-of asked zero given before (Some after) was is err_old err_new runs =
-    let shown = round-record asked given runs.0 runs.1 before after was is err_old err_new 0 runs.2 in
-    record { output = after; left = refl; recording = shown.0; recorded = shown.1 }
-left-of asked (suc more) given before after was is err_old err_new (inr cut) = absurd (cut-short asked given before after (Some was) is err_old err_new cut)
-left-of asked (suc more) given before after was is err_old err_new (inl (mid, recorded, err_mid, kept, hands, rest)) =
-    let found = handed-on-record asked given kept before mid was recorded err_old err_mid hands in
-    left-of asked more kept mid after found.0 is err_mid err_new (subst (λ (o : Option Recording). RunsRounds asked more kept mid after o is err_mid err_new 0) found.1 rest)
+second-zero : (x y : ℕ) → 0 ≡ max x y → y ≡ 0
+second-zero x y e = grind (arith)
 
 first-zero : (x y : ℕ) → 0 ≡ max x y → x ≡ 0
 first-zero x y e = grind (arith)
 
 -- the law of a run by its parts
-abbrev ShowsAgain : (site : Site) (before : Option (List ℕ)) (after : Option (Option (List ℕ))) (blank : Recording) (left : Option Recording) → Type 0 → Type 0
+abbrev ShowsAgain : (site : Site) (before : Option (List ℕ)) (after : Option (Option (List ℕ))) (blank left : Option Recording) → Type 0 → Type 0
 ShowsAgain site before after blank left only = (text lines : List ℕ) × HasPrinted before after text × HasRecorded blank left lines × (unlimited_output (empty_log (program_limits site)) (cuts lines) ≡ text) × (only → HasRoom site lines) × (HasRoom site lines → ReplayPrints site lines text)
 
-module _ (asked : RunPlan) (more : ℕ) (before : Option (List ℕ)) (blank : Recording) (err_old err_new : Told) (status : ℕ) (is_text : asked.tables.format ≡ Text) (none : blank.recorded ≡ 0) where
-  by-parts : (after : Option (Option (List ℕ))) (left : Option Recording) → 0 ≡ max status (record_status left) → Left after left → (runs : RunsRounds asked more (no_start asked.site) before after (Some blank) left err_old err_new status)
-      → ShowsAgain asked.site before after blank left (IsOneStation asked more (no_start asked.site) before after (Some blank) left err_old err_new status runs)
-  by-parts None left ended there runs = absurd (search (rules, there.left))
-  by-parts (Some after) None ended there runs = absurd (search (rules, there.recorded))
-  by-parts (Some after) (Some left) ended there runs =
-      let well : left.has_failed ≡ false = no-fault status left.has_failed ended in
-      let shown = run-shown-again asked more before after blank left err_old err_new status (first-zero status (record_status (Some left)) ended) is_text none well runs in (
+module _ (asked : RunPlan) (before : Option (List ℕ)) (after : Option (Option (List ℕ))) (blank : Recording) (err_old : Told) (end : RunEnd) (is_text : asked.tables.format ≡ Text) (none : blank.recorded ≡ 0)
+    (left : end.out ≡ after) (ended : end.status ≡ 0) (well : record_status end.recording ≡ 0) where
+  abbrev old : Streams
+  old = record { out = before; recording = Some blank; err = err_old }
+
+  from-first : (begun : Begun) (station : Station) (stations : List Station) → begun.given ≡ no_start asked.site → IsFirst asked begun → station.begun ≡ begun → station.old ≡ old → RunsStation station → RunsOn asked station stations end
+      → ShowsAgain asked.site before after (Some blank) end.recording (IsOneStation (station ∷ stations))
+  from-first begun station stations given first begun_is old_is runs others =
+      let given_is : station.begun.given ≡ no_start asked.site = ap (λ (b : Begun). b.given) begun_is ∙ given in
+      let station_text : station.begun.duties.tables.format ≡ Text = ap (λ (b : Begun). b.duties.tables.format) begun_is ∙ ap (λ (tables : Tables). tables.format) first.tables ∙ is_text in
+      let known : blank.recorded ≡ length station.begun.given.entries = none ∙ ap (λ (g : RoundStart). length g.entries) (sym given_is) in
+      let all = stations-said asked is_text end ended well station stations blank runs station_text (ap (λ (s : Streams). s.recording) old_is) known others in
+      let said : Said (length stations ≡ 0) (no_start asked.site) before all.output blank all.is =
+      subst (λ (g : RoundStart). Said (length stations ≡ 0) g before all.output blank all.is) given_is
+      (subst (λ (o : Option (List ℕ)). Said (length stations ≡ 0) station.begun.given o all.output blank all.is) (ap (λ (s : Streams). s.out) old_is) all.said) in
+      let shown = said-again asked.site (length stations ≡ 0) before all.output blank all.is said in (
         shown.tables,
         shown.lines,
-        record { output = after; left = refl; grown = shown.prints },
-        record { recording = left; left = refl; grown = shown.records },
+        record { output = all.output; left = sym left ∙ all.out; grown = shown.prints },
+        record { blank = blank; begun = refl; recording = all.is; left = all.recorded; grown = shown.records },
         shown.says,
-        λ one. inl (shown.short one),
+        (λ one. inl (shown.short (omega (arith, one)))),
         replayed asked.site shown.lines shown.tables shown.says,
       )
 
-module _ (asked : RunPlan) (more : ℕ) (before : Option (List ℕ)) (after : Option (Option (List ℕ))) (alarm : Option (List ℕ)) (err_old err_new : Told) (is_text : asked.tables.format ≡ Text) (run : RunsRecorded asked more before after alarm err_old err_new 0) where
-  are-left : Left after run.left
-  are-left =
-      left-of asked more (no_start asked.site) before after run.blank run.left err_old err_new
-      (subst (RunsRounds asked more (no_start asked.site) before after (Some run.blank) run.left err_old err_new) (first-zero run.of_rounds (record_status run.left) run.status_is) run.runs)
+  by-stations : (stations : List Station) → Runs asked old stations end → ShowsAgain asked.site before after (Some blank) end.recording (IsOneStation stations)
+  by-stations stations (inl (none_are, lost)) = absurd (not-one (sym ended ∙ lost.early.status_is))
+  by-stations [] (inr (begun, given, rounds_left, first, lost)) = absurd (not-one (sym ended ∙ lost.early.status_is))
+  by-stations (station ∷ stations) (inr (begun, given, rounds_left, first, (begun_is, old_is, runs, others))) = from-first begun station stations given first begun_is old_is runs others
 
-  pub run-replayed : ShowsAgain asked.site before after run.blank run.left (IsOneStation asked more (no_start asked.site) before after (Some run.blank) run.left err_old err_new run.of_rounds run.runs)
-  run-replayed = by-parts asked more before run.blank err_old err_new run.of_rounds is_text run.is_blank.recorded after run.left run.status_is are-left run.runs
+blank-of : (file : Option (List ℕ)) (alarm : Option (List ℕ)) (recording : Option Recording) → is_some file ≡ true → IsBlank file alarm recording → (blank : Recording) × (recording ≡ Some blank) × (blank.recorded ≡ 0)
+blank-of None alarm recording asked is_blank = absurd (search rules)
+blank-of (Some file) alarm recording asked (blank, there, new) = (blank, there, new.recorded)
+
+pub run-replayed : (asked : RunPlan) (before : Option (List ℕ)) (after : Option (Option (List ℕ))) (alarm : Option (List ℕ)) (err_old err_new : Told) → asked.tables.format ≡ Text → is_some asked.file ≡ true → (run : RunsStations asked before after alarm err_old err_new 0)
+    → ShowsAgain asked.site before after run.blank run.leaves.end.recording (IsOneStation run.stations)
+run-replayed asked before after alarm err_old err_new is_text has_file run =
+    let leaves = run.leaves in
+    let blank = blank-of asked.file alarm run.blank has_file run.is_blank in
+    let both = first-zero _ _ leaves.status_is in
+    let runs : Runs asked (record { out = before; recording = Some blank.0; err = err_old }) run.stations leaves.end =
+    subst (λ (o : Option Recording). Runs asked (record { out = before; recording = o; err = err_old }) run.stations leaves.end) blank.1 leaves.ends_so in
+    subst (λ (o : Option Recording). ShowsAgain asked.site before after o leaves.end.recording (IsOneStation run.stations)) (sym blank.1)
+    (by-stations asked before after blank.0 err_old leaves.end is_text blank.2 leaves.out (first-zero _ _ (sym both)) (second-zero _ _ (sym both)) run.stations runs)

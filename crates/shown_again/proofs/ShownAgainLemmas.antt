@@ -1,7 +1,6 @@
--- A replay of the record of a run prints what the run printed: station by station, and round by round.
-use Rattle.std.proofs.Common.{◌≡◌, ◌∙◌, inl, inr, ℕ, zero, suc, ◌+◌, ◌≤◌, Bool, false, List, [], Option, Some, None, refl, sym, ap, subst, length, arith}
-use Rattle.std.specs.Io.KnownBytes.{Appends}
-use Rattle.streams.specs.Sink.{SinkState}
+-- A replay of the record of a run prints what the run printed, station by station.
+use Rattle.std.proofs.Common.{rules, ◌≡◌, ◌∙◌, ◌⊎◌, inl, inr, ℕ, suc, ◌+◌, ◌≤◌, ◌&&◌, ◌||◌, Bool, true, false, List, [], ◌∷◌, Option, Some, None, is_some, refl, sym, ap, subst, length, max, arith}
+use Rattle.std.specs.Io.KnownBytes.{Appends, Keeps}
 use Rattle.modes_frame.specs.Lines.{cuts}
 use Rattle.station_journal.specs.declared.entry.Entry.{Entry}
 use Rattle.station_journal.proofs.Common.{Site}
@@ -10,169 +9,142 @@ use Rattle.station_report.specs.declared.formats.Format.TheVariants.{Text}
 use Rattle.station_replay.proofs.Common.{calls_in, unlimited_output}
 use Rattle.station_history.proofs.Common.{Start}
 use Rattle.station_replay.proofs.LimitLemmas.{limit-unreached, under-output}
-use Rattle.station_shared.specs.Seats.{Seated, newcomer}
 use Rattle.station_record.specs.ReadBack.{new_log}
 use Rattle.station_record.proofs.RoundLemmas.{first-continues}
-use Rattle.messages.proofs.Common.{Told}
-use Rattle.station_reporter.proofs.Common.{Recording, ReportsByAClock}
+use Rattle.station_shared.specs.Seats.{Seated}
+use Rattle.messages.proofs.Common.{Told, fault_status}
+use Rattle.station_reporter.proofs.Common.{IfRecording, MayHandOver, Recording, Records, record_status, seen_by}
 use Rattle.station_reporter.specs.declared.duties.Duties.{Duties}
 use Rattle.station_reporter.specs.declared.schedule.Due.{Due}
 use Rattle.station_reporter.specs.declared.schedule.Tables.{Tables}
-use Rattle.station_main.proofs.Common.{program_limits, RunPlan, Begun, RoundStart, HandsOn, IsHandOver, IsLastStation, IsRound, KeepsRecent, RunsRounds, Stations, no_start, Closing}
-use Rattle.shown_again.proofs.Common.{IsOneStation}
+use Rattle.station_main.specs.Stations.{NoRoundAfter}
+use Rattle.station_main.proofs.Common.{BeginsRound, Begun, EndsRound, EndsRun, GivesBack, HandsOver, IsOver, KeepsRecent, Left, RoundStart, RunEnd, RunPlan, RunsOn, RunsStation, Station, Streams, may_go_on, no_start, program_limits}
 use Rattle.shown_again.proofs.KeptEndLemmas.{Begins, wide}
 use Rattle.shown_again.proofs.SaidLemmas.{Said, handed-on, only-said, still-well}
-use Rattle.shown_again.proofs.StationLemmas.{hand-over-says, last-says}
+use Rattle.shown_again.proofs.StationLemmas.{StationSays, kept-whole, no-fault, says-kept, station-says}
 
 -- ---- the record is there after a part of a run if it was there before it
 
-recorded-before : (start : Start) (journal : List Entry) (kept : RoundStart) (was : Option Recording) (is : Recording) → KeepsRecent start journal kept was (Some is) → (shown : Recording) × (was ≡ Some shown)
-recorded-before start journal kept None is keeps = absurd keeps.records
-recorded-before start journal kept (Some shown) is keeps = (shown, refl)
+record-after : (goes_on : Recording → Recording → Type 0) (old new : Option Recording) (was : Recording) → old ≡ Some was → IfRecording goes_on old new → (is : Recording) × (new ≡ Some is)
+record-after goes_on None new was there records = absurd (search rules)
+record-after goes_on (Some old) None was there records = absurd records
+record-after goes_on (Some old) (Some new) was there records = (new, refl)
 
-pub kept-record : (start : Start) (journal : List Entry) (kept : RoundStart) (was : Recording) (is : Option Recording) → KeepsRecent start journal kept (Some was) is → (recorded : Recording) × (is ≡ Some recorded)
-kept-record start journal kept was None keeps = absurd keeps.records
-kept-record start journal kept was (Some recorded) keeps = (recorded, refl)
+-- ---- a station without a fault
 
-reported-record : (start : Start) (duties : Duties) (next : Due) (asked_at : Option ℕ) (old new : Seated) (before after : SinkState) (was : Recording) (is : Option Recording) (has_failed : Bool)
-    → ReportsByAClock start duties next asked_at old new before after (Some was) is has_failed → (shown : Recording) × (is ≡ Some shown)
-reported-record start duties next asked_at old new before after was None has_failed by_clock = absurd by_clock.reports.records
-reported-record start duties next asked_at old new before after was (Some shown) has_failed by_clock = (shown, refl)
+first-zero : (x y : ℕ) → max x y ≡ 0 → x ≡ 0
+first-zero x y e = grind (arith)
 
-handed-record : (begun next : Begun) (before after : SinkState) (was : Recording) (is : Option Recording) → IsHandOver begun next before after (Some was) is → (recorded : Recording) × (is ≡ Some recorded)
-handed-record begun next before after was is hands =
-    let shown = reported-record hands.start begun.duties next.duties.due (Some hands.at) _ hands.closing.reporter before after was hands.shown false hands.reports in
-    kept-record hands.start hands.closing.journal next.given shown.0 is (subst (λ (o : Option Recording). KeepsRecent hands.start hands.closing.journal next.given o is) shown.1 hands.is_kept)
+-- a round with status 0 has no failed write
+round-well : (asked : RunPlan) (left : Left) (err_old err_new : Told) (status : ℕ) → status ≡ 0 → EndsRound asked left err_old err_new status → left.has_failed ≡ false
+round-well asked left err_old err_new status ended round =
+    let told : round.told ≡ 0 = first-zero _ _ (sym round.status_is ∙ ended) in
+    no-fault _ left.has_failed (sym told ∙ round.told_is)
 
-stations-record : (asked : RunPlan) (n : ℕ) (begun : Begun) (start : Start) (closing : Closing) (before : SinkState) (after : Option (List ℕ)) (was : Recording) (is : Option Recording) (err_old err_new : Told) (status : ℕ)
-    → Stations asked n begun start closing before after (Some was) is err_old err_new status → (shown : Recording) × (is ≡ Some shown)
-stations-record asked zero begun start closing before after was None err_old err_new status station = absurd station.ends.output.records
-stations-record asked zero begun start closing before after was (Some shown) err_old err_new status station = (shown, refl)
-stations-record asked (suc n) begun start closing before after was is err_old err_new status (next, mid, recorded, hands, rest) =
-    let found = handed-record begun next before mid was recorded hands in
-    stations-record asked n next start closing mid after found.0 is err_old err_new status (subst (λ (o : Option Recording). Stations asked n next start closing mid after o is err_old err_new status) found.1 rest)
+-- neither has a station that hands over
+asked-well : (start : Start) (duties : Duties) (asked_at : Option ℕ) (due next : Due) (old new : Seated) (failed more : Bool) → true ≡ (is_some asked_at && more) → MayHandOver start duties asked_at due next old new failed → failed ≡ false
+asked-well start duties None due next old new failed more hands asks = absurd (search rules)
+asked-well start duties (Some at) due next old new failed more hands asks = asks.well
 
-pub round-record : (asked : RunPlan) (given : RoundStart) (start : Start) (closing : Closing) (before after : Option (List ℕ)) (was : Recording) (is : Option Recording) (err_old err_new : Told) (status : ℕ)
-    → IsRound asked given start closing before after (Some was) is err_old err_new status → (shown : Recording) × (is ≡ Some shown)
-round-record asked given start closing before after was is err_old err_new status round = stations-record asked round.hand_overs round.begun start closing _ after was is err_old err_new status round.stations
+handed-well : (station : Station) → RunsStation station → station.left.hands_over ≡ true → station.left.has_failed ≡ false
+handed-well station runs hands =
+    let shows = runs.shows in
+    shows.failed (ap (λ (b : Bool). b || shows.failed_before) hands)
+    ∙ asked-well station.left.start station.begun.duties shows.asked_at _ station.left.due shows.looked shows.mid shows.failed_before _ (sym hands ∙ shows.hands_over) shows.asks
 
--- ---- the stations of a round
+goes-on-well : (asked : RunPlan) (station : Station) (next : Begun) (err : Told) → RunsStation station → HandsOver station.left next station.new.err err ⊎ BeginsRound asked station.left next station.new.err err → station.left.has_failed ≡ false
+goes-on-well asked station next err runs (inl hands) = handed-well station runs hands.goes_on
+goes-on-well asked station next err runs (inr round) = round-well asked station.left station.new.err err 0 refl round.over
 
 abbrev IsText : Begun → Type 0
 IsText begun = begun.duties.tables.format ≡ Text
 
-next-text : (begun next : Begun) (before after : SinkState) (was is : Option Recording) → IsText begun → IsHandOver begun next before after was is → IsText next
-next-text begun next before after was is is_text hands = ap (λ (tables : Tables). tables.format) hands.tables ∙ is_text
+next-text : (asked : RunPlan) (station : Station) (next : Begun) (err : Told) → asked.tables.format ≡ Text → RunsStation station → IsText station.begun
+    → HandsOver station.left next station.new.err err ⊎ BeginsRound asked station.left next station.new.err err → IsText next
+next-text asked station next err asks_text runs is_text (inl hands) = ap (λ (tables : Tables). tables.format) hands.tables ∙ ap (λ (duties : Duties). duties.tables.format) runs.duties ∙ is_text
+next-text asked station next err asks_text runs is_text (inr round) = ap (λ (tables : Tables). tables.format) round.first.tables ∙ asks_text
 
-hand-over-said : (only later_only : Type 0) → (only → ⊥) → (begun next : Begun) (before mid : SinkState) (after : Option (List ℕ)) (was recorded is : Recording) → was.recorded ≡ length begun.given.entries → IsText begun
-    → IsHandOver begun next before mid (Some was) (Some recorded) → (recorded.recorded ≡ length next.given.entries → Said later_only next.given mid.taken after recorded is) → Said only begun.given before.taken after was is
-hand-over-said only later_only not_only begun next before mid after was recorded is known is_text hands later =
-    let start = hands.start in
-    let journal = hands.closing.journal in
-    let found = reported-record start begun.duties next.duties.due (Some hands.at) _ hands.closing.reporter before mid was hands.shown false hands.reports in
-    let shown = found.0 in
-    let keeps : KeepsRecent start journal next.given (Some shown) (Some recorded) = subst (λ (o : Option Recording). KeepsRecent start journal next.given o (Some recorded)) found.1 hands.is_kept in
-    let first = newcomer begun.given.entries (length begun.sources) in
-    let by_clock : ReportsByAClock start begun.duties next.duties.due (Some hands.at) first hands.closing.reporter before mid (Some was) (Some shown) false =
-    subst (λ (o : Option Recording). ReportsByAClock start begun.duties next.duties.due (Some hands.at) first hands.closing.reporter before mid (Some was) o false) found.1 hands.reports in
-    let rest = later keeps.records.recorded in
-    let well_shown = still-well begun.given next.given start hands.closing.reporter journal before.taken mid.taken after was shown recorded is known rest.well keeps in
-    let says = hand-over-says begun start begun.duties next.duties.due hands.at first hands.closing.reporter before mid was shown refl is_text by_clock well_shown in
-    handed-on begun.given next.given start hands.closing.reporter journal before.taken mid.taken after was shown recorded is known rest.well only later_only not_only
-    hands.serves.goes_on says hands.serves.closed.closes.legal hands.serves.closed.closes.seen.0 keeps rest
+-- ---- the stations of a run
 
--- the last station of a round, after which another round goes on
-last-handed : {asked : RunPlan} (only later_only : Type 0) → (only → ⊥) → (begun : Begun) (kept : RoundStart) (start : Start) (closing : Closing) (before mid after : Option (List ℕ)) (was shown recorded is : Recording) (err_old err_new : Told)
-    → was.recorded ≡ length begun.given.entries → IsText begun → IsLastStation asked begun start closing before mid (Some was) (Some shown) err_old err_new 0 → KeepsRecent start closing.journal kept (Some shown) (Some recorded)
-    → Said later_only kept mid after recorded is → Said only begun.given before after was is
-last-handed only later_only not_only begun kept start closing before mid after was shown recorded is err_old err_new known is_text station keeps rest =
-    let well_shown = still-well begun.given kept start closing.reporter closing.journal before mid after was shown recorded is known rest.well keeps in
-    let says = last-says begun start closing before mid was shown err_old err_new is_text station well_shown in
-    handed-on begun.given kept start closing.reporter closing.journal before mid after was shown recorded is known rest.well only later_only not_only
-    station.serves.goes_on says station.serves.closed.closes.legal station.serves.closed.closes.seen.0 keeps rest
+-- a run with status 0 left its output and its record, which says what its stations printed
+pub record SaidOn (only : Type 0) (station : Station) (end : RunEnd) (was : Recording) : Type 0 where
+  pub output : Option (List ℕ)
+  pub out : end.out ≡ Some output
+  pub is : Recording
+  pub recorded : end.recording ≡ Some is
+  pub well : is.has_failed ≡ false
+  pub said : Said only station.begun.given station.old.out output was is
 
-not-zero : (n : ℕ) → suc n ≡ 0 → ⊥
-not-zero n bad = omega (arith, bad)
+not-one : (status : ℕ) → status ≡ 0 → status ≡ 1 → ⊥
+not-one status none one = omega arith
 
--- the stations of the last round
-stations-said : (asked : RunPlan) (n : ℕ) (begun : Begun) (start : Start) (closing : Closing) (before : SinkState) (after : Option (List ℕ)) (was is : Recording) (err_old err_new : Told) → was.recorded ≡ length begun.given.entries → is.has_failed ≡ false
-    → IsText begun → Stations asked n begun start closing before after (Some was) (Some is) err_old err_new 0 → Said (n ≡ 0) begun.given before.taken after was is
-stations-said asked zero begun start closing before after was is err_old err_new known well is_text station =
-    only-said (zero ≡ 0) begun.given start closing.reporter before.taken after was is known station.serves.goes_on (last-says begun start closing before.taken after was is err_old err_new is_text station well)
-stations-said asked (suc n) begun start closing before after was is err_old err_new known well is_text (next, mid, recorded, hands, rest) =
-    let found = handed-record begun next before mid was recorded hands in
-    hand-over-said (suc n ≡ 0) (n ≡ 0) (not-zero n) begun next before mid after was found.0 is known is_text (subst (λ (o : Option Recording). IsHandOver begun next before mid (Some was) o) found.1 hands)
-    (λ told_on. stations-said asked n next start closing mid after found.0 is err_old err_new told_on well (next-text begun next before mid (Some was) recorded is_text hands)
-    (subst (λ (o : Option Recording). Stations asked n next start closing mid after o (Some is) err_old err_new 0) found.1 rest))
+well-record : (recording : Option Recording) (is : Recording) → recording ≡ Some is → record_status recording ≡ 0 → is.has_failed ≡ false
+well-record recording is there well = no-fault 0 is.has_failed (sym well ∙ ap record_status there ∙ omega arith)
 
--- the stations of a round, after which another round goes on
-stations-handed : (asked : RunPlan) (later_only : Type 0) (n : ℕ) (begun : Begun) (kept : RoundStart) (start : Start) (closing : Closing) (before : SinkState) (mid after : Option (List ℕ)) (was shown recorded is : Recording) (err_old err_new : Told)
-    → was.recorded ≡ length begun.given.entries → IsText begun → Stations asked n begun start closing before mid (Some was) (Some shown) err_old err_new 0 → KeepsRecent start closing.journal kept (Some shown) (Some recorded)
-    → Said later_only kept mid after recorded is → Said ⊥ begun.given before.taken after was is
-stations-handed asked later_only zero begun kept start closing before mid after was shown recorded is err_old err_new known is_text station keeps rest =
-    last-handed ⊥ later_only (λ bad. bad) begun kept start closing before.taken mid after was shown recorded is err_old err_new known is_text station keeps rest
-stations-handed asked later_only (suc n) begun kept start closing before mid after was shown recorded is err_old err_new known is_text (next, between, mid_recorded, hands, later) keeps rest =
-    let found = handed-record begun next before between was mid_recorded hands in
-    hand-over-said ⊥ ⊥ (λ bad. bad) begun next before between after was found.0 is known is_text (subst (λ (o : Option Recording). IsHandOver begun next before between (Some was) o) found.1 hands)
-    (λ told_on. stations-handed asked later_only n next kept start closing between mid after found.0 shown recorded is err_old err_new told_on (next-text begun next before between (Some was) mid_recorded is_text hands)
-    (subst (λ (o : Option Recording). Stations asked n next start closing between mid o (Some shown) err_old err_new 0) found.1 later) keeps rest)
+no-failure : (b : Bool) → fault_status b ≡ 0 → b ≡ false
+no-failure false e = refl
+no-failure true e = absurd (omega (arith, e))
 
--- ---- rounds
+neither : (a b : Bool) → a ≡ false → b ≡ false → (a || b) ≡ false
+neither false false e f = refl
+neither true b e f = absurd (search rules)
+neither false true e f = absurd (search rules)
 
-module _ (asked : RunPlan) (asks_text : asked.tables.format ≡ Text) (given : RoundStart) (start : Start) (closing : Closing) (was : Recording) (err_old : Told) (known : was.recorded ≡ length given.entries) where
-  module _ (before after : Option (List ℕ)) (is : Option Recording) (err_new : Told) (status : ℕ) (round : IsRound asked given start closing before after (Some was) is err_old err_new status) where
-    first-text : IsText round.begun
-    first-text = ap (λ (tables : Tables). tables.format) round.first.tables ∙ asks_text
+-- the last round had status 0
+over-well : (rounds_left : ℕ) (err_old err_new : Told) (of_round told : ℕ) → told ≡ 0 → NoRoundAfter rounds_left err_old err_new of_round told → of_round ≡ 0
+over-well rounds_left err_old err_new of_round told none (inl over) = sym over.2 ∙ none
+over-well rounds_left err_old err_new of_round told none (inr full) = full.0
 
-    first-known : was.recorded ≡ length round.begun.given.entries
-    first-known = known ∙ ap (λ (g : RoundStart). length g.entries) (sym round.first.given_is)
+module _ (asked : RunPlan) (asks_text : asked.tables.format ≡ Text) (end : RunEnd) (ended : end.status ≡ 0) (well : record_status end.recording ≡ 0) where
+  last-said : (only : Type 0) (station : Station) (was : Recording) → RunsStation station → IsText station.begun → station.old.recording ≡ Some was → was.recorded ≡ length station.begun.given.entries → EndsRun asked station.left station.new end → SaidOn only station end was
+  last-said only station was runs is_text there known (inr (err, goes_on, lost)) = absurd (not-one end.status ended lost.early.status_is)
+  last-said only station was runs is_text there known (inl over) =
+      let shown = record-after _ station.old.recording station.new.recording was there runs.shows.records in
+      let recorded : end.recording ≡ Some shown.0 = over.recording ∙ shown.1 in
+      let is_well = well-record end.recording shown.0 recorded well in
+      let told : over.told ≡ 0 = first-zero _ _ (sym over.status_is ∙ ended) in
+      let of_round = over-well station.left.rounds_left over.err_round over.err_mid over.of_round over.told told over.no_more in
+      let written = round-well asked station.left station.new.err over.err_round over.of_round of_round over.round in
+      let late = no-fault over.told over.has_failed (sym ended ∙ over.status_is) in
+      let kept = kept-whole station.new.out over.output _ (neither station.left.has_failed over.has_failed written late) over.gives in
+      let says = says-kept station.begun.given station.left.start station.left.closing.reporter station.old.out station.new.out over.output was shown.0 kept
+      (station-says station was shown.0 runs is_text there shown.1 written is_well) in
+      record {
+        output = over.output;
+        out = over.out;
+        is = shown.0;
+        recorded = recorded;
+        well = is_well;
+        said = only-said only station.begun.given station.left.start station.left.closing.reporter station.old.out over.output was shown.0 known runs.goes_on says;
+      }
 
-    well-ended : status ≡ 0 → (shown : Recording) → is ≡ Some shown → Stations asked round.hand_overs round.begun start closing (record { taken = before; failures = 0 }) after (Some was) (Some shown) err_old err_new 0
-    well-ended well shown shown_is =
-        subst (λ (s : ℕ). Stations asked round.hand_overs round.begun start closing (record { taken = before; failures = 0 }) after (Some was) (Some shown) err_old err_new s) well
-        (subst (λ (o : Option Recording). Stations asked round.hand_overs round.begun start closing (record { taken = before; failures = 0 }) after (Some was) o err_old err_new status) shown_is round.stations)
+  not-one-more : (n : ℕ) → suc n ≡ 0 → ⊥
+  not-one-more n bad = omega (arith, bad)
 
-  round-said : (before after : Option (List ℕ)) (is : Recording) (err_new : Told) (status : ℕ) (round : IsRound asked given start closing before after (Some was) (Some is) err_old err_new status) → status ≡ 0 → is.has_failed ≡ false
-      → Said (round.hand_overs ≡ 0) given before after was is
-  round-said before after is err_new status round ended well =
-      subst (λ (g : RoundStart). Said (round.hand_overs ≡ 0) g before after was is) round.first.given_is
-      (stations-said asked round.hand_overs round.begun start closing _ after was is err_old err_new (first-known before after (Some is) err_new status round) well (first-text before after (Some is) err_new status round)
-      (well-ended before after (Some is) err_new status round ended is refl))
-
-  round-handed : (later_only : Type 0) (kept : RoundStart) (before mid after : Option (List ℕ)) (shown : Option Recording) (recorded is : Recording) (err_new : Told) → IsRound asked given start closing before mid (Some was) shown err_old err_new 0
-      → KeepsRecent start closing.journal kept shown (Some recorded) → Said later_only kept mid after recorded is → Said ⊥ given before after was is
-  round-handed later_only kept before mid after shown recorded is err_new round keeps rest =
-      let found = recorded-before start closing.journal kept shown recorded keeps in
-      subst (λ (g : RoundStart). Said ⊥ g before after was is) round.first.given_is
-      (stations-handed asked later_only round.hand_overs round.begun kept start closing _ mid after was found.0 recorded is err_old err_new (first-known before mid shown err_new 0 round) (first-text before mid shown err_new 0 round)
-      (well-ended before mid shown err_new 0 round refl found.0 found.1) (subst (λ (o : Option Recording). KeepsRecent start closing.journal kept o (Some recorded)) found.1 keeps) rest)
-
--- the record of a round without a fault is there before the next
-pub handed-on-record : (asked : RunPlan) (given kept : RoundStart) (before mid : Option (List ℕ)) (was : Recording) (is : Option Recording) (err_old err_new : Told) → HandsOn asked given before mid (Some was) is err_old err_new kept
-    → (recorded : Recording) × (is ≡ Some recorded)
-handed-on-record asked given kept before mid was is err_old err_new hands =
-    let shown = round-record asked given hands.start hands.closing before mid was hands.shown err_old err_new 0 hands.round in
-    kept-record hands.start hands.closing.journal kept shown.0 is (subst (λ (o : Option Recording). KeepsRecent hands.start hands.closing.journal kept o is) shown.1 hands.is_kept)
-
-not-both : (status : ℕ) → status ≡ 0 → status ≡ 1 → ⊥
-not-both status zero_is one_is = omega arith
-
-runs-said : (asked : RunPlan) → asked.tables.format ≡ Text → (more : ℕ) (given : RoundStart) (before after : Option (List ℕ)) (was is : Recording) (err_old err_new : Told) (status : ℕ) → status ≡ 0 → was.recorded ≡ length given.entries → is.has_failed ≡ false
-    → (runs : RunsRounds asked more given before (Some after) (Some was) (Some is) err_old err_new status) → Said (IsOneStation asked more given before (Some after) (Some was) (Some is) err_old err_new status runs) given before after was is
-runs-said asked asks_text zero given before after was is err_old err_new status ended known well runs = round-said asked asks_text given runs.0 runs.1 was err_old known before after is err_new status runs.2 ended well
-runs-said asked asks_text (suc more) given before after was is err_old err_new status ended known well (inr (inl cut)) = absurd (not-both status ended cut.2)
-runs-said asked asks_text (suc more) given before after was is err_old err_new status ended known well (inr (inr cut)) = absurd (not-both status ended cut.status_is)
-runs-said asked asks_text (suc more) given before after was is err_old err_new status ended known well (inl (mid, recorded, err_mid, kept, hands, rest)) =
-    let found = handed-on-record asked given kept before mid was recorded err_old err_mid hands in
-    let keeps : KeepsRecent hands.start hands.closing.journal kept hands.shown (Some found.0) = subst (λ (o : Option Recording). KeepsRecent hands.start hands.closing.journal kept hands.shown o) found.1 hands.is_kept in
-    let rest_runs : RunsRounds asked more kept mid (Some after) (Some found.0) (Some is) err_mid err_new status = subst (λ (o : Option Recording). RunsRounds asked more kept mid (Some after) o (Some is) err_mid err_new status) found.1 rest in
-    let known_on = kept-count hands.start hands.closing.journal kept hands.shown found.0 keeps in
-    round-handed asked asks_text given hands.start hands.closing was err_old known _ kept before mid after hands.shown found.0 is err_mid hands.round keeps
-    (runs-said asked asks_text more kept mid after found.0 is err_mid err_new status ended known_on well rest_runs)
-  where
-    kept-count : (start : Start) (journal : List Entry) (kept : RoundStart) (shown : Option Recording) (recorded : Recording) → KeepsRecent start journal kept shown (Some recorded) → recorded.recorded ≡ length kept.entries
-    kept-count start journal kept None recorded keeps = absurd keeps.records
-    kept-count start journal kept (Some shown) recorded keeps = keeps.records.recorded
+  pub stations-said : (station : Station) (stations : List Station) (was : Recording) → RunsStation station → IsText station.begun → station.old.recording ≡ Some was → was.recorded ≡ length station.begun.given.entries
+      → RunsOn asked station stations end → SaidOn (length stations ≡ 0) station end was
+  stations-said station [] was runs is_text there known ends = last-said _ station was runs is_text there known ends
+  stations-said station (next ∷ stations) was runs is_text there known (follows, next_runs, others) =
+      let start = station.left.start in
+      let journal = station.left.closing.journal in
+      let closing = station.left.closing.reporter in
+      let shown = record-after _ station.old.recording station.new.recording was there runs.shows.records in
+      let found = record-after _ station.new.recording next.old.recording shown.0 shown.1 follows.is_kept.records in
+      let keeps : KeepsRecent start journal next.begun.given (Some shown.0) (Some found.0) =
+      subst (λ (o : Option Recording). KeepsRecent start journal next.begun.given (Some shown.0) o) found.1 (subst (λ (o : Option Recording). KeepsRecent start journal next.begun.given o next.old.recording) shown.1 follows.is_kept) in
+      let later = stations-said next stations found.0 next_runs (next-text asked station next.begun next.old.err asks_text runs is_text follows.how) found.1 keeps.records.recorded others in
+      let rest : Said (length stations ≡ 0) next.begun.given station.new.out later.output found.0 later.is = subst (λ (o : Option (List ℕ)). Said (length stations ≡ 0) next.begun.given o later.output found.0 later.is) follows.out later.said in
+      let well_shown = still-well station.begun.given next.begun.given start closing journal station.old.out station.new.out later.output was shown.0 found.0 later.is known rest.well keeps in
+      let says = station-says station was shown.0 runs is_text there shown.1 (goes-on-well asked station next.begun next.old.err runs follows.how) well_shown in
+      record {
+        output = later.output;
+        out = later.out;
+        is = later.is;
+        recorded = later.recorded;
+        well = later.well;
+        said = handed-on station.begun.given next.begun.given start closing journal station.old.out station.new.out later.output was shown.0 found.0 later.is known rest.well
+            (suc (length stations) ≡ 0) (length stations ≡ 0) (not-one-more (length stations)) runs.goes_on says runs.closed.closes.legal runs.closed.closes.seen.0 keeps rest;
+      }
 
 -- what a run printed, a replay of its record prints that has no limit of entries
 pub record IsShownAgain (site : Site) (only : Type 0) (before after : Option (List ℕ)) (blank left : Recording) : Type 0 where
@@ -183,13 +155,9 @@ pub record IsShownAgain (site : Site) (only : Type 0) (before after : Option (Li
   pub says : unlimited_output (empty_log (program_limits site)) (cuts lines) ≡ tables
   pub short : only → calls_in (cuts lines) ≤ most_entries
 
-pub run-shown-again : (asked : RunPlan) (more : ℕ) (before after : Option (List ℕ)) (blank left : Recording) (err_old err_new : Told) (status : ℕ) → status ≡ 0 → asked.tables.format ≡ Text → blank.recorded ≡ 0 → left.has_failed ≡ false
-    → (runs : RunsRounds asked more (no_start asked.site) before (Some after) (Some blank) (Some left) err_old err_new status)
-    → IsShownAgain asked.site (IsOneStation asked more (no_start asked.site) before (Some after) (Some blank) (Some left) err_old err_new status runs) before after blank left
-run-shown-again asked more before after blank end err_old err_new status ended asks_text none well runs =
-    let said = runs-said asked asks_text more (no_start asked.site) before after blank end err_old err_new status ended none well runs in
+pub said-again : (site : Site) (only : Type 0) (before after : Option (List ℕ)) (blank left : Recording) → Said only (no_start site) before after blank left → IsShownAgain site only before after blank left
+said-again site only before after blank left said =
     let n = most_entries + calls_in (cuts said.lines) in
-    let site = asked.site in
     let begins : Begins n (no_start site) [] = record { continues = first-continues (wide site n) []; legal = nothing_legal site n } in
     record {
       tables = said.tables;

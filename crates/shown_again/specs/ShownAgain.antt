@@ -1,5 +1,5 @@
 -- What a replay of the record of a run prints.
-use Rattle.std.specs.Prelude.{◌≡◌, ◌≤◌, ◌⊎◌, ℕ, zero, List, Option, Some}
+use Rattle.std.specs.Prelude.{◌≡◌, ◌≤◌, ◌⊎◌, ℕ, List, Option, Some, length}
 use Rattle.std.specs.Io.KnownBytes.{Appends}
 use Rattle.modes_frame.specs.Lines.{cuts}
 use Rattle.station_journal.specs.Log.{empty_log, most_entries}
@@ -9,7 +9,7 @@ use Rattle.station_replay.specs.Forgetting.{StaysSparse, calls_in}
 use Rattle.station_main.specs.Limits.{forget_at, most_between_ticks, program_limits}
 use Rattle.station_reporter.specs.Recorded.{Recording}
 use Rattle.station_main.specs.Replay.{EndsReplay}
-use Rattle.station_main.specs.Rounds.{RunPlan, RoundStart, RunsRounds}
+use Rattle.station_main.specs.Stations.{Station}
 use Rattle.messages.specs.Telling.{Told}
 
 -- a run left its output, which took just this text
@@ -18,8 +18,10 @@ pub record HasPrinted (before : Option (List ℕ)) (after : Option (Option (List
   pub left : after ≡ Some output
   pub grown : Appends before output text
 
--- a run left its record, which took just these lines
-pub record HasRecorded (blank : Recording) (after : Option Recording) (lines : List ℕ) : Type 0 where
+-- a run began a record and left it, which took just these lines
+pub record HasRecorded (before after : Option Recording) (lines : List ℕ) : Type 0 where
+  pub blank : Recording
+  pub begun : before ≡ Some blank
   pub recording : Recording
   pub left : after ≡ Some recording
   pub grown : Appends blank.taken recording.taken lines
@@ -37,8 +39,5 @@ ReplayPrints site lines text =
     → EndsReplay Text (program_limits site) (Some lines) before after err_old err_new 0 → Appends before after text
 
 -- the run was of one round, and its station handed over to no other
-abbrev pub IsOneStation : (asked : RunPlan) (more : ℕ) (given : RoundStart) (before : Option (List ℕ)) (after : Option (Option (List ℕ)))
-    (was is : Option Recording) (err_old err_new : Told) (status : ℕ)
-    → RunsRounds asked more given before after was is err_old err_new status → Type 0
-IsOneStation asked zero given before (Some after) was is err_old err_new status runs = runs.2.hand_overs ≡ 0
-IsOneStation asked more given before after was is err_old err_new status runs = ⊥
+abbrev pub IsOneStation : List Station → Type 0
+IsOneStation stations = length stations ≡ 1

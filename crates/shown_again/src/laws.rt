@@ -1,7 +1,7 @@
 //! A law over the definitions alone: what `replay` prints of the record of a run.
-ghost use Rattle.std.specs.Prelude.{◌≡◌, ℕ, List, Option, Some};
+ghost use Rattle.std.specs.Prelude.{◌≡◌, ℕ, List, Option, is_some, true};
 ghost use Rattle.station_report.specs.declared.formats.Format.TheVariants.{Text};
-ghost use Rattle.station_main.specs.Rounds.{RunPlan, RunsRecorded, no_start};
+ghost use Rattle.station_main.specs.Stations.{RunPlan, RunsStations};
 ghost use Rattle.shown_again.specs.ShownAgain.{HasPrinted, HasRecorded, HasRoom, IsOneStation, ReplayPrints};
 ghost use Rattle.messages.specs.Telling.{Told};
 ghost use Rattle.station_main.specs.Limits.{program_limits};
@@ -16,11 +16,11 @@ ghost use Rattle.modes_frame.specs.Lines.{cuts};
 /// The replay's journal has to have room for the entries in these lines. It has for those of one station. It has for any number of
 /// them as long as fewer than 12,582,912 are recent and fewer than 4,194,304 come between two ticks.
 pub fn a_replay_prints_what_the_run_printed()
-    ensures { (asked : RunPlan) (more : ℕ) (before : Option (List ℕ)) (after : Option (Option (List ℕ)))
-        (alarm : Option (List ℕ)) (err_old err_new : Told) → asked.tables.format ≡ Text →
-        (run : RunsRecorded asked more before after alarm err_old err_new 0) → (text lines : List ℕ) ×
-        HasPrinted before after text × HasRecorded run.blank run.left lines ×
+    ensures { (asked : RunPlan) (before : Option (List ℕ)) (after : Option (Option (List ℕ)))
+        (alarm : Option (List ℕ)) (err_old err_new : Told) → asked.tables.format ≡ Text → is_some asked.file ≡ true →
+        (run : RunsStations asked before after alarm err_old err_new 0) → (text lines : List ℕ) ×
+        HasPrinted before after text × HasRecorded run.blank run.leaves.end.recording lines ×
         (unlimited_output (empty_log (program_limits asked.site)) (cuts lines) ≡ text) ×
-        (IsOneStation asked more (no_start asked.site) before after (Some run.blank) run.left err_old err_new run.of_rounds run.runs → HasRoom asked.site lines) ×
+        (IsOneStation run.stations → HasRoom asked.site lines) ×
         (HasRoom asked.site lines → ReplayPrints asked.site lines text) }
 {}

@@ -2,5 +2,5 @@
 pub use Rattle.station_main.specs.Inputs.{AllTakeFrom, AreFed, FailsBetweenLines, GaveAll, GaveAllBut, IsFedBy, IsUnfinished, TakesFrom, path_of, unfinished_status, unknown}
 pub use Rattle.station_main.specs.Limits.{forget_at, most_between_ticks, most_reads, program_limits}
 pub use Rattle.station_main.specs.Output.{GivesBack, buffered_of}
-pub use Rattle.station_main.specs.Rounds.{Begun, EndsRound, GoesOnFrom, HandsOn, HasNoLines, IsCutShort, IsFirst, IsHandOver, IsLastStation, IsOver, IsRound, IsServedBy, KeepsRecent, RoundStart, RunPlan, RunsRecorded, RunsRounds, Serves, Stations, begun_of, no_start, start_of}
-pub use Rattle.station_main.specs.Run.{AreNumbered, Closing, EndsEarly, HavePumped, HaveWorked, IsClosed, LastLook, PrintsLast, ReporterLeaves, ends_run, is_open, may_go_on, may_work_on}
+pub use Rattle.station_main.specs.Stations.{AreRead, BeginsRound, Begun, EndsEarly, EndsRound, EndsRun, Follows, GoesOn, GoesOnFrom, HandsOver, HasNoLines, IsFirst, IsLost, IsOver, KeepsRecent, Leaves, Left, RanTo, RoundStart, RunEnd, RunPlan, Runs, RunsFrom, RunsOn, RunsStation, RunsStations, Shows, Station, Streams, begun_of, left_of, no_start, plan_of, start_of, streams_of}
+pub use Rattle.station_main.specs.Run.{AreNumbered, Closing, HavePumped, HaveWorked, IsClosed, LastLook, PrintsLast, ends_run, is_open, may_go_on, may_work_on}

@@ -26,13 +26,3 @@ any-ended answer (w ∷ ws) (c ∷ counted) same =
 pub work-on : {W R : Type 0} (source : W → Portions R) (answer : W → Option (Result Tally PumpFault)) (ws : List W) (counted : List (Result Tally PumpFault)) → map answer ws ≡ map Some counted
     → may_work_on (λ w. state_of (source w)) answer ws ≡ may_go_on (map state_of (map source ws)) counted
 work-on source answer ws counted same = ap₂ (λ (a b : Bool). not a && b) (any-ended answer ws counted same) (any-open source ws)
-
--- a hand-over that was asked for is made just where there is something to do
-pub made : {X : Type 0} (b : Bool) (asked : Option X) (at : X) → Some at ≡ cond b asked None → (b ≡ true) × (asked ≡ Some at)
-made true asked at is = (refl, sym is)
-made false asked at is = absurd (search rules)
-
-pub not-made : {X : Type 0} (b : Bool) (asked : Option X) → None ≡ cond b asked None → is_some asked ≡ true → b ≡ false
-not-made false asked none some = refl
-not-made true None none some = absurd (search rules)
-not-made true (Some at) none some = absurd (search rules)

@@ -5,7 +5,6 @@ use lib.ListN.{get_or-append}
 use Rattle.std.proofs.lemmas.List.{get_or_at, get_or-map, length-map}
 use Rattle.station_portions.specs.Giving.{state_of}
 use Rattle.streams.specs.Source.{SourceState}
-use Rattle.streams.specs.Sink.{SinkState}
 use native.Mathlib.Decide.{dec_lt}
 use Rattle.station_journal.specs.declared.entry.Entry.{Entry}
 use Rattle.station_history.specs.Start.{Start}
@@ -15,10 +14,7 @@ use Rattle.station_lines.specs.declared.pumping.PumpFault.{PumpFault}
 use Rattle.station_lines.specs.declared.tally.Tally.{Tally}
 use Rattle.station_portions.specs.declared.finished_path.WholePath.{WholePath}
 use Rattle.messages.proofs.Common.{AddsAll, AddsEach}
-use Rattle.station_reporter.proofs.Common.{Recording, ReportsByAClock}
-use Rattle.station_reporter.specs.declared.duties.Duties.{Duties}
-use Rattle.station_reporter.specs.declared.schedule.Due.{Due}
-use Rattle.station_main.proofs.Common.{AllTakeFrom, FailsBetweenLines, most_reads, Begun, IsServedBy, Serves, AreNumbered, Closing, HavePumped, HaveWorked, IsClosed}
+use Rattle.station_main.proofs.Common.{AllTakeFrom, most_reads, AreNumbered, Closing, HavePumped, HaveWorked, IsClosed}
 use Rattle.station_main.proofs.RunJobLemmas.{length_new_seats}
 use Rattle.command_line.proofs.FoundLemmas.{some_same}
 use Rattle.station_main.proofs.SeatNumberLemmas.{all_once}
@@ -149,42 +145,6 @@ closed_by start n entries seats reporter receivers numbered same closes = record
   once = subst (λ (k : ℕ). EachOnce k (reporter ∷ receivers)) (sym numbered.many) (all_once n reporter receivers numbered);
   closes = subst (λ (k : ℕ). Closes start k entries (reporter ∷ receivers)) (sym numbered.many) (subst (Closes start n entries) same closes);
 }
-
--- what a station that is closed has served, and what it counted of it
-pub serves_by : (begun : Begun) (start : Start) (closing : Closing) (now sources : List SourceState) (options : List (Option (Result Tally PumpFault))) (answers : List (Result Tally PumpFault))
-    → (served : IsServedBy begun start closing.receivers now options) → sources ≡ now → AddsAll begun.answers options answers → All FailsBetweenLines sources → IsClosed start closing
-    → (serves : Serves begun start closing sources answers) × (serves.counted ≡ served.counted)
-serves_by begun start closing now sources options answers served same adds failed closed = (
-  record {
-    goes_on = served.goes_on;
-    counted = served.counted;
-    pumped = subst (λ (ss : List SourceState). HavePumped start begun.given.entries begun.sources ss closing.receivers served.counted) (sym same) served.pumped;
-    failed = failed;
-    sums = adds_each begun.answers served.counted answers (subst (λ (os : List (Option (Result Tally PumpFault))). AddsAll begun.answers os answers) served.answers_are adds);
-    closed = closed;
-  },
-  refl,
-)
-
--- a reporter that has asked for a hand-over has not failed
-pub hand_over_reports : (start : Start) (duties : Duties) (next : Due) (asked_at : Option ℕ) (at : ℕ) (old new : Seated) (before after : SinkState) (was is : Option Recording) (has_failed : Bool) → asked_at ≡ Some at
-    → ReportsByAClock start duties next asked_at old new before after was is has_failed → ReportsByAClock start duties next (Some at) old new before after was is false
-hand_over_reports start duties next asked_at at old new before after was is has_failed asked by_clock =
-    let with_time = subst (λ (o : Option ℕ). ReportsByAClock start duties next o old new before after was is has_failed) asked by_clock in
-    subst (λ (b : Bool). ReportsByAClock start duties next (Some at) old new before after was is b) with_time.hands_over.well with_time
-
--- what a reporter has done, by other words for its duties and for what is due next
-pub reports_by : (start : Start) (duties other : Duties) (due next : Due) (asked_at : Option ℕ) (old new : Seated) (before after : SinkState) (was is : Option Recording) (has_failed : Bool) → other ≡ duties → next ≡ due
-    → ReportsByAClock start duties due asked_at old new before after was is has_failed → ReportsByAClock start other next asked_at old new before after was is has_failed
-reports_by start duties other due next asked_at old new before after was is has_failed same same_due by_clock =
-    subst (λ (d : Duties). ReportsByAClock start d next asked_at old new before after was is has_failed) (sym same)
-    (subst (λ (n : Due). ReportsByAClock start duties n asked_at old new before after was is has_failed) (sym same_due) by_clock)
-
--- the same of a seat that equals the one that it began with
-pub reports_from : (start : Start) (duties : Duties) (due : Due) (asked_at : Option ℕ) (old first new : Seated) (before after : SinkState) (was is : Option Recording) (has_failed : Bool) → old ≡ first
-    → ReportsByAClock start duties due asked_at old new before after was is has_failed → ReportsByAClock start duties due asked_at first new before after was is has_failed
-reports_from start duties due asked_at old first new before after was is has_failed same by_clock =
-    subst (λ (s : Seated). ReportsByAClock start duties due asked_at s new before after was is has_failed) same by_clock
 
 -- ---- the threads that sources take from
 

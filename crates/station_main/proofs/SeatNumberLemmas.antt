@@ -12,6 +12,7 @@ use Rattle.streams.specs.declared.sinks.WriteFault.{WriteFault}
 use Rattle.station_reporter.proofs.Common.{PrintsAndRecords, Recording, IsLater, MayHandOver, ReportsByAClock, Showing, Showings, Ticks, seat_after}
 use Rattle.station_reporter.specs.declared.duties.Duties.{Duties}
 use Rattle.station_reporter.specs.declared.schedule.Due.{Due}
+use Rattle.station_reporter.specs.declared.reporter.ReporterResult.{ReporterResult}
 use Rattle.station_main.proofs.Common.{AreNumbered, PrintsLast}
 
 -- ---- the reporter's seat keeps its number
@@ -46,10 +47,9 @@ reporter_numbered start duties next asked_at old new before after was is has_fai
     ∙ later_number start by_clock.reports.shown by_clock.mid by_clock.reports.later
     ∙ showings_number start old by_clock.reports.shown by_clock.reports.showings by_clock.reports.keeps.walk
 
-pub last_numbered : (format : Format) (start : Start) (old new : Seated) (before : SinkState) (after : Option (List ℕ)) (was is : Option Recording) (failed_before has_failed : Bool)
-    → PrintsLast format start old new before failed_before after was is has_failed → new.number ≡ old.number
-last_numbered format start old new before after was is true has_failed prints = ap (λ (s : Seated). s.number) prints.0
-last_numbered format start old new before after was is false has_failed prints = printed_number format start old new before prints.sink was is prints.result prints.prints
+pub last_numbered : {O K : Type 0} (state : O → SinkState) (record_of : K → Option Recording) (format : Format) (start : Start) (none : Bool) (old new : ReporterResult Seated O K) → PrintsLast state record_of format start none old new → new.seat.number ≡ old.seat.number
+last_numbered state record_of format start true old new same = ap (λ (r : ReporterResult Seated _ _). r.seat.number) same
+last_numbered state record_of format start false old new (result, prints, failed, due, asked) = printed_number format start old.seat new.seat (state old.out) (state new.out) (record_of old.beside) (record_of new.beside) result prints
   where
     printed_number : (format : Format) (start : Start) (old new : Seated) (before after : SinkState) (was is : Option Recording) (result : Result (Unit {0}) WriteFault) → PrintsAndRecords format start old new before after was is result → new.number ≡ old.number
     printed_number format start old new before after was is result (inl prints) = prints.0.looks.number

@@ -1,10 +1,11 @@
--- What the receivers of a round took of each path.
+-- What the receivers of a run took of each path.
 use Rattle.std.proofs.Common.{rules, ◌≡◌, ◌∙◌, ◌∷◌, ◌++◌, ◌<◌, ◌⊎◌, ◌&&◌, ◌||◌, ℕ, zero, suc, Bool, true, false, not, List, [], Contains, IfSome, Option, Some, None, Ok, Err, Result, append_assoc, append-nil, ap, arith, fold, get_or, inl, inr, length, max, refl, subst, sym}
 use Rattle.std.specs.Io.KnownBytes.{Appends}
 use Rattle.std.specs.List.{list_any}
 use Rattle.modes_frame.specs.declared.cutter.Cut.{Cut}
 use Rattle.modes_frame.specs.Lines.{cuts}
 use Rattle.station_history.specs.Start.{Start}
+use Rattle.station_shared.specs.Seats.{new_seat}
 use Rattle.streams.specs.Source.{IsBorder, SourceState}
 use Rattle.station_lines.specs.declared.pumping.PumpFault.{PumpFault}
 use Rattle.station_lines.specs.declared.pumping.PumpFault.TheVariants as pump
@@ -14,14 +15,12 @@ use Rattle.station_portions.proofs.WholeLemmas.{given_lines}
 use Rattle.station_portions.specs.Whole.{GivesPath}
 use Rattle.station_portions.specs.declared.message.PathEnd.{PathEnd}
 use Rattle.station_portions.specs.declared.message.PathEnd.TheVariants.{AtEnd}
-use Rattle.streams.specs.Sink.{SinkState}
 use Rattle.station_shared.specs.Seats.{Seated}
 use Rattle.station_shared.specs.Workers.{Works}
 use Rattle.messages.specs.Sums.{AddsEach, HasSameFault, first_fault}
-use Rattle.station_main.specs.Taken.{AreLinesOf, Portion, TakePortions, TakesEachPath, all_bytes, all_lines, last_station}
+use Rattle.station_main.specs.Taken.{AreLinesOf, Portion, TakeInEach, TakesEachPath, TakesPath, TakesPortion, all_bytes, all_lines, so_far_after}
 use Rattle.messages.proofs.Common.{Told, status_of}
-use Rattle.station_reporter.proofs.Common.{Recording}
-use Rattle.station_main.proofs.Common.{Begun, Closing, FailsBetweenLines, GaveAll, GaveAllBut, IsRound, IsUnfinished, RoundStart, RunPlan, Stations, ends_run, unfinished_status}
+use Rattle.station_main.proofs.Common.{BeginsRound, Begun, EndsRound, FailsBetweenLines, GaveAll, GaveAllBut, HandsOver, IsFirst, IsUnfinished, RunEnd, RunPlan, Runs, RunsOn, RunsStation, Station, Streams, ends_run, most_reads, unfinished_status}
 use Rattle.station_main.proofs.BorderLemmas.{border_rest}
 use Rattle.command_line.proofs.FoundLemmas.{none_some, some_same}
 
@@ -41,19 +40,17 @@ border-known given known is border = subst (λ (o : Option (List ℕ)). IfSome o
 -- a receiver whose answer doesn't end the run took all lines of what its source gave, which ends between two lines
 whole-portion : (known : List ℕ) (start : Start) (a b : Seated) (old new : SourceState) (turns : ℕ) (answer : Result Tally PumpFault) → (work : Works start a b old new turns answer)
     → old.given ≡ Some known → FailsBetweenLines new → ends_run answer ≡ false
-    → (work.pumps.lines ≡ cuts work.pumps.draws.given) × IsBorder work.pumps.draws.given
+    → (work.pumps.lines ≡ cuts work.pumps.draws.given) × IsBorder (known ++ work.pumps.draws.given)
 whole-portion known start a b old new turns (Ok tally) work is fails goes_on =
-    let draws = work.pumps.draws in
-    let border = border-known new.given (known ++ draws.given) (appends-known old.given new.given known draws.given is draws.bytes.1) draws.ends.2.1 in (
+    let draws = work.pumps.draws in (
       sym (append-nil work.pumps.lines) ∙ ap (λ l. work.pumps.lines ++ l) (sym draws.ends.0) ∙ sym draws.front,
-      border_rest known draws.given border,
+      border-known new.given (known ++ draws.given) (appends-known old.given new.given known draws.given is draws.bytes.1) draws.ends.2.1,
     )
 whole-portion known start a b old new turns (Err (pump.Read tally)) work is fails goes_on =
     let draws = work.pumps.draws in
     let some : 0 < new.failures = omega (arith, draws.failures) in
     let border = border-known new.given (known ++ draws.given) (appends-known old.given new.given known draws.given is draws.bytes.1) (fails some).1 in
-    let rest = border_rest known draws.given border in
-    (draws.ends.0 ∙ sym (cuts_border draws.given rest), rest)
+    (draws.ends.0 ∙ sym (cuts_border draws.given (border_rest known draws.given border)), border)
 whole-portion known start a b old new turns (Err (pump.TooManyTurns tally)) work is fails goes_on = absurd (search rules)
 whole-portion known start a b old new turns (Err (pump.NoMemory tally)) work is fails goes_on = absurd (search rules)
 
@@ -78,58 +75,6 @@ none-ends [] place d none inside = absurd (omega (arith, inside))
 none-ends (answer ∷ answers) zero d none inside = (neither (ends_run answer) (list_any ends_run answers) none).0
 none-ends (answer ∷ answers) (suc place) d none inside =
     none-ends answers place d (neither (ends_run answer) (list_any ends_run answers) none).1 (omega (arith, inside))
-
--- ---- station after station
-
-module _ (asked : RunPlan) (start : Start) (closing : Closing) (after : Option (List ℕ)) (is : Option Recording) (err_old err_new : Told) (status place : ℕ) (source : SourceState) (seat : Seated) (answer : Result Tally PumpFault) where
-  -- what is taken of a path from a station on, whose source had given these bytes before
-  record TakesFrom (more : ℕ) (begun : Begun) (before : SinkState) (was : Option Recording) (stations : Stations asked more begun start closing before after was is err_old err_new status) (known : List ℕ) : Type 0 where
-    portions : List Portion
-    took : TakePortions asked more begun start closing before after was is err_old err_new status stations place portions
-    given : (get_or (last_station asked more begun start closing before after was is err_old err_new status stations).leaves.sources place source).given ≡ Some (known ++ all_bytes portions)
-    left_out : List Cut
-    lines : cuts (all_bytes portions) ≡ all_lines portions ++ left_out
-    answered : place < length (last_station asked more begun start closing before after was is err_old err_new status stations).leaves.serves.counted
-    all : ends_run (get_or (last_station asked more begun start closing before after was is err_old err_new status stations).leaves.serves.counted place answer) ≡ false → left_out ≡ []
-
-  takes : (more : ℕ) (begun : Begun) (before : SinkState) (was : Option Recording) (stations : Stations asked more begun start closing before after was is err_old err_new status) (known : List ℕ)
-      → place < length begun.sources → (get_or begun.sources place source).given ≡ Some known → TakesFrom more begun before was stations known
-  takes zero begun before was last known inside given_is =
-      let work = last.serves.pumped.each place source seat answer inside in
-      let draws = work.pumps.draws in
-      let own = work.pumps.lines in
-      let there : place < length last.sources = omega (arith, inside, last.serves.pumped.many_sources) in
-      let now = last-lines (ends_run (get_or last.serves.counted place answer)) draws.given own draws.left_out draws.front
-      (λ goes_on. (whole-portion known start _ _ _ _ _ (get_or last.serves.counted place answer) work given_is (last.serves.failed place source there) goes_on).0) in
-      let portion : Portion = record { bytes = draws.given; lines = own } in
-      record {
-        portions = portion ∷ [];
-        took = (refl, record { inside = inside; source = source; seat = seat; answer = answer; works = work; bytes_are = refl; lines_are = refl });
-        given = appends-known _ _ known draws.given given_is draws.bytes.1 ∙ ap (λ (l : List ℕ). Some (known ++ l)) (sym (append-nil draws.given));
-        left_out = now.0;
-        lines = ap cuts (append-nil draws.given) ∙ now.1 ∙ ap (λ (l : List Cut). l ++ now.0) (sym (append-nil own));
-        answered = omega (arith, inside, last.serves.pumped.many_answers);
-        all = now.2;
-      }
-  takes (suc more) begun before was (next, mid, recorded, hands, rest) known inside given_is =
-      let work = hands.serves.pumped.each place source seat answer inside in
-      let draws = work.pumps.draws in
-      let own = work.pumps.lines in
-      let there : place < length next.sources = omega (arith, inside, hands.serves.pumped.many_sources) in
-      let goes_on = none-ends hands.serves.counted place answer (not-first _ _ hands.more) (omega (arith, inside, hands.serves.pumped.many_answers)) in
-      let whole = whole-portion known hands.start _ _ _ _ _ (get_or hands.serves.counted place answer) work given_is (hands.serves.failed place source there) goes_on in
-      let later = takes more next mid recorded rest (known ++ draws.given) there (appends-known _ _ known draws.given given_is draws.bytes.1) in
-      let portion : Portion = record { bytes = draws.given; lines = own } in
-      record {
-        portions = portion ∷ later.portions;
-        took = (record { inside = inside; source = source; seat = seat; answer = answer; works = work; bytes_are = refl; lines_are = refl }, later.took);
-        given = later.given ∙ ap Some (append_assoc known draws.given (all_bytes later.portions));
-        left_out = later.left_out;
-        lines = cuts_portions draws.given (all_bytes later.portions) whole.1 ∙ ap (λ (l : List Cut). l ++ cuts (all_bytes later.portions)) (sym whole.0)
-            ∙ ap (λ (l : List Cut). own ++ l) later.lines ∙ sym (append_assoc own (all_lines later.portions) later.left_out);
-        answered = later.answered;
-        all = later.all;
-      }
 
 -- ---- how a path ended
 
@@ -221,37 +166,134 @@ none-unfinished (path ∷ paths) none = absurd (omega (arith, none))
 nothing-in : (path : List ℕ) (paths : List (List ℕ)) → paths ≡ [] → Contains paths path → ⊥
 nothing-in path paths none (k, inside, is) = omega (arith, inside, ap length none)
 
--- ---- a round
+-- ---- station after station
 
-pub round-takes : (asked : RunPlan) (given : RoundStart) (start : Start) (closing : Closing) (before after : Option (List ℕ)) (was is : Option Recording) (err_old err_new : Told) (status : ℕ)
-    → (round : IsRound asked given start closing before after was is err_old err_new status) → TakesEachPath asked given start closing before after was is err_old err_new status round
-round-takes asked given start closing before after was is err_old err_new status round = λ place path left source answer inside.
-    let first : SinkState = record { taken = before; failures = 0 } in
-    let last = (last_station asked round.hand_overs round.begun start closing first after was is err_old err_new status round.stations).leaves in
-    let there : place < length round.begun.sources = omega (arith, inside, round.first.many_sources) in
-    let taken = takes asked start closing after is err_old err_new status place source (closing.reporter) answer round.hand_overs round.begun first was round.stations [] there (round.first.unread place source there) in
-    let own_left = get_or asked.known place left in
-    let own_source = get_or last.sources place source in
-    let over : (end : PathEnd) → GaveAll end own_left own_source → ends_run (get_or last.serves.counted place answer) ≡ false → AreLinesOf end own_left (all_lines taken.portions) =
-    λ end all goes_on. lines-over end own_left own_source (all_bytes taken.portions) (all_lines taken.portions) taken.left_out taken.given taken.lines (taken.all goes_on) all in
-    let ended = ended-at asked.paths asked.known last.sources last.unfinished place path left source last.whole inside in (
-      taken.portions,
-      taken.took,
-      record {
-        given = taken.given;
-        left_out = taken.left_out;
-        lines = taken.lines;
-        all = taken.all;
-        ended = ended;
-        over = over;
-        well = λ well.
-            let none : last.unfinished ≡ [] = none-unfinished last.unfinished (omega (arith, well, last.status_is)) in
-            let told : last.told ≡ 0 = omega (arith, well, last.status_is) in
-            let faults = no-fault 0 last.answers (omega (arith, told, last.ends.status_is)) in
-            let goes_on = adds-at _ last.serves.counted last.answers place answer last.serves.sums taken.answered faults.1 in
-            elim ended [
-              | inl whole ↦ over AtEnd whole goes_on
-              | inr found ↦ absurd (nothing-in (get_or asked.paths place path) last.unfinished none found.0)
-            ];
-      },
-    )
+all-bytes-more : (portions : List Portion) (portion : Portion) → all_bytes (portions ++ portion ∷ []) ≡ all_bytes portions ++ portion.bytes
+all-bytes-more [] portion = append-nil portion.bytes
+all-bytes-more (p ∷ portions) portion = ap (λ (l : List ℕ). p.bytes ++ l) (all-bytes-more portions portion) ∙ sym (append_assoc p.bytes (all_bytes portions) portion.bytes)
+
+all-lines-more : (portions : List Portion) (portion : Portion) → all_lines (portions ++ portion ∷ []) ≡ all_lines portions ++ portion.lines
+all-lines-more [] portion = append-nil portion.lines
+all-lines-more (p ∷ portions) portion = ap (λ (l : List Cut). p.lines ++ l) (all-lines-more portions portion) ∙ sym (append_assoc p.lines (all_lines portions) portion.lines)
+
+second : (a b : Bool) → (a && b) ≡ true → b ≡ true
+second true b e = e
+second false b e = absurd (search rules)
+
+module _ (asked : RunPlan) (place : ℕ) (path : List ℕ) (left : Option (List ℕ)) (source : SourceState) (seat : Seated) (answer : Result Tally PumpFault) (there : place < length asked.paths) where
+  -- a station is begun whose source at this place has given the bytes of these portions, between two lines
+  record Ready (so_far : List Portion) (begun : Begun) : Type 0 where
+    inside : place < length begun.sources
+    given : (get_or begun.sources place source).given ≡ Some (all_bytes so_far)
+    lines : cuts (all_bytes so_far) ≡ all_lines so_far
+    border : IsBorder (all_bytes so_far)
+
+  -- at the first station of a round it has given none
+  ready-first : (begun : Begun) → IsFirst asked begun → Ready [] begun
+  ready-first begun first =
+      let inside : place < length begun.sources = omega (arith, there, first.many_sources) in
+      record { inside = inside; given = first.unread place source inside; lines = refl; border = inl refl }
+
+  module _ (station : Station) (runs : RunsStation station) (so_far : List Portion) (ready : Ready so_far station.begun) where
+    abbrev work : Works station.left.start (new_seat station.begun.given.entries false place) (get_or station.left.closing.receivers place seat) (get_or station.begun.sources place source) (get_or station.left.sources place source) most_reads (get_or station.left.counted place answer)
+    work = runs.pumped.each place source seat answer ready.inside
+
+    abbrev portion : Portion
+    portion = record { bytes = work.pumps.draws.given; lines = work.pumps.lines }
+
+    abbrev portions : List Portion
+    portions = so_far ++ portion ∷ []
+
+    still-inside : place < length station.left.sources
+    still-inside = let inside = ready.inside in omega (arith, inside, runs.pumped.many_sources)
+
+    answered : place < length station.left.counted
+    answered = let inside = ready.inside in omega (arith, inside, runs.pumped.many_answers)
+
+    takes-portion : TakesPortion station place portion
+    takes-portion = record { inside = ready.inside; source = source; seat = seat; answer = answer; works = work; bytes_are = refl; lines_are = refl }
+
+    given-after : (get_or station.left.sources place source).given ≡ Some (all_bytes portions)
+    given-after = appends-known _ _ (all_bytes so_far) work.pumps.draws.given ready.given work.pumps.draws.bytes.1 ∙ ap Some (sym (all-bytes-more so_far portion))
+
+    lines-by : (out : List Cut) → cuts work.pumps.draws.given ≡ work.pumps.lines ++ out → cuts (all_bytes portions) ≡ all_lines portions ++ out
+    lines-by out front =
+        ap cuts (all-bytes-more so_far portion) ∙ cuts_portions (all_bytes so_far) work.pumps.draws.given ready.border
+        ∙ ap (λ (l : List Cut). l ++ cuts work.pumps.draws.given) ready.lines ∙ ap (λ (l : List Cut). all_lines so_far ++ l) front
+        ∙ sym (append_assoc (all_lines so_far) work.pumps.lines out) ∙ ap (λ (l : List Cut). l ++ out) (sym (all-lines-more so_far portion))
+
+    whole : ends_run (get_or station.left.counted place answer) ≡ false → (work.pumps.lines ≡ cuts work.pumps.draws.given) × IsBorder (all_bytes so_far ++ work.pumps.draws.given)
+    whole goes_on = whole-portion (all_bytes so_far) station.left.start _ _ _ _ _ (get_or station.left.counted place answer) work ready.given (runs.failed place source still-inside) goes_on
+
+    -- a station that hands over has taken all lines
+    goes-on : station.left.hands_over ≡ true → ends_run (get_or station.left.counted place answer) ≡ false
+    goes-on hands = none-ends station.left.counted place answer (not-first _ _ (second _ _ (sym runs.shows.hands_over ∙ hands))) answered
+
+    ready-next : (next : Begun) → station.left.hands_over ≡ true → next.sources ≡ station.left.sources → Ready portions next
+    ready-next next hands sources =
+        let all = whole (goes-on hands) in
+        let inside = still-inside in
+        record {
+          inside = omega (arith, inside, ap length sources);
+          given = ap (λ (ss : List SourceState). (get_or ss place source).given) sources ∙ given-after;
+          lines = lines-by [] (sym all.0 ∙ sym (append-nil work.pumps.lines)) ∙ append-nil (all_lines portions);
+          border = subst IsBorder (sym (all-bytes-more so_far portion)) all.1;
+        }
+
+    -- at the end of a round the path is taken
+    takes-path : (err_old err_new : Told) (status : ℕ) → (round : EndsRound asked station.left err_old err_new status)
+        → TakesPath status round.unfinished (get_or asked.paths place path) (get_or asked.known place left) (get_or station.left.sources place source) (get_or station.left.counted place answer) portions
+    takes-path err_old err_new status round =
+        let own_left = get_or asked.known place left in
+        let own_source = get_or station.left.sources place source in
+        let own_answer = get_or station.left.counted place answer in
+        let now = last-lines (ends_run own_answer) work.pumps.draws.given work.pumps.lines work.pumps.draws.left_out work.pumps.draws.front (λ goes_on. (whole goes_on).0) in
+        let lines = lines-by now.0 now.1 in
+        let over : (end : PathEnd) → GaveAll end own_left own_source → ends_run own_answer ≡ false → AreLinesOf end own_left (all_lines portions) =
+        λ end all goes_on. lines-over end own_left own_source (all_bytes portions) (all_lines portions) now.0 given-after lines (now.2 goes_on) all in
+        let ended = ended-at asked.paths asked.known station.left.sources round.unfinished place path left source round.whole there in
+        record {
+          given = given-after;
+          left_out = now.0;
+          lines = lines;
+          all = now.2;
+          ended = ended;
+          over = over;
+          well = λ well.
+              let none : round.unfinished ≡ [] = none-unfinished round.unfinished (omega (arith, well, round.status_is)) in
+              let told : round.told ≡ 0 = omega (arith, well, round.status_is) in
+              let faults = no-fault 0 station.left.answers (omega (arith, told, round.told_is)) in
+              let goes_on = adds-at _ station.left.counted station.left.answers place answer runs.sums answered faults.1 in
+              elim ended [
+                | inl whole ↦ over AtEnd whole goes_on
+                | inr found ↦ absurd (nothing-in (get_or asked.paths place path) round.unfinished none found.0)
+              ];
+        }
+
+  next-in-each : (so_far : List Portion) (station next : Station) (stations : List Station) → (runs : RunsStation station) → (ready : Ready so_far station.begun)
+      → HandsOver station.left next.begun station.new.err next.old.err ⊎ BeginsRound asked station.left next.begun station.new.err next.old.err
+      → ((now : List Portion) → Ready now next.begun → TakeInEach asked place path left source answer now (next ∷ stations))
+      → TakeInEach asked place path left source answer (so_far_after station.left.hands_over (portions station runs so_far ready)) (next ∷ stations)
+  next-in-each so_far station next stations runs ready (inl hands) rest =
+      subst (λ (b : Bool). TakeInEach asked place path left source answer (so_far_after b (portions station runs so_far ready)) (next ∷ stations)) (sym hands.goes_on)
+      (rest (portions station runs so_far ready) (ready-next station runs so_far ready next.begun hands.goes_on hands.sources))
+  next-in-each so_far station next stations runs ready (inr round) rest =
+      subst (λ (b : Bool). TakeInEach asked place path left source answer (so_far_after b (portions station runs so_far ready)) (next ∷ stations)) (sym round.over.stays)
+      (rest [] (ready-first next.begun round.first))
+
+  in-each : (so_far : List Portion) (station : Station) (stations : List Station) (end : RunEnd) → (runs : RunsStation station) → RunsOn asked station stations end → (ready : Ready so_far station.begun)
+      → TakeInEach asked place path left source answer so_far (station ∷ stations)
+  in-each so_far station [] end runs on ready = (portion station runs so_far ready, takes-portion station runs so_far ready, takes-path station runs so_far ready, tt)
+  in-each so_far station (next ∷ stations) end runs (follows, next_runs, others) ready = (
+    portion station runs so_far ready,
+    takes-portion station runs so_far ready,
+    takes-path station runs so_far ready,
+    next-in-each so_far station next stations runs ready follows.how (λ now is_ready. in-each now next stations end next_runs others is_ready),
+  )
+
+pub runs-take : (asked : RunPlan) (old : Streams) (stations : List Station) (end : RunEnd) → Runs asked old stations end → TakesEachPath asked stations
+runs-take asked old [] end runs = λ place path left source answer there. tt
+runs-take asked old (station ∷ stations) end (inl (none, lost)) = absurd (search rules)
+runs-take asked old (station ∷ stations) end (inr (begun, given, rounds, first, (begun_is, old_is, runs, others))) = λ place path left source answer there.
+    in-each asked place path left source station.left.closing.reporter answer there [] station stations end runs others
+    (ready-first asked place path left source station.left.closing.reporter answer there station.begun (subst (IsFirst asked) (sym begun_is) first))

@@ -6,12 +6,27 @@ use Rattle.clap.specs.declared.error.kind.ErrorKind.{ErrorKind}
 use Rattle.clap.specs.declared.error.kind.ErrorKind.TheVariants as kind
 use Rattle.streams.specs.Sink.{AppendsFront}
 use Rattle.command_line.specs.Command.{IsStation, NamesJob, format_since, misplaced, reopens_rounds}
+use Rattle.station_main.specs.Inputs.{unknown}
 use Rattle.station_main.specs.Limits.{forget_at, program_limits}
 use Rattle.station_main.specs.Replay.{EndsReplay}
-use Rattle.station_main.specs.Rounds.{RunsAsked, RunsForDisplays, plan}
+use Rattle.station_main.specs.Stations.{RunPlan, RunsAsked}
 use Rattle.messages.specs.Telling.{OutOfMemory, Tells, Told, not_a_place_text, reopens_rounds_text}
 use Rattle.command_line.specs.declared.words.Job.{Job}
+use Rattle.command_line.specs.declared.words.RunArguments.{RunArguments}
 use Rattle.command_line.specs.declared.words.Job.TheVariants.{Replay, Run}
+
+-- what is asked of a run by its arguments, over paths whose content isn't known; JSON counts from the origin
+abbrev pub plan_from : RunArguments → (origin : ℕ) → RunPlan
+plan_from arguments origin = record {
+  tables = record { pace = arguments.pace; format = format_since arguments.format origin };
+  rounds_left = arguments.rounds - 1;
+  paths = map string_bytes arguments.paths.items;
+  known = unknown (map string_bytes arguments.paths.items);
+  hand_over_at = forget_at;
+  site = arguments.site;
+  file = option_map string_bytes arguments.record;
+  has_displays = is_some arguments.displays;
+}
 
 -- a job is done, beside a standard error for what is reported at once; a replay that leaves no output has read nothing;
 -- JSON of a run counts from the origin, in milliseconds since 1970, and of a replay from 0
@@ -19,10 +34,7 @@ abbrev pub IsDone : Job → (origin : ℕ) → Option (List ℕ) → Option (Lis
 IsDone (Replay form site) origin input before None alarm err_old err_new status = OutOfMemory err_old err_new status
 IsDone (Replay form site) origin input before (Some after) alarm err_old err_new status = EndsReplay (format_since form 0) (program_limits site) input before after err_old err_new status
 IsDone (Run arguments) origin input before after alarm err_old err_new status =
-    RunsForDisplays (is_some arguments.displays)
-    (RunsAsked (option_map string_bytes arguments.record) (plan (record { pace = arguments.pace; format = format_since arguments.format origin })
-    (map string_bytes arguments.paths.items) forget_at arguments.site) (arguments.rounds - 1) before after alarm err_old err_new)
-    after err_old err_new status
+    RunsAsked (plan_from arguments origin) before after alarm err_old err_new status
 
 -- `clap` accepts the command line, and the job that it names is done
 pub record DoesJob (app : App) (words : List Text) (origin : ℕ) (input before : Option (List ℕ)) (after : Option (Option (List ℕ))) (alarm : Option (List ℕ)) (err_old err_new : Told) (status : ℕ) : Type 0 where

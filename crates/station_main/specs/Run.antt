@@ -1,4 +1,4 @@
--- What a round of the job `run` leaves.
+-- What the threads of a station of the job `run` leave, and how it is closed.
 use Rattle.std.specs.Prelude.{◌≡◌, ◌⊎◌, ℕ, ◌+◌, ◌<◌, ◌&&◌, Bool, true, false, not, List, [], ◌∷◌, ◌++◌, All, Option, IfSome, Result, Ok, Err, length, map, slice_index_or, is_err, is_some, fold, max, unwrap_or, Contains, ⊤}
 use Rattle.std.specs.List.{flat_map, list_any}
 use Rattle.std.specs.Option.{option_map_or}
@@ -19,6 +19,7 @@ use Rattle.station_lines.specs.declared.pumping.PumpFault.TheVariants as pump
 use Rattle.station_lines.specs.declared.tally.Tally.{Tally}
 use Rattle.station_main.specs.Limits.{most_reads}
 use Rattle.station_main.specs.Output.{GivesBack}
+use Rattle.station_reporter.specs.declared.reporter.ReporterResult.{ReporterResult}
 use Rattle.station_reporter.specs.Recorded.{IfRecording, PrintsAndRecords, Recording, Records, seen_by}
 use Rattle.station_reporter.specs.Reporter.{IsLater, KeepsTime, MayHandOver, Showing, due_after, looks_of}
 use Rattle.messages.specs.Status.{fault_status, status_of}
@@ -98,57 +99,19 @@ pub record IsClosed (start : Start) (closing : Closing) : Type 0 where
 
 -- ---- the last table
 
--- the last table, if no write failed before
-pub record PrintsMore (format : Format) (start : Start) (old new : Seated) (before : SinkState) (after : Option (List ℕ)) (was is : Option Recording) (has_failed : Bool) : Type 0 where
-  pub sink : SinkState
-  pub result : Result (Unit {0}) WriteFault
-  pub prints : PrintsAndRecords format start old new before sink was is result
-  pub gives : GivesBack sink.taken after has_failed
-  pub told : is_err result ≡ true → has_failed ≡ true
+-- what a reporter leaves after the last table, as its seat sees it; or, where none is printed, as it was
+abbrev pub PrintsLast : {O K : Type 0} → (O → SinkState) → (K → Option Recording) → Format → Start → (none : Bool) → ReporterResult Seated O K → ReporterResult Seated O K → Type 0
+PrintsLast state record_of format start true old new = new ≡ old
+PrintsLast state record_of format start false old new =
+    (result : Result (Unit {0}) WriteFault) × PrintsAndRecords format start old.seat new.seat (state old.out) (state new.out) (record_of old.beside) (record_of new.beside) result
+    × (new.has_failed ≡ is_err result) × (new.due ≡ old.due) × (new.asked_at ≡ old.asked_at)
 
--- the last table, as a seat sees it, and the output out of its buffer
-abbrev pub PrintsLast : Format → Start → Seated → Seated → SinkState → Bool → Option (List ℕ) → Option Recording → Option Recording → Bool → Type 0
-PrintsLast format start old new before false after was is has_failed = PrintsMore format start old new before after was is has_failed
-PrintsLast format start old new before true after was is has_failed = (new ≡ old) × (is ≡ was) × GivesBack before.taken after has_failed × (has_failed ≡ true)
-
--- the looks of the seat after the last showing: one, if no write failed before
-abbrev pub LastLook : Start → Seated → Seated → Bool → List (Option Seated) → Type 0
+-- the looks of the seat after the last showing: one, where a last table is printed
+abbrev pub LastLook : Start → Seated → Seated → (none : Bool) → List (Option Seated) → Type 0
 LastLook start old new false looks = (look : Option Seated) × (looks ≡ look ∷ []) × (unwrap_or look old ≡ new) × IfSome look (λ l. Looks start old l)
 LastLook start old new true looks = (looks ≡ []) × (new ≡ old)
 
--- ---- a whole round
-
--- what the last station of a round leaves of its output, whose reporter's seat goes from `first` to `closing`: the texts of its
--- looks and of one look after them, and nothing else, or a front of that if a write failed; the record goes on with what these
--- looks have seen
-pub record ReporterLeaves (start : Start) (duties : Duties) (first closing : Seated) (before after : Option (List ℕ)) (was is : Option Recording) (has_failed : Bool) : Type 0 where
-  pub mid : Seated
-  pub moments : List ℕ
-  pub showings : List Showing
-  pub shown : Seated
-  pub keeps : KeepsTime start duties.tables.pace duties.due moments first showings shown
-  pub looked : Seated
-  pub later : IsLater start shown looked
-  pub failed_before : Bool
-  -- the paths may all have ended just when a hand-over was asked for
-  pub asked_at : Option ℕ
-  pub next : Due
-  pub hands_over : MayHandOver start duties asked_at (due_after duties.tables.pace duties.due moments) next looked mid failed_before
-  pub last : List (Option Seated)
-  pub looks : LastLook start mid closing failed_before last
-  pub between : Option (List ℕ)
-  pub write_failed : Bool
-  pub takes : TakesTexts duties.tables.format start (looks_of showings ++ last) before between write_failed
-  pub records : IfRecording (Records (seen_by (looks_of showings ++ last))) was is
-  pub gives : GivesBack between after has_failed
-  pub told : write_failed ≡ true → has_failed ≡ true
-
--- it prints what was counted of each path, and at last a failed write; the status is the worst of these
-pub record Ends (start : Start) (duties : Duties) (answers : List (Result Tally PumpFault)) (first closing : Seated) (before after : Option (List ℕ)) (was is : Option Recording) (err_old err_new : Told) (status : ℕ) : Type 0 where
-  pub has_failed : Bool
-  pub output : ReporterLeaves start duties first closing before after was is has_failed
-  pub told : Tells err_old err_new (flat_map pump_lines answers ++ output_lines has_failed)
-  pub status_is : status ≡ max (fold (λ worst answer. max worst (status_of answer)) 0 answers) (fault_status has_failed)
+-- ---- faults before a station is begun or closed
 
 -- out of memory, or one of these paths can't be opened
 abbrev pub IsUnopened : List Text → Fault → Type 0
@@ -165,10 +128,3 @@ IsUnstarted _ = ⊥
 -- a fault that comes before a station of these paths is begun
 abbrev pub IsEarly : List Text → Fault → Type 0
 IsEarly paths fault = IsUnopened paths fault ⊎ IsUnstarted fault
-
--- only such a fault is printed
-pub record EndsEarly (paths : List Text) (err_old err_new : Told) (status : ℕ) : Type 0 where
-  pub fault : Fault
-  pub early : IsEarly paths fault
-  pub told : Tells err_old err_new (fault_line fault)
-  pub status_is : status ≡ 1

@@ -5,11 +5,11 @@ ghost use Rattle.station_main.specs.Jobs.{GivesStatus, HasNoMemory, IsAnswered, 
 ghost use Rattle.messages.specs.Telling.{Tells, not_a_place_text, reopens_rounds_text, told_of};
 ghost use Rattle.std.specs.Prelude.{◌≡◌, ◌≤◌, ◌⊎◌, ℕ, List, None, Some, false, map, option_map, true};
 
-use crate::display_job::run_for_displays;
 use crate::output::{JobResult, without_output};
 use crate::replay_job::replay_input;
-use crate::run_job::RunOptions;
-use crate::system::{PathSystem, System};
+use crate::run_job::run;
+use crate::run_options::RunOptions;
+use crate::system::{Host, PathSystem, System};
 use command_line::{Job, WordsFault, read_words};
 use messages::{Alarms, Fault, StandardError};
 use station_reporter::milliseconds_since_1970;
@@ -91,7 +91,15 @@ pub fn obey<
         (told_of E.contents err.old) (told_of E.contents err.new) result.status }
 {
     match read_words(alloc, words) {
-        Ok(job) => do_job(rt, own, alloc, job, origin, input, out, alarms, err),
+        Ok(job) => do_job(
+            &Host { rt, own, alloc },
+            job,
+            origin,
+            input,
+            out,
+            alarms,
+            err,
+        ),
         Err(WordsFault::NoMemory) => without_output(err, Fault::NoMemory),
         Err(WordsFault::ReopensRounds) => refuse_both(out, err),
         Err(WordsFault::NotAPlace(text)) => refuse_place(text.as_str(), out, err),
@@ -108,9 +116,7 @@ fn do_job<
     A: Write + Send + Drop,
     E: Write,
 >(
-    rt: &R,
-    own: W,
-    alloc: Global,
+    host: &Host<'_, R, W>,
     job: Job,
     origin: u64,
     input: I,
@@ -127,11 +133,20 @@ fn do_job<
     match job {
         Job::Replay { format, site } => {
             let format = format.since(0);
-            replay_input(rt, alloc, site, format, input, out, alarms.limits, err)
+            replay_input(
+                host.rt,
+                host.alloc,
+                site,
+                format,
+                input,
+                out,
+                alarms.limits,
+                err,
+            )
         }
         Job::Run(arguments) => {
             let options = RunOptions::new(&arguments, origin);
-            run_for_displays(rt, own, alloc, options, out, alarms, err)
+            run(host, options, out, alarms, err)
         }
     }
 }

@@ -1,8 +1,8 @@
 //! The output of a job, out of its buffer.
-ghost use Rattle.std.specs.Prelude.{◌≡◌, None, true};
+ghost use Rattle.std.specs.Prelude.{◌≡◌, ◌||◌, None, true};
 ghost use Rattle.std.specs.Io.Buffered.{writer_contents};
 ghost use Rattle.station_main.specs.Output.{GivesBack};
-ghost use Rattle.messages.specs.Telling.{Tells, fault_line, told_of};
+ghost use Rattle.messages.specs.Telling.{Tells, fault_line, output_lines, told_of};
 
 use messages::{Fault, StandardError, tell};
 use std::io::{BufWriter, Write};
@@ -34,6 +34,30 @@ pub fn without_output<O, E: Write>(err: &mut StandardError<E>, fault: Fault<'_>)
         status: tell(err, fault),
         out: None,
     }
+}
+
+/// Takes the output of a run out of its buffer. If a write failed before, what is left there is dropped. Else it is written,
+/// and a write that fails is reported. Answers whether that failed.
+pub fn give_back<O: Write + Drop, E: Write>(
+    out: BufWriter<O>,
+    failed_before: bool,
+    err: &mut StandardError<E>,
+) -> ClosedOutput<O>
+    ensures bytes { GivesBack (writer_contents O.contents out) (O.contents result.out) (failed_before || result.has_failed) }
+    ensures told { Tells (told_of E.contents err.old) (told_of E.contents err.new) (output_lines result.has_failed) }
+{
+    if failed_before {
+        let ClosedOutput { out, .. } = drop_unwritten(out);
+        return ClosedOutput {
+            out,
+            has_failed: false,
+        };
+    }
+    let closed = unbuffered(out);
+    if closed.has_failed {
+        tell(err, Fault::Write);
+    }
+    closed
 }
 
 /// Writes what is left in the buffer, and takes the output out of it.

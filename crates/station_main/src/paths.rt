@@ -4,12 +4,12 @@ ghost use Rattle.std.specs.String.{string_bytes};
 ghost use Rattle.station_portions.specs.Giving.{state_of};
 ghost use Rattle.clap.specs.Words.{Text};
 ghost use Rattle.station_main.specs.Inputs.{AreFed, IsFedBy, path_of};
-ghost use Rattle.station_main.specs.Rounds.{HasNoLines};
+ghost use Rattle.station_main.specs.Stations.{HasNoLines};
 ghost use Rattle.station_main.specs.Run.{IsUnopened, IsUnstarted};
 
 use crate::opened::{Opened, OpenedPath};
 use crate::reopening::Reopening;
-use crate::system::PathSystem;
+use crate::system::{Host, PathSystem};
 use crate::threads::Input;
 use messages::{Answer, Fault};
 use station_portions::{FinishedPath, HandOver, PathReader, WholePath, connect};
@@ -107,11 +107,9 @@ pub struct Started<'a, 'p, R> {
     pub answers: Vec<Answer>,
 }
 
-/// Starts a thread for each file, in their order, which reads it to its end. `own` is what the threads wait by.
+/// Starts a thread for each file, in their order, which reads it to its end.
 pub fn start_all<'a, 'p, R: Threads, W: PathSystem>(
-    rt: &'a R,
-    own: W,
-    alloc: Global,
+    host: &Host<'a, R, W>,
     files: Vec<OpenedPath<'p>>,
 ) -> Result<Started<'a, 'p, R>, Fault<'static>>
     ensures inputs { IfOk result (λ started. length started.inputs.items ≡ length files.entry.items) }
@@ -124,10 +122,11 @@ pub fn start_all<'a, 'p, R: Threads, W: PathSystem>(
     ensures none { IfOk result (λ started. All HasNoLines started.answers.items) }
     ensures unstarted { IfErr result IsUnstarted }
 {
+    let alloc = host.alloc;
     let (mut threads, mut hand_overs) = (Vec::new(alloc), Vec::new(alloc));
     let (mut inputs, mut answers) = (Vec::new(alloc), Vec::new(alloc));
     for file in files {
-        let (thread, input, hand_over) = start(rt, own, alloc, file)?;
+        let (thread, input, hand_over) = start(host, file)?;
         if threads.push(thread).is_err()
             || hand_overs.push(hand_over).is_err()
             || inputs.push(input).is_err()
@@ -149,20 +148,18 @@ pub fn start_all<'a, 'p, R: Threads, W: PathSystem>(
 
 // Starts the thread of one path.
 fn start<'a, 'p, R: Threads, W: PathSystem>(
-    rt: &'a R,
-    own: W,
-    alloc: Global,
+    host: &Host<'a, R, W>,
     file: OpenedPath<'p>,
 ) -> Result<(PathThread<'p, Opened>, Input<'a, R>, Arc<HandOver, Global>), Fault<'static>>
     ensures fed { IfOk result (λ started. IsFedBy (path_of file.entry.opened) started.0.handle.promise (state_of started.1)) }
     ensures named { IfOk result (λ started. started.0.path.now ≡ file.entry.path.now) }
     ensures unstarted { IfErr result IsUnstarted }
 {
-    let Ok((reader, input, hand_over)) = connect(rt, alloc) else {
+    let Ok((reader, input, hand_over)) = connect(host.rt, host.alloc) else {
         return Err(Fault::NoMemory);
     };
     let OpenedPath { path, opened } = file;
-    match start_reader(rt, own, reader, opened) {
+    match start_reader(host, reader, opened) {
         Ok(handle) => Ok((PathThread { path, handle }, input, hand_over)),
         Err(error) if error.kind() == ErrorKind::OutOfMemory => Err(Fault::NoMemory),
         Err(_) => Err(Fault::ThreadNotStarted),
@@ -171,8 +168,7 @@ fn start<'a, 'p, R: Threads, W: PathSystem>(
 
 // Starts the thread that reads a file, and opens its path again each time that it ends, if that is asked for.
 fn start_reader<R: Threads, W: PathSystem>(
-    rt: &R,
-    own: W,
+    host: &Host<'_, R, W>,
     reader: PathReader,
     file: Opened,
 ) -> io::Result<ReaderHandle<Opened>>
@@ -181,12 +177,12 @@ fn start_reader<R: Threads, W: PathSystem>(
 {
     let mut file = file;
     let Some(path) = file.again.take() else {
-        return reader.start(rt, own, file);
+        return reader.start(host.rt, host.own, file);
     };
     let again = Reopening {
-        own,
+        own: host.own,
         path,
         is_first: !file.is_open(),
     };
-    reader.start_again(rt, own, file, again)
+    reader.start_again(host.rt, host.own, file, again)
 }

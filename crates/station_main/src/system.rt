@@ -1,5 +1,6 @@
 //! What the program needs of the system that it runs on.
 use crate::path_host::PathHost;
+use std::alloc::Global;
 use std::fs::File;
 use std::rt::Files;
 use std::sync::Wait;
@@ -15,3 +16,14 @@ impl<R: Threads + Wait + Clock + Files<File = File, Dir: Send> + Sync> System fo
 pub trait PathSystem: Wait + Clock + PathHost + Copy + Send + 'static {}
 
 impl<W: Wait + Clock + PathHost + Copy + Send + 'static> PathSystem for W {}
+
+/// The system that a job runs on.
+#[derive(Drop)]
+pub struct Host<'a, R, W> {
+    /// Threads, waiting, the clock and files.
+    pub rt: &'a R,
+    /// What the threads that read paths have of it.
+    pub own: W,
+    /// The memory.
+    pub alloc: Global,
+}

@@ -1,22 +1,15 @@
-//! The threads of a station of the job `run`, and the last table.
+//! The threads of a station of the job `run`.
 ghost use Rattle.std.specs.Prelude.{IfSome};
-ghost use Rattle.station_main.specs.Output.{buffered_of};
 ghost use Rattle.station_reporter.specs.Reporter.{HasReported};
-ghost use Rattle.station_main.specs.Run.{HaveWorked, PrintsLast};
+ghost use Rattle.station_main.specs.Run.{HaveWorked};
 
 use crate::limits::{AIRCRAFT, TURNS};
-use crate::output::{ClosedOutput, drop_unwritten, unbuffered};
 use crate::system::System;
 use station_portions::{HandOver, Portions};
-use station_report::Format;
-use station_reporter::{
-    Bell, Beside, Reporter, ReporterResult, ReportsFrom, print_and_record, report,
-};
+use station_reporter::{Bell, Beside, Reporter, ReporterResult, ReportsFrom, report};
 use station_shared::{Seat, Station, StationName, Worker, run_receivers};
 use std::alloc::Global;
-use std::fs::File;
 use std::io::{BufWriter, Write};
-use std::rt::Files;
 use std::snapshot::Snapshot;
 use std::sync::{Arc, Wait};
 use std::thread;
@@ -103,42 +96,4 @@ fn run_all<'a, L: StationName + Send + Sync, R: Threads + Wait + Sync>(
     let mut running = receivers;
     run_receivers(rt, station, running.as_mut_slice(), TURNS);
     running
-}
-
-/// Prints the last table, records it and puts it where displays find it, unless a write of the output failed before. Takes
-/// the output out of its buffer, and puts back what is written beside it.
-pub fn print_last<
-    L: StationName,
-    R: Wait + Files<File = File>,
-    O: Write + Drop,
-    T: Sink + Drop,
-    A: Write + Drop,
->(
-    rt: &R,
-    station: &Station<AIRCRAFT, L>,
-    format: Format,
-    reported: ReporterResult<Seat<AIRCRAFT, L>, Output<O>, Beside<T, A>>,
-    beside: &mut Beside<T, A>,
-) -> (Seat<AIRCRAFT, L>, ClosedOutput<O>)
-    ensures { PrintsLast format L.start reported.seat result.0 (buffered_of O.contents reported.out) reported.has_failed
-        (O.contents result.1.out) reported.beside.record
-        beside.new.record result.1.has_failed }
-{
-    let ReporterResult {
-        seat,
-        mut out,
-        beside: left,
-        has_failed,
-        due: _,
-        asked_at: _,
-    } = reported;
-    *beside = left;
-    if has_failed {
-        return (seat, drop_unwritten(out.into_inner()));
-    }
-    let (seat, written) = print_and_record(rt, station, seat, format, &mut out, beside);
-    match written {
-        Ok(()) => (seat, unbuffered(out.into_inner())),
-        Err(_) => (seat, drop_unwritten(out.into_inner())),
-    }
 }

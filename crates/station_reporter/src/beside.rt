@@ -13,27 +13,14 @@ use streams::Sink;
 pub struct Beside<T: Sink, A: Write> {
     pub record: Option<Recorder<T, A>>,
     pub displays: Option<Displays<A>>,
-    pub limits: Option<LimitAlarm<A>>,
+    pub limits: LimitAlarm<A>,
 }
 
 impl<T: Sink, A: Write> Beside<T, A> {
-    /// Takes all out, and leaves none.
-    pub fn take(&mut self) -> Beside<T, A>
-        ensures { result ≡ self.old }
-    {
-        Beside {
-            record: self.record.take(),
-            displays: self.displays.take(),
-            limits: self.limits.take(),
-        }
-    }
-
     /// Reports the limits that the calls of a station have met, each once.
     pub fn report_limits(&mut self, met: LimitsMet)
         ensures { self.new.record ≡ self.old.record }
     {
-        if let Some(limits) = &mut self.limits {
-            limits.report(met);
-        }
+        self.limits.report(met);
     }
 }

@@ -8,7 +8,7 @@ use super::{Ran, Trials, text};
 use crate::comparing::{holds, same};
 use station_journal::{Entry, Recent};
 use station_main::{
-    Alarms, Duties, Kept, Pace, RunOptions, StandardError, Tables, run_for_displays,
+    Alarms, Duties, Kept, Pace, RunOptions, StandardError, Tables, run,
 };
 use station_report::Format;
 use std::alloc::{AllocError, Global};
@@ -170,6 +170,7 @@ impl<R: System, W: Own> Trials<'_, R, W> {
         second: String,
     ) -> Result<Ran, AllocError> {
         let (rt, own, alloc) = (self.rt, self.own, self.alloc);
+        let host = station_main::Host { rt, own, alloc };
         let record = Some(record);
         let paths = vec![in alloc; first, second]?;
         let options = RunOptions {
@@ -190,7 +191,7 @@ impl<R: System, W: Own> Trials<'_, R, W> {
             limits: &mut ran.limit_alarm,
         };
         let mut told = StandardError::new(&mut err);
-        let run = run_for_displays(rt, own, alloc, options, &mut out, alarms, &mut told);
+        let run = run(&host, options, &mut out, alarms, &mut told);
         let status = run.status;
         Ok(Ran {
             status,

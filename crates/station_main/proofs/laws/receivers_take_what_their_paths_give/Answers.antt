@@ -1,5 +1,5 @@
-use Rattle.station_main.proofs.TakenLemmas.{round-takes}
+use Rattle.station_main.proofs.TakenLemmas.{runs-take}
 use Rattle.station_main.proofs.laws.receivers_take_what_their_paths_give.Goals as goal
 
 pub returns : goal.returns
-returns c = round-takes
+returns c = runs-take
