@@ -12,7 +12,7 @@ use Rattle.station_replay.proofs.Common.{output}
 use Rattle.station_replay.proofs.LimitLemmas.{under}
 use Rattle.station_record.proofs.Common.{all_at, new_log, Continues, longer_log}
 use Rattle.station_record.proofs.RoundLemmas.{all-legal, longer_log-continues, same-clock, same-table}
-use Rattle.station_main.specs.Stations.{RoundStart, GoesOnFrom}
+use Rattle.station_run.specs.Stations.{RoundStart, GoesOnFrom}
 use Rattle.shown_again.proofs.LookLemmas.{Grown, Legal, all-so}
 use Rattle.station_reporter.proofs.PrefixLemmas.{begins-same}
 use Rattle.shown_again.proofs.ReadBackLemmas.{At, Same}

@@ -12,7 +12,7 @@ use Rattle.station_reporter.proofs.PrefixLemmas.{begins-same, begins-trans}
 use Rattle.station_reporter.proofs.Common.{seen_by, IsLater, MayHandOver, Showing, Showings, Ticks, looks_of, seat_after, text_of, texts}
 use Rattle.station_reporter.specs.declared.duties.Duties.{Duties}
 use Rattle.station_reporter.specs.declared.schedule.Due.{Due}
-use Rattle.station_main.proofs.Common.{LastLook}
+use Rattle.station_run.proofs.Common.{LastLook}
 
 -- ---- prefixes
 

@@ -18,8 +18,8 @@ use Rattle.station_record.proofs.ReplayLemmas.{lines-drawn}
 use Rattle.messages.proofs.Common.{fault_status, status_of, Told}
 use Rattle.station_reporter.proofs.Common.{Recording, record_status}
 use Rattle.station_reporter.specs.declared.schedule.Tables.{Tables}
-use Rattle.station_main.specs.Stations.{IsBlank}
-use Rattle.station_main.proofs.Common.{Begun, IsFirst, RoundStart, RunEnd, RunPlan, Runs, RunsOn, RunsStation, RunsStations, Station, Streams, forget_at, most_between_ticks, no_start, program_limits}
+use Rattle.station_run.specs.Stations.{IsBlank}
+use Rattle.station_run.proofs.Common.{Begun, IsFirst, RoundStart, RunEnd, RunPlan, Runs, RunsOn, RunsStation, RunsStations, Station, Streams, forget_at, most_between_ticks, no_start, program_limits}
 use Rattle.shown_again.proofs.Common.{HasPrinted, HasRecorded, HasRoom, IsOneStation, ReplayPrints}
 use Rattle.shown_again.proofs.SaidLemmas.{Said}
 use Rattle.shown_again.proofs.ShownAgainLemmas.{said-again, stations-said}

@@ -19,7 +19,7 @@ use Rattle.station_record.proofs.Common.{all_at, new_log, IsRecordable, last_aft
 use Rattle.station_record.proofs.GrowthLemmas.{recorded-last}
 use Rattle.station_record.proofs.RoundLemmas.{next-continues}
 use Rattle.station_reporter.proofs.Common.{AreRecordable, Recording}
-use Rattle.station_main.proofs.Common.{RoundStart, GoesOnFrom, KeepsRecent}
+use Rattle.station_run.proofs.Common.{RoundStart, GoesOnFrom, KeepsRecent}
 use Rattle.shown_again.proofs.KeptEndLemmas.{Begins, all-same, first-is, later, left, resumed_log, size, wide, widened, widened-legal}
 use Rattle.shown_again.proofs.LookLemmas.{Grown, Legal, grows-last, text_table}
 use Rattle.station_reporter.proofs.PrefixLemmas.{begins-same, begins-trans}

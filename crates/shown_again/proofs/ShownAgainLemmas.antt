@@ -1,8 +1,7 @@
 -- A replay of the record of a run prints what the run printed, station by station.
 use Rattle.std.proofs.Common.{rules, ◌≡◌, ◌∙◌, ◌⊎◌, inl, inr, ℕ, suc, ◌+◌, ◌≤◌, ◌&&◌, ◌||◌, Bool, true, false, List, [], ◌∷◌, Option, Some, None, is_some, refl, sym, ap, subst, length, max, arith}
-use Rattle.std.specs.Io.KnownBytes.{Appends, Keeps}
+use Rattle.std.specs.Io.KnownBytes.{Appends}
 use Rattle.modes_frame.specs.Lines.{cuts}
-use Rattle.station_journal.specs.declared.entry.Entry.{Entry}
 use Rattle.station_journal.proofs.Common.{Site}
 use Rattle.station_journal.specs.Log.{IsLegal, empty_log, most_entries}
 use Rattle.station_report.specs.declared.formats.Format.TheVariants.{Text}
@@ -13,15 +12,15 @@ use Rattle.station_record.specs.ReadBack.{new_log}
 use Rattle.station_record.proofs.RoundLemmas.{first-continues}
 use Rattle.station_shared.specs.Seats.{Seated}
 use Rattle.messages.proofs.Common.{Told, fault_status}
-use Rattle.station_reporter.proofs.Common.{IfRecording, MayHandOver, Recording, Records, record_status, seen_by}
+use Rattle.station_reporter.proofs.Common.{IfRecording, MayHandOver, Recording, record_status}
 use Rattle.station_reporter.specs.declared.duties.Duties.{Duties}
 use Rattle.station_reporter.specs.declared.schedule.Due.{Due}
 use Rattle.station_reporter.specs.declared.schedule.Tables.{Tables}
-use Rattle.station_main.specs.Stations.{NoRoundAfter}
-use Rattle.station_main.proofs.Common.{BeginsRound, Begun, EndsRound, EndsRun, GivesBack, HandsOver, IsOver, KeepsRecent, Left, RoundStart, RunEnd, RunPlan, RunsOn, RunsStation, Station, Streams, may_go_on, no_start, program_limits}
+use Rattle.station_run.specs.Stations.{NoRoundAfter}
+use Rattle.station_run.proofs.Common.{BeginsRound, Begun, EndsRound, EndsRun, HandsOver, KeepsRecent, Left, RunEnd, RunPlan, RunsOn, RunsStation, Station, no_start, program_limits}
 use Rattle.shown_again.proofs.KeptEndLemmas.{Begins, wide}
 use Rattle.shown_again.proofs.SaidLemmas.{Said, handed-on, only-said, still-well}
-use Rattle.shown_again.proofs.StationLemmas.{StationSays, kept-whole, no-fault, says-kept, station-says}
+use Rattle.shown_again.proofs.StationLemmas.{kept-whole, no-fault, says-kept, station-says}
 
 -- ---- the record is there after a part of a run if it was there before it
 

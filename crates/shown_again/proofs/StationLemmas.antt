@@ -1,5 +1,5 @@
 -- What a station printed and recorded, whose output and record have not failed.
-use Rattle.std.proofs.Common.{sym, rules, ◌≡◌, ◌∙◌, ℕ, Bool, true, false, List, [], ◌++◌, ◌||◌, Option, Some, None, refl, ap, subst, append-nil, length, arith, max, flat_map}
+use Rattle.std.proofs.Common.{rules, ◌≡◌, ◌∙◌, ℕ, Bool, true, false, List, [], ◌++◌, ◌||◌, Option, Some, None, refl, ap, subst, append-nil, length, arith, max, flat_map}
 use Rattle.std.specs.Io.KnownBytes.{Appends, Keeps, append_known}
 use Rattle.station_journal.specs.declared.entry.Entry.{Entry}
 use Rattle.station_report.specs.declared.formats.Format.{Format}
@@ -10,7 +10,7 @@ use Rattle.station_shared.specs.Seats.{Seated, newcomer}
 use Rattle.station_record.specs.Record.{recorded_after, shows_after}
 use Rattle.messages.proofs.Common.{fault_status}
 use Rattle.station_reporter.proofs.Common.{AreRecordable, IfRecording, Recording, Records, TakesText, TakesBy, seen_by, looks_of, TakesTexts, texts}
-use Rattle.station_main.proofs.Common.{GivesBack, RoundStart, RunsStation, Station}
+use Rattle.station_run.proofs.Common.{GivesBack, RoundStart, RunsStation, Station}
 use Rattle.shown_again.proofs.LookLemmas.{Grown, grown, hand-over-prefix, last-grown, later-prefix, text_table, texts-seen}
 use Rattle.station_reporter.proofs.PrefixLemmas.{begins-trans}
 use Rattle.station_reporter.proofs.RecordedLemmas.{unfailed}

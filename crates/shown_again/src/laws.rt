@@ -1,10 +1,10 @@
 //! A law over the definitions alone: what `replay` prints of the record of a run.
 ghost use Rattle.std.specs.Prelude.{◌≡◌, ℕ, List, Option, is_some, true};
 ghost use Rattle.station_report.specs.declared.formats.Format.TheVariants.{Text};
-ghost use Rattle.station_main.specs.Stations.{RunPlan, RunsStations};
+ghost use Rattle.station_run.specs.Stations.{RunPlan, RunsStations};
 ghost use Rattle.shown_again.specs.ShownAgain.{HasPrinted, HasRecorded, HasRoom, IsOneStation, ReplayPrints};
 ghost use Rattle.messages.specs.Telling.{Told};
-ghost use Rattle.station_main.specs.Limits.{program_limits};
+ghost use Rattle.station_run.specs.Limits.{program_limits};
 ghost use Rattle.station_replay.specs.Forgetting.{unlimited_output};
 ghost use Rattle.station_journal.specs.Log.{empty_log};
 ghost use Rattle.modes_frame.specs.Lines.{cuts};

@@ -1,32 +1,16 @@
 -- What a job leaves: its output, what it printed on standard error, and its status.
-use Rattle.std.specs.Prelude.{◌≡◌, ◌⊎◌, ℕ, ◌-◌, Bool, true, false, List, [], Option, Some, None, is_some, map, option_map}
-use Rattle.std.specs.String.{string_bytes}
+use Rattle.std.specs.Prelude.{◌≡◌, ◌⊎◌, ℕ, Bool, true, false, List, [], Option, Some, None}
 use Rattle.clap.specs.Words.{App, IsAmong, Text, fault_of}
 use Rattle.clap.specs.declared.error.kind.ErrorKind.{ErrorKind}
 use Rattle.clap.specs.declared.error.kind.ErrorKind.TheVariants as kind
 use Rattle.streams.specs.Sink.{AppendsFront}
 use Rattle.command_line.specs.Command.{IsStation, NamesJob, format_since, misplaced, reopens_rounds}
-use Rattle.station_main.specs.Inputs.{unknown}
-use Rattle.station_main.specs.Limits.{forget_at, program_limits}
+use Rattle.station_run.specs.Limits.{program_limits}
 use Rattle.station_main.specs.Replay.{EndsReplay}
-use Rattle.station_main.specs.Stations.{RunPlan, RunsAsked}
+use Rattle.station_run.specs.Stations.{RunsAsked, plan_from}
 use Rattle.messages.specs.Telling.{OutOfMemory, Tells, Told, not_a_place_text, reopens_rounds_text}
 use Rattle.command_line.specs.declared.words.Job.{Job}
-use Rattle.command_line.specs.declared.words.RunArguments.{RunArguments}
 use Rattle.command_line.specs.declared.words.Job.TheVariants.{Replay, Run}
-
--- what is asked of a run by its arguments, over paths whose content isn't known; JSON counts from the origin
-abbrev pub plan_from : RunArguments → (origin : ℕ) → RunPlan
-plan_from arguments origin = record {
-  tables = record { pace = arguments.pace; format = format_since arguments.format origin };
-  rounds_left = arguments.rounds - 1;
-  paths = map string_bytes arguments.paths.items;
-  known = unknown (map string_bytes arguments.paths.items);
-  hand_over_at = forget_at;
-  site = arguments.site;
-  file = option_map string_bytes arguments.record;
-  has_displays = is_some arguments.displays;
-}
 
 -- a job is done, beside a standard error for what is reported at once; a replay that leaves no output has read nothing;
 -- JSON of a run counts from the origin, in milliseconds since 1970, and of a replay from 0

@@ -5,14 +5,12 @@ ghost use Rattle.station_main.specs.Jobs.{GivesStatus, HasNoMemory, IsAnswered, 
 ghost use Rattle.messages.specs.Telling.{Tells, not_a_place_text, reopens_rounds_text, told_of};
 ghost use Rattle.std.specs.Prelude.{◌≡◌, ◌≤◌, ◌⊎◌, ℕ, List, None, Some, false, map, option_map, true};
 
-use crate::output::{JobResult, without_output};
 use crate::replay_job::replay_input;
-use crate::run_job::run;
-use crate::run_options::RunOptions;
-use crate::system::{Host, PathSystem, System};
 use command_line::{Job, WordsFault, read_words};
 use messages::{Alarms, Fault, StandardError};
+use station_paths::{Host, PathSystem, System};
 use station_reporter::milliseconds_since_1970;
+use station_run::{JobResult, RunOptions, run, without_output};
 use std::alloc::Global;
 use std::io::{Read, Write};
 use streams::{ToWrite, write_all};

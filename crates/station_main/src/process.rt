@@ -5,8 +5,8 @@ ghost use Rattle.std.specs.String.{string_bytes};
 ghost use Rattle.station_main.specs.Jobs.{GivesStatus};
 
 use crate::obeying::obey;
-use crate::system::{PathSystem, System};
 use messages::{Alarms, Fault, StandardError, tell};
+use station_paths::{PathSystem, System};
 use station_reporter::milliseconds_since_1970;
 use std::alloc::{AllocError, Global};
 use std::env;

@@ -1,19 +1,19 @@
 //! The job `replay`.
 ghost use Rattle.std.specs.Prelude.{◌≡◌, ◌≤◌, IfSome, None, max};
 ghost use Rattle.std.specs.Io.Buffered.{writer_contents};
-ghost use Rattle.station_main.specs.Limits.{program_limits};
-ghost use Rattle.station_main.specs.Output.{GivesBack};
+ghost use Rattle.station_run.specs.Limits.{program_limits};
+ghost use Rattle.station_run.specs.Output.{GivesBack};
 ghost use Rattle.station_main.specs.Replay.{EndsReplay};
 ghost use Rattle.messages.specs.Status.{fault_status, status_of};
 ghost use Rattle.messages.specs.Telling.{OutOfMemory, Tells, replay_lines, told_of};
 
-use crate::limits::{AIRCRAFT, FORGET_AT, TURNS, limits};
-use crate::output::{ClosedOutput, JobResult, drop_unwritten, unbuffered, without_output};
 use messages::{Fault, StandardError, tell_after, write_tally};
 use modes_cpr::Reference;
 use station_replay::replay_forgetting;
 use station_report::Format;
 use station_reporter::LimitAlarm;
+use station_run::limits::{AIRCRAFT, FORGET_AT, TURNS, limits};
+use station_run::{ClosedOutput, JobResult, drop_unwritten, unbuffered, without_output};
 use station_shared::{Desk, FromBuffer, ReplayFault, Tally};
 use std::alloc::Global;
 use std::io::{BufReader, BufWriter, Read, Write};

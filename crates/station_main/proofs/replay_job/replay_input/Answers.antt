@@ -1,8 +1,7 @@
 use Rattle.std.proofs.Common.{ap, ◌∙◌, arith}
 use Rattle.std.specs.Io.Buffered.{reader_buffer, reader_capacity, reader_inner, reader_remaining, writer_buffer, writer_contents, writer_inner}
-use Rattle.station_main.specs.Output.{buffered_of}
-use Rattle.station_main.proofs.ReplayLemmas.{all_left, ends_replay}
-use Rattle.station_main.proofs.RunJobLemmas.{appended_nil}
+use Rattle.station_run.specs.Output.{buffered_of}
+use Rattle.station_main.proofs.ReplayLemmas.{all_left, appended_nil, ends_replay}
 use Rattle.station_main.proofs.replay_job.replay_input.Goals as goal
 
 pub returns-clause-ended : goal.returns-clause-ended

@@ -1,6 +1,0 @@
--- The words that proofs of this crate and of those above it cite most, passed on from one place. Declares nothing.
-pub use Rattle.station_main.specs.Inputs.{AllTakeFrom, AreFed, FailsBetweenLines, GaveAll, GaveAllBut, IsFedBy, IsUnfinished, TakesFrom, path_of, unfinished_status, unknown}
-pub use Rattle.station_main.specs.Limits.{forget_at, most_between_ticks, most_reads, program_limits}
-pub use Rattle.station_main.specs.Output.{GivesBack, buffered_of}
-pub use Rattle.station_main.specs.Stations.{AreRead, BeginsRound, Begun, EndsEarly, EndsRound, EndsRun, Follows, GoesOn, GoesOnFrom, HandsOver, HasNoLines, IsFirst, IsLost, IsOver, KeepsRecent, Leaves, Left, RanTo, RoundStart, RunEnd, RunPlan, Runs, RunsFrom, RunsOn, RunsStation, RunsStations, Shows, Station, Streams, begun_of, left_of, no_start, plan_of, start_of, streams_of}
-pub use Rattle.station_main.specs.Run.{AreNumbered, Closing, HavePumped, HaveWorked, IsClosed, LastLook, PrintsLast, ends_run, is_open, may_go_on, may_work_on}

@@ -1,0 +1,3 @@
+pub mod Common
+pub mod FedLemmas
+mod PathEndLemmas

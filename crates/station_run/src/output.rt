@@ -1,0 +1,87 @@
+//! The output of a job, out of its buffer.
+ghost use Rattle.std.specs.Prelude.{◌≡◌, ◌||◌, None, true};
+ghost use Rattle.std.specs.Io.Buffered.{writer_contents};
+ghost use Rattle.station_run.specs.Output.{GivesBack};
+ghost use Rattle.messages.specs.Telling.{Tells, fault_line, output_lines, told_of};
+
+use messages::{Fault, StandardError, tell};
+use std::io::{BufWriter, Write};
+
+/// What a job leaves.
+#[derive(Drop)]
+pub struct JobResult<O> {
+    /// The exit status, 0 to 2.
+    pub status: u8,
+    /// The output. It is gone where the job, or one of its stations, couldn't begin or be closed.
+    pub out: Option<O>,
+}
+
+/// An output after its last write.
+#[derive(Drop)]
+pub struct ClosedOutput<O> {
+    pub out: O,
+    /// Whether a write failed.
+    pub has_failed: bool,
+}
+
+/// Prints the fault by which a job, or one of its stations, couldn't begin or be closed.
+pub fn without_output<O, E: Write>(err: &mut StandardError<E>, fault: Fault<'_>) -> JobResult<O>
+    ensures status { result.status ≡ 1 }
+    ensures out { result.out ≡ None }
+    ensures told { Tells (told_of E.contents err.old) (told_of E.contents err.new) (fault_line fault.entry) }
+{
+    JobResult {
+        status: tell(err, fault),
+        out: None,
+    }
+}
+
+/// Takes the output of a run out of its buffer. If a write failed before, what is left there is dropped. Else it is written,
+/// and a write that fails is reported. Answers whether that failed.
+pub fn give_back<O: Write + Drop, E: Write>(
+    out: BufWriter<O>,
+    failed_before: bool,
+    err: &mut StandardError<E>,
+) -> ClosedOutput<O>
+    ensures bytes { GivesBack (writer_contents O.contents out) (O.contents result.out) (failed_before || result.has_failed) }
+    ensures told { Tells (told_of E.contents err.old) (told_of E.contents err.new) (output_lines result.has_failed) }
+{
+    if failed_before {
+        let ClosedOutput { out, .. } = drop_unwritten(out);
+        return ClosedOutput {
+            out,
+            has_failed: false,
+        };
+    }
+    let closed = unbuffered(out);
+    if closed.has_failed {
+        tell(err, Fault::Write);
+    }
+    closed
+}
+
+/// Writes what is left in the buffer, and takes the output out of it.
+pub fn unbuffered<O: Write + Drop>(out: BufWriter<O>) -> ClosedOutput<O>
+    ensures { GivesBack (writer_contents O.contents out) (O.contents result.out) result.has_failed }
+{
+    match out.into_inner() {
+        Ok(out) => ClosedOutput {
+            out,
+            has_failed: false,
+        },
+        Err(error) => drop_unwritten(error.into_inner()),
+    }
+}
+
+/// Takes the output out of its buffer after a failed write, and drops what is left there. A buffer that is dropped
+/// whole would write that after the fault was printed.
+pub fn drop_unwritten<O: Write + Drop>(out: BufWriter<O>) -> ClosedOutput<O>
+    ensures bytes { GivesBack (writer_contents O.contents out) (O.contents result.out) result.has_failed }
+    ensures failed { result.has_failed ≡ true }
+{
+    let (out, _unwritten) = out.into_parts();
+    ClosedOutput {
+        out,
+        has_failed: true,
+    }
+}

@@ -1,0 +1,180 @@
+//! The job `run`: one station after another.
+ghost use Rattle.std.specs.Prelude.{◌≡◌, ◌⊎◌, ◌≤◌, ◌-◌, List, IfErr, IfOk, is_some, length, map, option_map, reverse};
+ghost use Rattle.std.specs.String.{string_bytes};
+ghost use Rattle.station_journal.specs.Resume.{IsSound};
+ghost use Rattle.station_portions.specs.Giving.{state_of};
+ghost use Rattle.station_run.specs.Limits.{program_limits};
+ghost use Rattle.station_run.specs.Output.{buffered_of};
+ghost use Rattle.station_paths.specs.Faults.{IsEarly};
+ghost use Rattle.station_run.specs.Stations.{AreRead, CannotStart, IsBlank, IsFirst, Leaves, RunsAsked, RunsFrom, Station, begun_of, no_start, plan_of, start_of, streams_of};
+ghost use Rattle.messages.specs.Telling.{told_of};
+
+use crate::limits::TABLE_ROOM;
+use crate::next_station::{Carried, Next, begin_round, next_stage};
+use crate::output::{JobResult, without_output};
+use crate::run_options::RunOptions;
+use crate::stage::{Stage, run_station};
+use crate::threads::Output;
+use messages::{Alarms, Fault, StandardError};
+use station_paths::{Host, Opened, PathSystem, System};
+use station_reporter::{Beside, Displays, Kept, LimitAlarm, RecordFile, Recorder, record_to};
+use std::alloc::Global;
+use std::fs::File;
+use std::io::{BufWriter, Write};
+use std::rt::Files;
+use std::time::Instant;
+use streams::ToWrite;
+
+/// Runs one station after another. A station hands over to the next while its paths go on. Else its round is over, and the
+/// next round opens the paths anew. Each round
+///
+/// - reads each path by a receiver of its own;
+/// - prints the table of them all at the pace that is asked for, and once when all have ended;
+/// - prints what each receiver counted, with its fault directly after it, and at last a failed write.
+///
+/// Each station goes on from the last 70,000 ms of the one before. A fault ends the run after its round. What is printed is
+/// recorded, and each table is put where displays find it, if that is asked. A failed write of either is reported at once,
+/// ends the record or the displays alone, and the status is 1. Answers the output, unless a station couldn't begin or be
+/// closed.
+pub fn run<R: System, W: PathSystem, O: Write + Send + Drop, A: Write + Send + Drop, E: Write>(
+    host: &Host<'_, R, W>,
+    asked: RunOptions<'_>,
+    out: O,
+    alarms: Alarms<A>,
+    err: &mut StandardError<E>,
+) -> JobResult<O>
+    requires rounds { 1 ≤ asked.rounds }
+    requires paths { length asked.paths.now.items ≤ 8 }
+    ensures most { result.status ≤ 1 }
+    ensures runs { RunsAsked (plan_of asked.entry) (O.contents out) (option_map (λ left. O.contents left) result.out) (A.contents alarms.record)
+        (told_of E.contents err.old) (told_of E.contents err.new) result.status }
+{
+    match first_stage(host, asked, out, alarms) {
+        Ok(stage) => run_stations(host, asked, stage, err),
+        Err(fault) => without_output(err, fault),
+    }
+}
+
+// Runs one station after another.
+fn run_stations<
+    'a,
+    'p,
+    R: System,
+    W: PathSystem,
+    O: Write + Send + Drop,
+    A: Write + Send + Drop,
+    E: Write,
+>(
+    host: &Host<'a, R, W>,
+    asked: RunOptions<'p>,
+    stage: Stage<'a, 'p, R, Opened, O, A>,
+    err: &mut StandardError<E>,
+) -> JobResult<O>
+    requires few { length asked.paths.now.items ≤ 8 }
+    requires sound { IsSound (program_limits stage.kept.site) stage.kept.recent.base (reverse stage.kept.recent.entries.items) }
+    requires read { AreRead (map string_bytes asked.paths.now.items) stage.paths.threads.items (map state_of stage.inputs.items) stage.answers.items }
+    ensures most { result.status ≤ 1 }
+    ensures runs { (stations : List Station) × Leaves (is_some asked.entry.displays.now)
+        (RunsFrom (plan_of asked.entry) (begun_of stage.entry) (streams_of O.contents stage.entry.out stage.entry.beside.record (told_of E.contents err.old)) stations)
+        (option_map (λ left. O.contents left) result.out) (told_of E.contents err.new) result.status }
+{
+    let mut stage = stage;
+    for _ in host.rt.forever() {
+        let closed = match run_station(host.rt, host.alloc, stage) {
+            Ok(closed) => closed,
+            Err(fault) => return without_output(err, fault),
+        };
+        stage = match next_stage(host, asked, closed, err) {
+            Next::Station(stage) => stage,
+            Next::Over(ran) => return ran,
+        };
+    }
+    unreachable!()
+}
+
+// What a run is begun with.
+fn first_stage<'a, 'p, R: System, W: PathSystem, O: Write + Drop, A: Write + Drop>(
+    host: &Host<'a, R, W>,
+    asked: RunOptions<'p>,
+    out: O,
+    alarms: Alarms<A>,
+) -> Result<Stage<'a, 'p, R, Opened, O, A>, Fault<'p>>
+    requires rounds { 1 ≤ asked.rounds }
+    requires few { length asked.paths.now.items ≤ 8 }
+    ensures early { IfErr result (λ fault. IsEarly (map string_bytes asked.entry.paths.now.items) fault ⊎ CannotStart (plan_of asked.entry) fault) }
+    ensures first { IfOk result (λ stage. IsFirst (plan_of asked.entry) (begun_of stage)) }
+    ensures given { IfOk result (λ stage. (begun_of stage).given ≡ no_start asked.entry.site) }
+    ensures rounds_left { IfOk result (λ stage. stage.rounds_left ≡ asked.entry.rounds - 1) }
+    ensures read { IfOk result (λ stage. AreRead (map string_bytes asked.entry.paths.now.items) stage.paths.threads.items (map state_of stage.inputs.items) stage.answers.items) }
+    ensures out { IfOk result (λ stage. (buffered_of O.contents stage.out).taken ≡ O.contents out) }
+    ensures record { IfOk result (λ stage. IsBlank (option_map string_bytes asked.entry.record.now) (A.contents alarms.record) stage.beside.record) }
+{
+    let beside = begin_beside(host.rt, host.alloc, asked, alarms)?;
+    let Ok(buffered) = BufWriter::with_capacity(host.alloc, TABLE_ROOM, out) else {
+        return Err(Fault::NoMemory);
+    };
+    let carried = Carried {
+        clock: Instant::now(host.rt).ok(),
+        rounds_left: asked.rounds - 1,
+        kept: Kept::nothing(host.alloc, asked.site),
+        out: ToWrite::new(buffered),
+        beside,
+    };
+    begin_round(host, asked, carried)
+}
+
+// What a run writes beside its output: the folder for displays and the record, each if it is asked for.
+fn begin_beside<'p, R: Files<File = File>, A: Write + Drop>(
+    rt: &R,
+    alloc: Global,
+    asked: RunOptions<'p>,
+    alarms: Alarms<A>,
+) -> Result<Beside<Output<RecordFile>, A>, Fault<'p>>
+    ensures refused { IfErr result (CannotStart (plan_of asked.entry)) }
+    ensures record { IfOk result (λ beside. IsBlank (option_map string_bytes asked.entry.record.now) (A.contents alarms.record) beside.record) }
+{
+    let displays = begin_displays(rt, alloc, asked, alarms.displays)?;
+    let record = begin_record(rt, alloc, asked, alarms.record)?;
+    Ok(Beside {
+        record,
+        displays,
+        limits: LimitAlarm::new(alarms.limits),
+    })
+}
+
+// The folder for displays, if it is asked for.
+fn begin_displays<'p, R: Files<File = File>, A: Write + Drop>(
+    rt: &R,
+    alloc: Global,
+    asked: RunOptions<'p>,
+    alarm: A,
+) -> Result<Option<Displays<A>>, Fault<'p>>
+    ensures { IfErr result (CannotStart (plan_of asked.entry)) }
+{
+    let Some(folder) = asked.displays else {
+        return Ok(None);
+    };
+    let (folder, every) = (folder.as_str(), asked.tables.pace.every);
+    let alarm = StandardError::new(alarm);
+    match Displays::begin(rt, alloc, folder, every, asked.origin, asked.site, alarm) {
+        Ok(displays) => Ok(Some(displays)),
+        Err(_) => Err(Fault::NoMemory),
+    }
+}
+
+// The record, if it is asked for.
+fn begin_record<'p, R: Files<File = File>, A: Write + Drop>(
+    rt: &R,
+    alloc: Global,
+    asked: RunOptions<'p>,
+    alarm: A,
+) -> Result<Option<Recorder<Output<RecordFile>, A>>, Fault<'p>>
+    ensures refused { IfErr result (CannotStart (plan_of asked.entry)) }
+    ensures record { IfOk result (IsBlank (option_map string_bytes asked.entry.record.now) (A.contents alarm)) }
+{
+    let Some(path) = asked.record else {
+        return Ok(None);
+    };
+    let recorder = record_to(rt, alloc, path.as_str(), StandardError::new(alarm))?;
+    Ok(Some(recorder))
+}
