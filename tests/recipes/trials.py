@@ -175,6 +175,17 @@ def the_end_of_a_run(it):
         it.expect("the counts are printed", counts and int(counts[1]) >= 9, terminal.said())
 
 
+def a_clean_end(it):
+    recipe = it.recipe("(mkfifo stop; trap * --stop stop <(NC) & wait; wait; rm stop)")
+    if it.needs("nc"):
+        terminal = begin(it, recipe, Receiver(steady(KLM)))
+        shows(it, terminal)
+        stops(it, terminal)
+        counts = re.search(r"^lines (\d+) frames (\d+) ", terminal.said(), re.M)
+        it.expect("the counts are printed", counts and int(counts[1]) >= 3, terminal.said())
+        it.expect("the pipe is removed", not (it.folder / "stop").exists())
+
+
 def kept_lines(it):
     line = re.search(r"`nc \.\. (\| tee day.avr \| ./groundstation run --every 1000 /dev/stdin)`", PROSE)
     it.expect("the page has the line", line)

@@ -204,9 +204,10 @@ def the_unit_file(it):
         it.ends.append(Service(call, RUNTIME_DIRECTORY=str(shown), STATE_DIRECTORY=str(kept)))
         it.expect("start %d writes the table" % number, comes(lambda: "4840d6" in text_of(it, "shown/aircraft.json")))
         status, seconds = it.ends[-1].ends_by()
-        it.expect("start %d ends after its time" % number, status == -signal.SIGTERM and seconds > 2.9, (status, seconds))
+        it.expect("start %d ends after its time" % number, status == 0 and seconds > 2.9, (status, seconds))
         it.ends[-1].close()
         (shown / "aircraft.json").unlink()
+        (shown / "stop").unlink()
     records = sorted(kept.glob("*.avr"))
     it.expect("each start has a record with its date", len(records) == 2
               and all(re.fullmatch(r"\d{8}-\d{6}\.avr", record.name) for record in records), records)

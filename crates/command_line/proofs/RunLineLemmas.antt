@@ -13,7 +13,7 @@ use Rattle.clap.specs.Words.{subcommand_of}
 use Rattle.clap.specs.declared.builder.value_parser.Reading.TheVariants.{AsWritten}
 use Rattle.clap.specs.declared.parser.matches.ValueSource.TheVariants.{DefaultValue}
 use Rattle.clap.proofs.OnLiterals.{clap_on_literals}
-use Rattle.command_line.specs.Command.{FormatNames, at_place, format, json_folder, path, record_file, reopen, replay, rounds, run, station, tick}
+use Rattle.command_line.specs.Command.{FormatNames, at_place, format, json_folder, path, record_file, reopen, replay, rounds, run, station, stop_pipe, tick}
 use Rattle.command_line.proofs.WalkedLemmas.{Keeps, both_empty, not_none, settles, walks}
 use Rattle.command_line.proofs.FoundLemmas.{Among, among, none_some, some_same}
 use Rattle.command_line.proofs.RunRowLemmas.{Fine, absent, fine_snoc, row_for}
@@ -58,15 +58,17 @@ finished_is names rows =
     let of_format = either_way (has_row (codes "format") rows) rows in
     let of_json = either_way (has_row (codes "json") rows) rows in
     let of_rounds = either_way (has_row (codes "rounds") rows) rows in
+    let of_stop = either_way (has_row (codes "stop") after) after in
     let of_record = either_way (has_row (codes "record") after) after in
     let of_at = either_way (has_row (codes "at") after) after in
     let of_path = either_way (has_row (codes "path") after) after in
     let of_help = either_way (has_row (codes "help") after) after in
-    ap (λ t. fold with_default t ((option tick) ∷ option (format names) ∷ (option json_folder) ∷ (option rounds) ∷ (option reopen) ∷ (option record_file) ∷ (option at_place) ∷ (option path) ∷ help_flag ∷ [])) of_every
-    ∙ ap (λ t. fold with_default t (option (format names) ∷ (option json_folder) ∷ (option rounds) ∷ (option reopen) ∷ (option record_file) ∷ (option at_place) ∷ (option path) ∷ help_flag ∷ [])) of_tick
-    ∙ ap (λ t. fold with_default t ((option json_folder) ∷ (option rounds) ∷ (option reopen) ∷ (option record_file) ∷ (option at_place) ∷ (option path) ∷ help_flag ∷ [])) of_format
-    ∙ ap (λ t. fold with_default t ((option rounds) ∷ (option reopen) ∷ (option record_file) ∷ (option at_place) ∷ (option path) ∷ help_flag ∷ [])) of_json
-    ∙ ap (λ t. fold with_default t ((option reopen) ∷ (option record_file) ∷ (option at_place) ∷ (option path) ∷ help_flag ∷ [])) of_rounds
+    ap (λ t. fold with_default t ((option tick) ∷ option (format names) ∷ (option json_folder) ∷ (option rounds) ∷ (option reopen) ∷ (option stop_pipe) ∷ (option record_file) ∷ (option at_place) ∷ (option path) ∷ help_flag ∷ [])) of_every
+    ∙ ap (λ t. fold with_default t (option (format names) ∷ (option json_folder) ∷ (option rounds) ∷ (option reopen) ∷ (option stop_pipe) ∷ (option record_file) ∷ (option at_place) ∷ (option path) ∷ help_flag ∷ [])) of_tick
+    ∙ ap (λ t. fold with_default t ((option json_folder) ∷ (option rounds) ∷ (option reopen) ∷ (option stop_pipe) ∷ (option record_file) ∷ (option at_place) ∷ (option path) ∷ help_flag ∷ [])) of_format
+    ∙ ap (λ t. fold with_default t ((option rounds) ∷ (option reopen) ∷ (option stop_pipe) ∷ (option record_file) ∷ (option at_place) ∷ (option path) ∷ help_flag ∷ [])) of_json
+    ∙ ap (λ t. fold with_default t ((option reopen) ∷ (option stop_pipe) ∷ (option record_file) ∷ (option at_place) ∷ (option path) ∷ help_flag ∷ [])) of_rounds
+    ∙ ap (λ t. fold with_default t ((option record_file) ∷ (option at_place) ∷ (option path) ∷ help_flag ∷ [])) of_stop
     ∙ ap (λ t. fold with_default t ((option at_place) ∷ (option path) ∷ help_flag ∷ [])) of_record
     ∙ ap (λ t. fold with_default t ((option path) ∷ help_flag ∷ [])) of_at
     ∙ ap (λ t. fold with_default t (help_flag ∷ [])) of_path ∙ of_help

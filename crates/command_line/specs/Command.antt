@@ -56,6 +56,14 @@ reopen = record (new_rule (codes "reopen")) {
   action = Some SetTrue;
 }
 
+-- `--stop PIPE`: any text but the empty one, at most once, and not required
+abbrev pub stop_pipe : Rule
+stop_pipe = record (new_rule (codes "stop")) {
+  long = Some (codes "stop");
+  value_names = 1;
+  parser = Some NonEmptyString;
+}
+
 -- `--record FILE`: any text but the empty one, at most once, and not required
 abbrev pub record_file : Rule
 record_file = record (new_rule (codes "record")) {
@@ -106,15 +114,18 @@ path = record (new_rule (codes "path")) {
 abbrev pub replay : FormatNames → App
 replay names = with_rule (with_rule (new_app (codes "replay")) (format names)) at_place
 
--- `run` with its times, with the formats of its tables, with all its options, and then with PATH too
+-- `run` with its times, with the formats of its tables, with how it goes on and ends, with all its options, and then with PATH too
 abbrev pub run_times : App
 run_times = with_rule (with_rule (new_app (codes "run")) every) tick
 
 abbrev pub run_formats : FormatNames → App
 run_formats names = with_rule (with_rule run_times (format names)) json_folder
 
+abbrev pub run_ends : FormatNames → App
+run_ends names = with_rule (with_rule (with_rule (run_formats names) rounds) reopen) stop_pipe
+
 abbrev pub run_options : FormatNames → App
-run_options names = with_rule (with_rule (with_rule (with_rule (run_formats names) rounds) reopen) record_file) at_place
+run_options names = with_rule (with_rule (run_ends names) record_file) at_place
 
 abbrev pub run : FormatNames → App
 run names = with_rule (run_options names) path
@@ -202,8 +213,8 @@ IsPlaceFault rows words_fault.NoMemory = ⊤
 IsPlaceFault rows (words_fault.NotAPlace text) = misplaced_text (first_of (codes "at") rows) ≡ Some (string_bytes text)
 IsPlaceFault rows _ = ⊥
 
--- the values of the options and of PATH in a command line of `run`: the paths in their order, a tick and a file only if they
--- are given, one round if no rounds are given, and never both `--reopen` and `--rounds`
+-- the values of the options and of PATH in a command line of `run`: the paths in their order, a tick, a pipe and a file only if
+-- they are given, one round if no rounds are given, and never both `--reopen` and `--rounds`
 pub record GivesRun (rows : List Row) (arguments : RunArguments) : Type 0 where
   pub text : Text
   pub every : one_of (codes "every") rows ≡ Some text
@@ -213,6 +224,7 @@ pub record GivesRun (rows : List Row) (arguments : RunArguments) : Type 0 where
   pub reopens_is : arguments.reopens ≡ is_set (one_of (codes "reopen") rows)
   pub not_both : gives_both rows ≡ false
   pub paths_are : all_of (codes "path") rows ≡ Some (map string_bytes arguments.paths.items)
+  pub stop_is : option_map string_bytes arguments.stop ≡ first_of (codes "stop") rows
   pub file_is : option_map string_bytes arguments.record ≡ first_of (codes "record") rows
   pub folder_is : option_map string_bytes arguments.displays ≡ first_of (codes "json") rows
   pub format_is : arguments.format ≡ format_named (first_of (codes "format") rows)

@@ -1,5 +1,5 @@
 //! The commands that `clap` reads: their options, and what help says of them.
-ghost use Rattle.command_line.specs.Command.{IsArg, IsMade, at_place, every, format, json_folder, path, record_file, reopen, replay, rounds, run, run_formats, run_options, run_times, station, tick};
+ghost use Rattle.command_line.specs.Command.{IsArg, IsMade, at_place, every, format, json_folder, path, record_file, reopen, replay, rounds, run, run_ends, run_formats, run_options, run_times, station, stop_pipe, tick};
 ghost use Rattle.std.specs.Prelude.{◌≡◌, IfOk};
 
 use clap::builder::ValueParser;
@@ -69,6 +69,8 @@ const AFTER_RUN_HELP: &str = concat!(
     "the = sign: --at=-33.9,151.2\n",
     "With --reopen a path that has ended, or whose read failed, is opened again one\n",
     "second later, for as long as the program runs. It can't go with --rounds.\n",
+    "With --stop the run ends as if all paths had ended, once somebody has written\n",
+    "to PIPE, or opened and closed it: 'mkfifo PIPE' before, and 'echo > PIPE'.\n",
     "Once there are 12582912 accepted frames and ticks, those that are more than\n",
     "70 s old are forgotten. There is room for 16777216. When it is full, all that\n",
     "comes is refused, and 'now' stands still.\n",
@@ -114,15 +116,23 @@ fn run_command<'a>(alloc: Global, names: &'a [&'a str]) -> Result<Command<'a>, A
 fn run_with_options<'a>(alloc: Global, names: &'a [&'a str]) -> Result<Command<'a>, AllocError>
     ensures { IfOk result (IsMade (run_options names.entry)) }
 {
-    let rounds = rounds_arg(alloc);
-    let reopen = reopen_arg(alloc);
     let file = record_arg(alloc);
     let place = at_arg(alloc);
+    let with_ends = run_with_ends(alloc, names)?;
+    let with_record = with_ends.arg(file)?;
+    with_record.arg(place)
+}
+
+fn run_with_ends<'a>(alloc: Global, names: &'a [&'a str]) -> Result<Command<'a>, AllocError>
+    ensures { IfOk result (IsMade (run_ends names.entry)) }
+{
+    let rounds = rounds_arg(alloc);
+    let reopen = reopen_arg(alloc);
+    let stop = stop_arg(alloc);
     let with_formats = run_with_formats(alloc, names)?;
     let with_rounds = with_formats.arg(rounds)?;
     let with_reopen = with_rounds.arg(reopen)?;
-    let with_record = with_reopen.arg(file)?;
-    with_record.arg(place)
+    with_reopen.arg(stop)
 }
 
 fn run_with_formats<'a>(alloc: Global, names: &'a [&'a str]) -> Result<Command<'a>, AllocError>
@@ -215,6 +225,18 @@ fn reopen_arg<'a>(alloc: Global) -> Arg<'a>
         .long("reopen")
         .help("Open each path again 1 s after it ended or failed")
         .action(ArgAction::SetTrue)
+}
+
+// `--stop PIPE`
+fn stop_arg<'a>(alloc: Global) -> Arg<'a>
+    ensures { IsArg stop_pipe result }
+{
+    let pipe = ValueParser::NonEmptyString;
+    Arg::new(alloc, "stop")
+        .long("stop")
+        .value_name("PIPE")
+        .help("Named pipe that ends the run once it is written to")
+        .value_parser(pipe)
 }
 
 // `--record FILE`

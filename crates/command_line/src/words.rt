@@ -35,6 +35,8 @@ pub struct RunArguments {
     pub rounds: u16,
     /// Whether a path that has ended, or whose read failed, is opened again. Never where rounds are asked for.
     pub reopens: bool,
+    /// The named pipe that ends the run once it is written to, if one is given.
+    pub stop: Option<String>,
     /// 1 to 8.
     pub paths: Vec<String>,
     /// The file that the run is recorded to, if one is given.
@@ -186,12 +188,14 @@ fn read_run(
     };
     let paths = owned(alloc, texts)?;
     let format = TableFormat::named(given.get_str("format"));
+    let stop = owned_if_given(alloc, given.get_str("stop"))?;
     let record = owned_if_given(alloc, given.get_str("record"))?;
     let displays = owned_if_given(alloc, given.get_str("json"))?;
     Ok(RunArguments {
         pace: Pace { every, tick },
         rounds: rounds.unwrap_or(1),
         reopens,
+        stop,
         paths,
         record,
         format,

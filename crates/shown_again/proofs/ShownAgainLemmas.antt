@@ -1,7 +1,8 @@
 -- A replay of the record of a run prints what the run printed, station by station.
 use Rattle.std.proofs.Common.{rules, ◌≡◌, ◌∙◌, ◌⊎◌, inl, inr, ℕ, suc, ◌+◌, ◌≤◌, ◌&&◌, ◌||◌, Bool, true, false, List, [], ◌∷◌, Option, Some, None, is_some, refl, sym, ap, subst, length, max, arith}
-use Rattle.std.specs.Io.KnownBytes.{Appends}
+use Rattle.std.specs.Io.KnownBytes.{Appends, Keeps}
 use Rattle.modes_frame.specs.Lines.{cuts}
+use Rattle.station_journal.specs.declared.entry.Entry.{Entry}
 use Rattle.station_journal.proofs.Common.{Site}
 use Rattle.station_journal.specs.Log.{IsLegal, empty_log, most_entries}
 use Rattle.station_report.specs.declared.formats.Format.TheVariants.{Text}
@@ -12,15 +13,15 @@ use Rattle.station_record.specs.ReadBack.{new_log}
 use Rattle.station_record.proofs.RoundLemmas.{first-continues}
 use Rattle.station_shared.specs.Seats.{Seated}
 use Rattle.messages.proofs.Common.{Told, fault_status}
-use Rattle.station_reporter.proofs.Common.{IfRecording, MayHandOver, Recording, record_status}
+use Rattle.station_reporter.proofs.Common.{IfRecording, MayHandOver, Recording, Records, record_status, seen_by}
 use Rattle.station_reporter.specs.declared.duties.Duties.{Duties}
 use Rattle.station_reporter.specs.declared.schedule.Due.{Due}
 use Rattle.station_reporter.specs.declared.schedule.Tables.{Tables}
 use Rattle.station_run.specs.Stations.{NoRoundAfter}
-use Rattle.station_run.proofs.Common.{BeginsRound, Begun, EndsRound, EndsRun, HandsOver, KeepsRecent, Left, RunEnd, RunPlan, RunsOn, RunsStation, Station, no_start, program_limits}
+use Rattle.station_run.proofs.Common.{BeginsRound, Begun, EndsRound, EndsRun, GivesBack, HandsOver, IsOver, KeepsRecent, Left, RoundStart, RunEnd, RunPlan, RunsOn, RunsStation, Station, Streams, may_go_on, no_start, program_limits}
 use Rattle.shown_again.proofs.KeptEndLemmas.{Begins, wide}
 use Rattle.shown_again.proofs.SaidLemmas.{Said, handed-on, only-said, still-well}
-use Rattle.shown_again.proofs.StationLemmas.{kept-whole, no-fault, says-kept, station-says}
+use Rattle.shown_again.proofs.StationLemmas.{StationSays, kept-whole, no-fault, says-kept, station-says}
 
 -- ---- the record is there after a part of a run if it was there before it
 
@@ -90,9 +91,9 @@ neither true b e f = absurd (search rules)
 neither false true e f = absurd (search rules)
 
 -- the last round had status 0
-over-well : (rounds_left : ℕ) (err_old err_new : Told) (of_round told : ℕ) → told ≡ 0 → NoRoundAfter rounds_left err_old err_new of_round told → of_round ≡ 0
-over-well rounds_left err_old err_new of_round told none (inl over) = sym over.2 ∙ none
-over-well rounds_left err_old err_new of_round told none (inr full) = full.0
+over-well : (rounds_left : ℕ) (stopped : Bool) (err_old err_new : Told) (of_round told : ℕ) → told ≡ 0 → NoRoundAfter rounds_left stopped err_old err_new of_round told → of_round ≡ 0
+over-well rounds_left stopped err_old err_new of_round told none (inl over) = sym over.2 ∙ none
+over-well rounds_left stopped err_old err_new of_round told none (inr full) = full.0
 
 module _ (asked : RunPlan) (asks_text : asked.tables.format ≡ Text) (end : RunEnd) (ended : end.status ≡ 0) (well : record_status end.recording ≡ 0) where
   last-said : (only : Type 0) (station : Station) (was : Recording) → RunsStation station → IsText station.begun → station.old.recording ≡ Some was → was.recorded ≡ length station.begun.given.entries → EndsRun asked station.left station.new end → SaidOn only station end was
@@ -102,7 +103,7 @@ module _ (asked : RunPlan) (asks_text : asked.tables.format ≡ Text) (end : Run
       let recorded : end.recording ≡ Some shown.0 = over.recording ∙ shown.1 in
       let is_well = well-record end.recording shown.0 recorded well in
       let told : over.told ≡ 0 = first-zero _ _ (sym over.status_is ∙ ended) in
-      let of_round = over-well station.left.rounds_left over.err_round over.err_mid over.of_round over.told told over.no_more in
+      let of_round = over-well station.left.rounds_left over.round.stopped over.err_round over.err_mid over.of_round over.told told over.no_more in
       let written = round-well asked station.left station.new.err over.err_round over.of_round of_round over.round in
       let late = no-fault over.told over.has_failed (sym ended ∙ over.status_is) in
       let kept = kept-whole station.new.out over.output _ (neither station.left.has_failed over.has_failed written late) over.gives in

@@ -1,5 +1,5 @@
 -- The paths of a round that weren't read to their ends.
-use Rattle.std.proofs.Common.{◌≡◌, ◌∙◌, ◌∷◌, ◌++◌, ◌<◌, ◌≤◌, ℕ, zero, suc, Bool, true, false, List, [], Option, None, Some, ◌⊎◌, inl, inr, append_assoc, append-nil, arith, ap, cond, map, max, nat_eq, refl, subst, sym, flat_map}
+use Rattle.std.proofs.Common.{rules, ◌≡◌, ◌∙◌, ◌∷◌, ◌++◌, ◌<◌, ◌≤◌, ℕ, zero, suc, Bool, true, false, List, [], Option, None, Some, ◌⊎◌, inl, inr, append_assoc, append-nil, arith, ap, cond, map, max, nat_eq, refl, subst, sym, flat_map}
 use Rattle.std.proofs.lemmas.Bool.Decides.{nat_tests}
 use Rattle.std.proofs.lemmas.Grind.{flat_map-append}
 use Rattle.std.specs.Io.KnownBytes.{Appends}
@@ -8,11 +8,11 @@ use Rattle.streams.specs.Source.{SourceState}
 use Rattle.station_portions.specs.Giving.{left_of, state_of}
 use Rattle.station_portions.specs.Whole.{GivesPath}
 use Rattle.station_portions.specs.declared.message.PathEnd.{PathEnd}
-use Rattle.station_portions.specs.declared.message.PathEnd.TheVariants.{AtEnd, ReadFailed}
+use Rattle.station_portions.specs.declared.message.PathEnd.TheVariants.{ReadFailed}
 use Rattle.station_portions.specs.declared.portions.Portions.{Portions}
 use Rattle.messages.specs.Telling.{unfinished_words}
 use Rattle.messages.proofs.Common.{Tells, Told, telling_line, unfinished_lines}
-use Rattle.station_paths.proofs.Common.{GaveAll, GaveAllBut, IsUnfinished, unfinished_status}
+use Rattle.station_paths.proofs.Common.{GaveAllBut, IsFinished, IsUnfinished, unfinished_status}
 use Rattle.std.proofs.lemmas.Option.{same_Some}
 use Rattle.messages.proofs.TellLemmas.{tells_both}
 
@@ -79,10 +79,10 @@ unfinished-by left own given source true is_at_end left_is given_is path going o
 
 -- ---- one path after another
 
-module _ {T R : Type 0} (name : T → List ℕ) (left : T → Option (List ℕ)) where
+module _ {T R : Type 0} (stopped : Bool) (name : T → List ℕ) (left : T → Option (List ℕ)) where
   -- these are unfinished, of paths with such threads and sources
   abbrev pub AllBut : List T → List (Portions R) → List (List ℕ) → Type 0
-  AllBut threads inputs unfinished = GaveAllBut (map name threads) (map left threads) (map state_of inputs) unfinished
+  AllBut threads inputs unfinished = GaveAllBut stopped (map name threads) (map left threads) (map state_of inputs) unfinished
 
   all-but : (threads ts : List T) (t : T) (inputs is : List (Portions R)) (i : Portions R) (unfinished : List (List ℕ)) → threads ≡ t ∷ ts → inputs ≡ i ∷ is
       → AllBut (t ∷ ts) (i ∷ is) unfinished → AllBut threads inputs unfinished
@@ -106,7 +106,7 @@ module _ {T R : Type 0} (name : T → List ℕ) (left : T → Option (List ℕ))
 
   pub ends-more : (all_threads threads ts : List T) (t : T) (all_inputs inputs is : List (Portions R)) (i : Portions R) (before : ℕ) (a b c : Told) (status one new : ℕ)
       → threads ≡ t ∷ ts → inputs ≡ i ∷ is → before ≤ 1 → one ≤ 1
-      → (one ≡ 0 → GaveAll AtEnd (left t) (state_of i) × (c ≡ b)) → (one ≡ 1 → IsUnfinished (left t) (state_of i)) → (one ≡ 1 → Tells b c (unfinished_lines before (name t ∷ []))) → new ≡ max status one
+      → (one ≡ 0 → IsFinished stopped (left t) (state_of i) × (c ≡ b)) → (one ≡ 1 → IsUnfinished (left t) (state_of i)) → (one ≡ 1 → Tells b c (unfinished_lines before (name t ∷ []))) → new ≡ max status one
       → EndsSoFar all_threads threads all_inputs inputs before a b status → EndsSoFar all_threads ts all_inputs is before a c new
   ends-more all_threads threads ts t all_inputs inputs is i before a b c status zero new threads_split split few most whole why told new_is so_far = record {
     unfinished = so_far.unfinished;

@@ -1,5 +1,5 @@
 -- The inputs of a run: what threads send of what opening the paths gave.
-use Rattle.std.specs.Prelude.{◌≡◌, ◌<◌, ◌⊎◌, ℕ, List, [], ◌∷◌, IfSome, Option, None, Some, Result, Ok, ⊤}
+use Rattle.std.specs.Prelude.{◌≡◌, ◌<◌, ◌⊎◌, ℕ, Bool, true, List, [], ◌∷◌, IfSome, Option, None, Some, Result, Ok, ⊤}
 use Rattle.std.specs.String.{string_bytes}
 use Rattle.streams.specs.Source.{IsBorder, SourceState}
 use Rattle.clap.specs.Words.{Text}
@@ -57,13 +57,18 @@ pub record GaveAll (end : PathEnd) (left : Option (List ℕ)) (source : SourceSt
 abbrev pub IsUnfinished : Option (List ℕ) → SourceState → Type 0
 IsUnfinished left source = (source.left ≡ None) ⊎ GaveAll ReadFailed left source
 
--- these paths, in their order, are unfinished; each other one was read to its end, and its source gave all
-abbrev pub GaveAllBut : List Text → List (Option (List ℕ)) → List SourceState → List Text → Type 0
-GaveAllBut [] [] [] unfinished = unfinished ≡ []
-GaveAllBut (path ∷ paths) (left ∷ lefts) (source ∷ sources) unfinished =
-    (GaveAll AtEnd left source × GaveAllBut paths lefts sources unfinished)
-    ⊎ ((others : List Text) × (unfinished ≡ path ∷ others) × IsUnfinished left source × GaveAllBut paths lefts sources others)
-GaveAllBut paths lefts sources unfinished = ⊥
+-- a path was read to its end, and its source gave all; or the run is stopped, and the path goes on
+abbrev pub IsFinished : (stopped : Bool) → Option (List ℕ) → SourceState → Type 0
+IsFinished stopped left source = GaveAll AtEnd left source ⊎ ((stopped ≡ true) × (source.left ≡ None))
+
+-- these paths, in their order, are unfinished; each other one was read to its end, and its source gave all. In a run that is
+-- stopped paths that go on needn't be among them
+abbrev pub GaveAllBut : (stopped : Bool) → List Text → List (Option (List ℕ)) → List SourceState → List Text → Type 0
+GaveAllBut stopped [] [] [] unfinished = unfinished ≡ []
+GaveAllBut stopped (path ∷ paths) (left ∷ lefts) (source ∷ sources) unfinished =
+    (IsFinished stopped left source × GaveAllBut stopped paths lefts sources unfinished)
+    ⊎ ((others : List Text) × (unfinished ≡ path ∷ others) × IsUnfinished left source × GaveAllBut stopped paths lefts sources others)
+GaveAllBut stopped paths lefts sources unfinished = ⊥
 
 -- 1 if a path is among them
 abbrev pub unfinished_status : List Text → ℕ

@@ -13,6 +13,7 @@ use crate::system::{Host, PathSystem};
 use messages::{Answer, Fault};
 use station_lines::Tally;
 use station_portions::{FinishedPath, HandOver, PathReader, Portions, WholePath, connect};
+use station_reporter::{Requests, Stop};
 use std::alloc::Global;
 use std::fs::{self, File};
 use std::io::{self, ErrorKind, Read};
@@ -39,8 +40,8 @@ pub struct PathThread<'p, I: Read + Drop> {
 pub struct Paths<'p, I: Read + Drop> {
     /// The paths with their threads, in their order.
     pub threads: Vec<PathThread<'p, I>>,
-    /// The requests for hand-overs, one for each path.
-    pub hand_overs: Vec<Arc<HandOver, Global>>,
+    /// How their portions are ended.
+    pub requests: Requests,
 }
 
 /// Opens the paths in order, up to the first that can't be opened. If they are opened again later, a pipe is first opened by
@@ -66,8 +67,8 @@ pub fn open_all<'p, R: Files<File = File>>(
     Ok(files)
 }
 
-// Opens a path. If it is opened again later, a pipe isn't opened yet.
-fn open<'p, R: Files<File = File>>(
+/// Opens a path. If it is opened again later, a pipe isn't opened yet.
+pub fn open<'p, R: Files<File = File>>(
     rt: &R,
     alloc: Global,
     path: &'p String,
@@ -109,10 +110,12 @@ pub struct Started<'a, 'p, R> {
     pub answers: Vec<Answer>,
 }
 
-/// Starts a thread for each file, in their order, which reads it to its end.
+/// Starts a thread for each file, in their order, which reads it to its end. `stop` is the end of the run, where somebody may
+/// ask for it.
 pub fn start_all<'a, 'p, R: Threads, W: PathSystem>(
     host: &Host<'a, R, W>,
     files: Vec<OpenedPath<'p>>,
+    stop: Option<Arc<Stop, Global>>,
 ) -> Result<Started<'a, 'p, R>, Fault<'static>>
     ensures inputs { IfOk result (λ started. length started.inputs.items ≡ length files.entry.items) }
     ensures fed { IfOk result (λ started.
@@ -139,7 +142,7 @@ pub fn start_all<'a, 'p, R: Threads, W: PathSystem>(
     }
     let paths = Paths {
         threads,
-        hand_overs,
+        requests: Requests { hand_overs, stop },
     };
     Ok(Started {
         paths,

@@ -11,7 +11,9 @@ mod limit_alarm;
 mod record_file;
 pub mod recorder;
 mod reporter;
+mod requests;
 mod schedule;
+mod stop;
 
 pub use bell::Bell;
 pub use beside::Beside;
@@ -23,4 +25,6 @@ pub use limit_alarm::LimitAlarm;
 pub use record_file::{RecordFile, record_to};
 pub use recorder::{Recorder, record_rest};
 pub use reporter::{Reporter, ReporterResult, ReportsFrom, print_and_record, report};
+pub use requests::Requests;
 pub use schedule::{Act, Due, Tables, act_at, milliseconds_since_1970};
+pub use stop::{Stop, Stopped};

@@ -11,18 +11,17 @@ use crate::beside::Beside;
 use crate::displays::{put_table, table_for};
 use crate::duties::Duties;
 use crate::recorder::record_look;
-use crate::schedule::{Act, Due, ElapsedClock, Moments, act_at, after_tick};
-use station_portions::HandOver;
+use crate::requests::Requests;
+use crate::schedule::{Act, Due, ElapsedClock, LONGEST_SLEEP, Moments, act_at, after_tick};
 use station_report::{Format, table_as};
 use station_shared::{Look, Seat, Station, StationName};
-use std::alloc::Global;
 use std::fs::File;
 use std::io::Write;
 use std::rt::Files;
 use std::snapshot::Snapshot;
-use std::sync::{Arc, Wait};
+use std::sync::Wait;
 use std::thread::Promise;
-use std::time::{Clock, Instant};
+use std::time::{Clock, Duration, Instant};
 use streams::{Sink, WriteFault, flush_after};
 
 /// What a reporter leaves.
@@ -63,8 +62,9 @@ impl<const N: usize, L: StationName, S: Sink, T: Sink, A: Write> Promise<
 /// Ticks, prints the table and records it each time that it is due, in milliseconds since `start`.
 /// Between tables it ticks alone, if ticks are asked for. Ends when all receivers have ended, a write of the output failed,
 /// or the journal has enough entries for the station to hand over: then it ticks alone once more, and asks for the end of
-/// all portions. Answers the seat, the sink, which has taken the tables of its looks and nothing else, and what is written
-/// beside: the record has gone on with what these looks saw. Limits that calls have met are reported at once.
+/// all portions. Where the end of the run was asked for, it asks for that end too, and the station doesn't hand over. Answers
+/// the seat, the sink, which has taken the tables of its looks and nothing else, and what is written beside: the record has gone
+/// on with what these looks saw. Limits that calls have met are reported at once.
 pub fn report<
     const N: usize,
     L: StationName,
@@ -76,7 +76,7 @@ pub fn report<
     rt: &R,
     station: &Station<N, L>,
     ended: &Bell,
-    hand_overs: &Vec<Arc<HandOver, Global>>,
+    requests: &Requests,
     start: Option<Instant>,
     reporter: Reporter<Seat<N, L>, S, Beside<T, A>>,
 ) -> ReporterResult<Seat<N, L>, S, Beside<T, A>>
@@ -85,35 +85,44 @@ pub fn report<
 {
     let duties = reporter.duties;
     let mut moments = ElapsedClock { rt, start };
-    let (mut reported, is_full) = report_at(rt, station, ended, reporter, &mut moments);
+    let (mut reported, is_full) = report_at(rt, station, ended, requests, reporter, &mut moments);
     if !is_full {
-        request_if(hand_overs, duties.ends_with_output && reported.has_failed);
+        end_if(requests, duties.ends_with_output && reported.has_failed);
+        await_end(rt, ended, requests);
         return reported;
     }
     let at = moments.now();
     let _ = station.tick(rt, &mut reported.seat, at);
     reported.due = after_tick(duties.tables.pace, reported.due, at);
     reported.asked_at = Some(at);
-    request_all(hand_overs);
+    requests.end_all();
     reported
 }
 
 // Asks for the end of all portions, under a condition.
-fn request_if(hand_overs: &Vec<Arc<HandOver, Global>>, condition: bool) {
+fn end_if(requests: &Requests, condition: bool) {
     if condition {
-        request_all(hand_overs);
+        requests.end_all();
     }
 }
 
-// Asks for the end of all portions.
-fn request_all(hand_overs: &Vec<Arc<HandOver, Global>>) {
-    for hand_over in hand_overs {
-        hand_over.request();
+// Waits until all receivers have ended, where the end of the run may still be asked for. After a failed write they go on.
+fn await_end<R: Wait>(rt: &R, ended: &Bell, requests: &Requests) {
+    if requests.stop.is_none() {
+        return;
+    }
+    for _ in rt.forever() {
+        if ended.has_rung() {
+            return;
+        }
+        let _ = requests.end_if_stopped();
+        ended.rest(rt, Duration::from_millis(LONGEST_SLEEP));
     }
 }
 
 // `report` by any clock up to a hand-over: a table at each of its times at which one is due, and a tick alone where only
-// that is due. Answers whether the station is to hand over.
+// that is due. Answers whether the station is to hand over. Where the end of the run was asked for, that of all portions is,
+// again at each wake.
 fn report_at<
     const N: usize,
     L: StationName,
@@ -126,6 +135,7 @@ fn report_at<
     rt: &R,
     station: &Station<N, L>,
     ended: &Bell,
+    requests: &Requests,
     reporter: Reporter<Seat<N, L>, S, Beside<T, A>>,
     moments: &mut M,
 ) -> (ReporterResult<Seat<N, L>, S, Beside<T, A>>, bool)
@@ -145,7 +155,8 @@ fn report_at<
         reported.beside.report_limits(station.limits_met());
         let (seat, entries) = count(reported.seat);
         reported.seat = seat;
-        if duties.asks(entries, now, reported.due) {
+        let is_ending = requests.end_if_stopped();
+        if duties.asks(entries, now, reported.due) && !is_ending {
             return (reported, true);
         }
         now = moments.now();

@@ -86,7 +86,7 @@ fn later(at: u64, interval: u32) -> u64
 }
 
 // The longest sleep, in milliseconds.
-const LONGEST_SLEEP: u64 = 50;
+pub(crate) const LONGEST_SLEEP: u64 = 50;
 
 /// What the reporter does at one time.
 #[derive(Clone, Copy, Debug, PartialEq, Eq)]

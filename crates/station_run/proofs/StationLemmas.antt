@@ -1,5 +1,5 @@
 -- Stations of the job `run`: what a reporter has shown, and how one follows another.
-use Rattle.std.proofs.Common.{rules, ◌≡◌, ◌∙◌, ◌⊎◌, inl, inr, ℕ, ◌&&◌, ◌||◌, Bool, true, false, List, [], ◌∷◌, ◌++◌, Option, Some, None, Result, flat_map, fold, is_some, length, map, max, string_bytes, append-nil, refl, sym, ap, subst, reverse, arith}
+use Rattle.std.proofs.Common.{rules, ◌≡◌, ◌∙◌, ◌⊎◌, inl, inr, ℕ, zero, suc, ◌+◌, ◌<◌, ◌&&◌, ◌||◌, Bool, true, false, List, [], ◌∷◌, ◌++◌, Option, Some, None, Result, flat_map, fold, is_err, is_some, length, map, max, string_bytes, append-nil, refl, sym, ap, subst, reverse, arith}
 use Rattle.streams.specs.Source.{SourceState}
 use Rattle.streams.specs.Sink.{SinkState}
 use Rattle.station_journal.specs.declared.entry.Entry.{Entry}
@@ -13,7 +13,10 @@ use Rattle.station_lines.specs.declared.tally.Tally.{Tally}
 use Rattle.messages.specs.Telling.{output_lines}
 use Rattle.messages.proofs.Common.{AddsEach, Tells, Told, fault_status, pump_lines, status_of, unfinished_lines}
 use Rattle.station_paths.specs.declared.paths.PathThread.{PathThread}
-use Rattle.station_run.specs.Stations.{ClosesOutput, IsBlank, NoRoundAfter}
+use Rattle.messages.specs.declared.faults.Fault.{Fault}
+use Rattle.messages.specs.declared.faults.Fault.TheVariants as fault
+use Rattle.station_paths.specs.Faults.{IsUnopened}
+use Rattle.station_run.specs.Stations.{CannotStart, ClosesOutput, IsBlank, NoRoundAfter}
 use Rattle.station_run.proofs.ReceiverLemmas.{pumped-take}
 use Rattle.station_reporter.proofs.Common.{IfRecording, Recording, Records, seen_by, MayHandOver, ReportsByAClock, looks_of, TakesTexts}
 use Rattle.station_reporter.proofs.RecordedLemmas.{one-more-look}
@@ -22,7 +25,7 @@ use Rattle.station_reporter.specs.declared.duties.Duties.{Duties}
 use Rattle.station_reporter.specs.declared.schedule.Due.{Due}
 use Rattle.station_reporter.specs.declared.reporter.ReporterResult.{ReporterResult}
 use Rattle.station_paths.proofs.Common.{AllTakeFrom, GaveAllBut, unfinished_status}
-use Rattle.station_run.proofs.Common.{AreRead, Begun, BeginsRound, EndsEarly, EndsRound, EndsRun, Leaves, HandsOver, Follows, GoesOn, IsLost, KeepsRecent, LastLook, Left, PrintsLast, RoundStart, RunEnd, RunPlan, RunsFrom, RunsStation, Shows, Station, Streams, may_go_on, program_limits}
+use Rattle.station_run.proofs.Common.{AreRead, Begun, BeginsRound, Closing, EndsEarly, EndsRound, EndsRun, Leaves, HandsOver, Follows, GoesOn, IsLost, KeepsRecent, LastLook, Left, PrintsLast, RoundStart, RunEnd, RunPlan, RunsFrom, RunsOn, RunsStation, Shows, Station, Streams, may_go_on, program_limits}
 
 -- ---- what is kept of a station
 
@@ -158,7 +161,7 @@ run_on asked station next on [] end runs follows lost = (refl, refl, runs, inr (
   where
     by-how : (asked : RunPlan) (left : Left) (next : Begun) (err_old err_new : Told) → HandsOver left next err_old err_new ⊎ BeginsRound asked left next err_old err_new → GoesOn asked left err_old err_new
     by-how asked left next err_old err_new (inl hands) = inl (hands.goes_on, hands.err)
-    by-how asked left next err_old err_new (inr round) = inr (omega (arith, round.rounds_left), round.over)
+    by-how asked left next err_old err_new (inr round) = inr (omega (arith, round.rounds_left), (round.over, round.goes_on))
 
     follows-on : (asked : RunPlan) (station : Station) (next : Begun) (on : Streams) → Follows asked station.left station.new next on → GoesOn asked station.left station.new.err on.err
     follows-on asked station next on follows = by-how asked station.left next station.new.err on.err follows.how
@@ -202,27 +205,38 @@ leaves_by has_displays ends other after err_new status leaves so = record {
 }
 
 -- a round that is over, once it is printed what was counted, and which paths weren't read to their ends
-pub round_over : (asked : RunPlan) (left : Left) (paths : List (List ℕ)) (known : List (Option (List ℕ))) (err_old err_mid err_new : Told) (told status : ℕ)
-    → left.hands_over ≡ false → asked.paths ≡ paths → asked.known ≡ known
+pub round_over : (asked : RunPlan) (left : Left) (paths : List (List ℕ)) (known : List (Option (List ℕ))) (stopped : Bool) (err_old err_mid err_new : Told) (told status : ℕ)
+    → left.hands_over ≡ false → (stopped ≡ true → is_some asked.stop ≡ true) → asked.paths ≡ paths → asked.known ≡ known
     → Tells err_old err_mid (flat_map pump_lines left.answers ++ output_lines left.has_failed)
     → told ≡ max (fold (λ worst answer. max worst (status_of answer)) 0 left.answers) (fault_status left.has_failed)
-    → (unfinished : List (List ℕ)) × GaveAllBut paths known left.sources unfinished × Tells err_mid err_new (unfinished_lines told unfinished) × (status ≡ max told (unfinished_status unfinished))
-    → EndsRound asked left err_old err_new status
-round_over asked left paths known err_old err_mid err_new told status stays named known_is counts told_is ended = record {
-  stays = stays;
-  err_mid = err_mid;
-  told = told;
-  counts = counts;
-  told_is = told_is;
-  unfinished = ended.0;
-  whole = rw (named, known_is) ended.1;
-  told_too = ended.2;
-  status_is = ended.3;
-}
+    → (unfinished : List (List ℕ)) × GaveAllBut stopped paths known left.sources unfinished × Tells err_mid err_new (unfinished_lines told unfinished) × (status ≡ max told (unfinished_status unfinished))
+    → (round : EndsRound asked left err_old err_new status) × (round.stopped ≡ stopped)
+round_over asked left paths known stopped err_old err_mid err_new told status stays may_stop named known_is counts told_is ended = (
+  record {
+    stays = stays;
+    err_mid = err_mid;
+    told = told;
+    counts = counts;
+    told_is = told_is;
+    stopped = stopped;
+    may_stop = may_stop;
+    unfinished = ended.0;
+    whole = rw (named, known_is) ended.1;
+    told_too = ended.2;
+    status_is = ended.3;
+  },
+  refl,
+)
+
+-- a round that is over without a fault in a run that isn't stopped
+pub ends_well : (asked : RunPlan) (left : Left) (err_old err_new : Told) (status : ℕ) → status ≡ 0 → (round : EndsRound asked left err_old err_new status) → round.stopped ≡ false
+    → (well : EndsRound asked left err_old err_new 0) × (well.stopped ≡ false)
+ends_well asked left err_old err_new zero none round goes_on = (round, goes_on)
+ends_well asked left err_old err_new (suc status) none round goes_on = absurd (omega (arith, none))
 
 -- the end after the last round
 pub over : (asked : RunPlan) (left : Left) (old : Streams) (err_round err_mid err_new : Told) (of_round told : ℕ) (after : Option (Option (List ℕ))) (status : ℕ)
-    → EndsRound asked left old.err err_round of_round → NoRoundAfter left.rounds_left err_round err_mid of_round told
+    → (round : EndsRound asked left old.err err_round of_round) → NoRoundAfter left.rounds_left round.stopped err_round err_mid of_round told
     → ClosesOutput asked.has_displays old.out left.has_failed old.recording err_mid err_new told after status → Leaves asked.has_displays (EndsRun asked left old) after err_new status
 over asked left old err_round err_mid err_new of_round told after status round no_more closes = record {
   end = record { out = after; recording = old.recording; err = err_new; status = max told (fault_status closes.has_failed) };
@@ -273,3 +287,20 @@ blank_for None alarm = (None, refl)
 blank_for (Some file) alarm =
     let blank : Recording = record { taken = None; recorded = 0; has_failed = false; alarm = record { taken = alarm; has_failed = false } } in
     (Some blank, (blank, refl, record { recorded = refl; well = refl; alarm = refl }))
+
+-- a pipe that can't be opened, or for which there is no memory, is why a run can't start
+pub cannot_wait : (asked : RunPlan) (pipe : List ℕ) (f : Fault) → asked.stop ≡ Some pipe → IsUnopened (pipe ∷ []) f → CannotStart asked f
+cannot_wait asked pipe fault.NoMemory is why = inr (inr (ap is_some is))
+cannot_wait asked pipe (fault.CannotOpen path) is (zero, inside, same) = is ∙ ap Some same
+cannot_wait asked pipe (fault.CannotOpen path) is (suc k, inside, same) = absurd (omega (arith, inside))
+cannot_wait asked pipe fault.Read is why = absurd why
+cannot_wait asked pipe fault.Write is why = absurd why
+cannot_wait asked pipe fault.TooManyReads is why = absurd why
+cannot_wait asked pipe fault.ThreadNotStarted is why = absurd why
+cannot_wait asked pipe (fault.CannotRecord path reason) is why = absurd why
+cannot_wait asked pipe (fault.Record reason) is why = absurd why
+cannot_wait asked pipe (fault.CannotWrite path reason) is why = absurd why
+cannot_wait asked pipe (fault.WritesAgain path) is why = absurd why
+cannot_wait asked pipe fault.JournalFull is why = absurd why
+cannot_wait asked pipe fault.TableFull is why = absurd why
+cannot_wait asked pipe (fault.Unfinished path) is why = absurd why

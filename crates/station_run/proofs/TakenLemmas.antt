@@ -21,7 +21,7 @@ use Rattle.messages.specs.Sums.{AddsEach, HasSameFault, first_fault}
 use Rattle.station_run.specs.Taken.{AreLinesOf, Portion, TakeInEach, TakesEachPath, TakesPath, TakesPortion, all_bytes, all_lines, so_far_after}
 use Rattle.messages.proofs.Common.{Told, status_of}
 use Rattle.station_run.proofs.Common.{BeginsRound, Begun, EndsRound, HandsOver, IsFirst, RunEnd, RunPlan, Runs, RunsOn, RunsStation, Station, Streams, ends_run, most_reads}
-use Rattle.station_paths.proofs.Common.{FailsBetweenLines, GaveAll, GaveAllBut, IsUnfinished, unfinished_status}
+use Rattle.station_paths.proofs.Common.{FailsBetweenLines, GaveAll, GaveAllBut, IsFinished, IsUnfinished, unfinished_status}
 use Rattle.station_run.proofs.BorderLemmas.{border_rest}
 use Rattle.std.proofs.lemmas.Option.{none-some, same_Some}
 
@@ -82,23 +82,23 @@ none-ends (answer ∷ answers) (suc place) d none inside =
 later-one : (path : List ℕ) (paths : List (List ℕ)) (other : List ℕ) → Contains paths other → Contains (path ∷ paths) other
 later-one path paths other (k, inside, is) = (suc k, omega (arith, inside), is)
 
--- a path was read to its end, or is one of the unfinished
-ended-at : (paths : List (List ℕ)) (lefts : List (Option (List ℕ))) (sources : List SourceState) (unfinished : List (List ℕ)) (place : ℕ) (path : List ℕ) (left : Option (List ℕ)) (source : SourceState)
-    → GaveAllBut paths lefts sources unfinished → place < length paths
-    → GaveAll AtEnd (get_or lefts place left) (get_or sources place source) ⊎ (Contains unfinished (get_or paths place path) × IsUnfinished (get_or lefts place left) (get_or sources place source))
-ended-at [] [] [] unfinished place path left source all inside = absurd (omega (arith, inside))
-ended-at [] [] (s ∷ sources) unfinished place path left source all inside = absurd all
-ended-at [] (l ∷ lefts) sources unfinished place path left source all inside = absurd all
-ended-at (p ∷ paths) [] sources unfinished place path left source all inside = absurd all
-ended-at (p ∷ paths) (l ∷ lefts) [] unfinished place path left source all inside = absurd all
-ended-at (p ∷ paths) (l ∷ lefts) (s ∷ sources) unfinished zero path left source (inl (whole, others)) inside = inl whole
-ended-at (p ∷ paths) (l ∷ lefts) (s ∷ sources) unfinished zero path left source (inr (others, is, why, rest)) inside =
+-- a path was read to its end, or goes on in a run that is stopped, or is one of the unfinished
+ended-at : (stopped : Bool) (paths : List (List ℕ)) (lefts : List (Option (List ℕ))) (sources : List SourceState) (unfinished : List (List ℕ)) (place : ℕ) (path : List ℕ) (left : Option (List ℕ)) (source : SourceState)
+    → GaveAllBut stopped paths lefts sources unfinished → place < length paths
+    → IsFinished stopped (get_or lefts place left) (get_or sources place source) ⊎ (Contains unfinished (get_or paths place path) × IsUnfinished (get_or lefts place left) (get_or sources place source))
+ended-at stopped [] [] [] unfinished place path left source all inside = absurd (omega (arith, inside))
+ended-at stopped [] [] (s ∷ sources) unfinished place path left source all inside = absurd all
+ended-at stopped [] (l ∷ lefts) sources unfinished place path left source all inside = absurd all
+ended-at stopped (p ∷ paths) [] sources unfinished place path left source all inside = absurd all
+ended-at stopped (p ∷ paths) (l ∷ lefts) [] unfinished place path left source all inside = absurd all
+ended-at stopped (p ∷ paths) (l ∷ lefts) (s ∷ sources) unfinished zero path left source (inl (finished, others)) inside = inl finished
+ended-at stopped (p ∷ paths) (l ∷ lefts) (s ∷ sources) unfinished zero path left source (inr (others, is, why, rest)) inside =
     inr (subst (λ (l : List (List ℕ)). Contains l p) (sym is) (zero, omega arith, refl), why)
-ended-at (p ∷ paths) (l ∷ lefts) (s ∷ sources) unfinished (suc place) path left source (inl (whole, others)) inside =
-    ended-at paths lefts sources unfinished place path left source others (omega (arith, inside))
-ended-at (p ∷ paths) (l ∷ lefts) (s ∷ sources) unfinished (suc place) path left source (inr (others, is, why, rest)) inside =
-    elim (ended-at paths lefts sources others place path left source rest (omega (arith, inside))) [
-      | inl whole ↦ inl whole
+ended-at stopped (p ∷ paths) (l ∷ lefts) (s ∷ sources) unfinished (suc place) path left source (inl (finished, others)) inside =
+    ended-at stopped paths lefts sources unfinished place path left source others (omega (arith, inside))
+ended-at stopped (p ∷ paths) (l ∷ lefts) (s ∷ sources) unfinished (suc place) path left source (inr (others, is, why, rest)) inside =
+    elim (ended-at stopped paths lefts sources others place path left source rest (omega (arith, inside))) [
+      | inl finished ↦ inl finished
       | inr found ↦ inr (subst (λ (l : List (List ℕ)). Contains l (get_or paths place path)) (sym is) (later-one p others (get_or paths place path) found.0), found.1)
     ]
 
@@ -243,7 +243,7 @@ module _ (asked : RunPlan) (place : ℕ) (path : List ℕ) (left : Option (List 
 
     -- at the end of a round the path is taken
     takes-path : (err_old err_new : Told) (status : ℕ) → (round : EndsRound asked station.left err_old err_new status)
-        → TakesPath status round.unfinished (get_or asked.paths place path) (get_or asked.known place left) (get_or station.left.sources place source) (get_or station.left.counted place answer) portions
+        → TakesPath status round.stopped round.unfinished (get_or asked.paths place path) (get_or asked.known place left) (get_or station.left.sources place source) (get_or station.left.counted place answer) portions
     takes-path err_old err_new status round =
         let own_left = get_or asked.known place left in
         let own_source = get_or station.left.sources place source in
@@ -252,7 +252,7 @@ module _ (asked : RunPlan) (place : ℕ) (path : List ℕ) (left : Option (List 
         let lines = lines-by now.0 now.1 in
         let over : (end : PathEnd) → GaveAll end own_left own_source → ends_run own_answer ≡ false → AreLinesOf end own_left (all_lines portions) =
         λ end all goes_on. lines-over end own_left own_source (all_bytes portions) (all_lines portions) now.0 given-after lines (now.2 goes_on) all in
-        let ended = ended-at asked.paths asked.known station.left.sources round.unfinished place path left source round.whole there in
+        let ended = ended-at round.stopped asked.paths asked.known station.left.sources round.unfinished place path left source round.whole there in
         record {
           given = given-after;
           left_out = now.0;
@@ -264,11 +264,16 @@ module _ (asked : RunPlan) (place : ℕ) (path : List ℕ) (left : Option (List 
               let none : round.unfinished ≡ [] = none-unfinished round.unfinished (omega (arith, well, round.status_is)) in
               let told : round.told ≡ 0 = omega (arith, well, round.status_is) in
               let faults = no-fault 0 station.left.answers (omega (arith, told, round.told_is)) in
-              let goes_on = adds-at _ station.left.counted station.left.answers place answer runs.sums answered faults.1 in
-              elim ended [
-                | inl whole ↦ over AtEnd whole goes_on
-                | inr found ↦ absurd (nothing-in (get_or asked.paths place path) round.unfinished none found.0)
-              ];
+              let goes_on = adds-at _ station.left.counted station.left.answers place answer runs.sums answered faults.1 in (
+                now.2 goes_on,
+                elim ended [
+                  | inl finished ↦ elim finished [
+                    | inl whole ↦ inl (over AtEnd whole goes_on)
+                    | inr left_open ↦ inr left_open
+                  ]
+                  | inr found ↦ absurd (nothing-in (get_or asked.paths place path) round.unfinished none found.0)
+                ],
+              );
         }
 
   next-in-each : (so_far : List Portion) (station next : Station) (stations : List Station) → (runs : RunsStation station) → (ready : Ready so_far station.begun)

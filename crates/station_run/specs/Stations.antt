@@ -37,6 +37,7 @@ use Rattle.station_reporter.specs.declared.schedule.Tables.{Tables}
 use Rattle.std.specs.declared.io.buffered.BufWriter.{BufWriter}
 use Rattle.std.proofs.Common.{Global}
 use Rattle.streams.specs.declared.to_write.ToWrite.{ToWrite}
+use Rattle.station_portions.specs.declared.finished_path.WholePath.{WholePath}
 use Rattle.station_run.specs.declared.next_station.Carried.{Carried}
 use Rattle.station_run.specs.declared.next_station.Next.{Next}
 use Rattle.station_run.specs.declared.next_station.Next.TheVariants as next_is
@@ -50,7 +51,7 @@ use Rattle.station_run.specs.declared.stage.StationEnd.{StationEnd}
 
 -- when tables are due and how they are written, how many rounds come after the first, the paths, what reading each of them
 -- gives where that is known, how many entries of its journal make a station hand over, the place of the receivers, the file of
--- the record, and whether tables are written for displays
+-- the record, whether tables are written for displays, and the pipe that stops the run
 pub record RunPlan : Type 0 where
   pub tables : Tables
   pub rounds_left : ℕ
@@ -60,6 +61,7 @@ pub record RunPlan : Type 0 where
   pub site : Site
   pub file : Option Text
   pub has_displays : Bool
+  pub stop : Option Text
 
 -- what a run writes to: its output, in its buffer and out of it, the record if there is one, and standard error
 pub record Streams : Type 0 where
@@ -188,15 +190,18 @@ pub record IsFirst (asked : RunPlan) (begun : Begun) : Type 0 where
   pub none : All HasNoLines begun.answers
 
 -- a round is over: what was counted of each path is printed, with its fault directly after it, and then a failed write. Paths that
--- weren't read to their ends go on, or their reads failed; they are printed where no fault was. Where the status is 0 there are none
+-- weren't read to their ends go on, or their reads failed; they are printed where no fault was. Where the status is 0 there are none.
+-- A run that has a pipe for it may be stopped: then paths that go on are over too, and aren't printed
 pub record EndsRound (asked : RunPlan) (left : Left) (err_old err_new : Told) (status : ℕ) : Type 0 where
   pub stays : left.hands_over ≡ false
   pub err_mid : Told
   pub told : ℕ
   pub counts : Tells err_old err_mid (flat_map pump_lines left.answers ++ output_lines left.has_failed)
   pub told_is : told ≡ max (fold (λ worst answer. max worst (status_of answer)) 0 left.answers) (fault_status left.has_failed)
+  pub stopped : Bool
+  pub may_stop : stopped ≡ true → is_some asked.stop ≡ true
   pub unfinished : List Text
-  pub whole : GaveAllBut asked.paths asked.known left.sources unfinished
+  pub whole : GaveAllBut stopped asked.paths asked.known left.sources unfinished
   pub told_too : Tells err_mid err_new (unfinished_lines told unfinished)
   pub status_is : status ≡ max told (unfinished_status unfinished)
 
@@ -221,9 +226,10 @@ pub record HandsOver (left : Left) (next : Begun) (err_old err_new : Told) : Typ
   pub rounds_left : next.rounds_left ≡ left.rounds_left
   pub err : err_new ≡ err_old
 
--- the next round: that of this station is over without a fault, and the paths are opened anew
+-- the next round: that of this station is over without a fault, the run isn't stopped, and the paths are opened anew
 pub record BeginsRound (asked : RunPlan) (left : Left) (next : Begun) (err_old err_new : Told) : Type 0 where
   pub over : EndsRound asked left err_old err_new 0
+  pub goes_on : over.stopped ≡ false
   pub rounds_left : left.rounds_left ≡ next.rounds_left + 1
   pub first : IsFirst asked next
 
@@ -247,11 +253,11 @@ pub record IsLost (paths : List Text) (err_old : Told) (end : RunEnd) : Type 0 w
   pub out : end.out ≡ None
   pub early : EndsEarly paths err_old end.err end.status
 
--- after a round no other is begun: it was the last, or a fault was printed; or there is no memory to keep what is recent, and only
--- that is printed
-abbrev pub NoRoundAfter : (rounds_left : ℕ) → (err_old err_new : Told) → (of_round status : ℕ) → Type 0
-NoRoundAfter rounds_left err_old err_new of_round status =
-    (((rounds_left ≡ 0) ⊎ (of_round ≡ 1)) × (err_new ≡ err_old) × (status ≡ of_round))
+-- after a round no other is begun: it was the last, a fault was printed, or the run is stopped; or there is no memory to keep what
+-- is recent, and only that is printed
+abbrev pub NoRoundAfter : (rounds_left : ℕ) → (stopped : Bool) → (err_old err_new : Told) → (of_round status : ℕ) → Type 0
+NoRoundAfter rounds_left stopped err_old err_new of_round status =
+    (((rounds_left ≡ 0) ⊎ ((of_round ≡ 1) ⊎ (stopped ≡ true))) × (err_new ≡ err_old) × (status ≡ of_round))
     ⊎ ((of_round ≡ 0) × Tells err_old err_new (fault_line fault.NoMemory) × (status ≡ 1))
 
 -- the last round is over, and the output is out of its buffer. Unless a write failed before, all was written, or a failed write is
@@ -262,7 +268,7 @@ pub record IsOver (asked : RunPlan) (left : Left) (old : Streams) (end : RunEnd)
   pub round : EndsRound asked left old.err err_round of_round
   pub err_mid : Told
   pub told : ℕ
-  pub no_more : NoRoundAfter left.rounds_left err_round err_mid of_round told
+  pub no_more : NoRoundAfter left.rounds_left round.stopped err_round err_mid of_round told
   pub output : Option (List ℕ)
   pub out : end.out ≡ Some output
   pub has_failed : Bool
@@ -271,10 +277,10 @@ pub record IsOver (asked : RunPlan) (left : Left) (old : Streams) (end : RunEnd)
   pub recording : end.recording ≡ old.recording
   pub status_is : end.status ≡ max told (fault_status has_failed)
 
--- a further station is to come: this one hands over, or its round is over without a fault
+-- a further station is to come: this one hands over, or its round is over without a fault, and the run isn't stopped
 abbrev pub GoesOn : RunPlan → Left → (err_old err_new : Told) → Type 0
 GoesOn asked left err_old err_new =
-    ((left.hands_over ≡ true) × (err_new ≡ err_old)) ⊎ ((0 < left.rounds_left) × EndsRound asked left err_old err_new 0)
+    ((left.hands_over ≡ true) × (err_new ≡ err_old)) ⊎ ((0 < left.rounds_left) × ((round : EndsRound asked left err_old err_new 0) × (round.stopped ≡ false)))
 
 -- the end of a run after a station
 abbrev pub EndsRun : RunPlan → Left → Streams → RunEnd → Type 0
@@ -301,10 +307,12 @@ Runs asked old stations end =
 
 -- ---- a run with its record and its displays
 
--- a fault before the paths are opened: there is no memory for displays or the record, which are asked for, or no record can be begun
--- in its file
+-- a fault before the paths are opened: there is no memory for displays, the record or the pipe that stops the run, which are asked
+-- for; or no record can be begun in its file, the pipe can't be opened, or the thread that waits for it isn't started
 abbrev pub CannotStart : RunPlan → Fault → Type 0
-CannotStart asked fault.NoMemory = (asked.has_displays ≡ true) ⊎ (is_some asked.file ≡ true)
+CannotStart asked fault.NoMemory = (asked.has_displays ≡ true) ⊎ ((is_some asked.file ≡ true) ⊎ (is_some asked.stop ≡ true))
+CannotStart asked (fault.CannotOpen path) = asked.stop ≡ Some path.now
+CannotStart asked fault.ThreadNotStarted = is_some asked.stop ≡ true
 CannotStart asked (fault.CannotRecord path reason) = asked.file ≡ Some path.now
 CannotStart asked _ = ⊥
 
@@ -356,6 +364,7 @@ plan_of options = record {
   site = options.site;
   file = option_map string_bytes options.record.now;
   has_displays = is_some options.displays.now;
+  stop = option_map string_bytes options.stop.now;
 }
 
 -- what is asked of a run by its arguments, over paths whose content isn't known; JSON counts from the origin
@@ -369,6 +378,7 @@ plan_from arguments origin = record {
   site = arguments.site;
   file = option_map string_bytes arguments.record;
   has_displays = is_some arguments.displays;
+  stop = option_map string_bytes arguments.stop;
 }
 
 -- what a station may go on from
@@ -429,7 +439,7 @@ pub record AreRead {I : Type 0} (paths : List Text) (threads : List (PathThread 
 -- the end of a round: what the next goes on from, or the end of the run
 abbrev pub IsRoundEnd : {O A : Type 0} → (O → Option (List ℕ)) → RunPlan → Left → Streams → (err_new : Told) → Result (Carried O A) (JobResult O) → Type 0
 IsRoundEnd contents asked left old err_new (Ok carried) =
-    (left.rounds_left ≡ carried.rounds_left + 1) × EndsRound asked left old.err err_new 0
+    (left.rounds_left ≡ carried.rounds_left + 1) × ((round : EndsRound asked left old.err err_new 0) × (round.stopped ≡ false))
     × KeepsRecent left.start left.closing.journal (start_of carried.kept) old.recording carried.beside.record × ((buffered_of contents carried.out).taken ≡ old.out)
 IsRoundEnd contents asked left old err_new (Err ran) = Leaves asked.has_displays (EndsRun asked left old) (option_map contents ran.out) err_new ran.status
 

@@ -1,5 +1,5 @@
 -- What the receivers of a run took of each path, over all its rounds and stations.
-use Rattle.std.specs.Prelude.{◌≡◌, ◌⊎◌, ◌<◌, ℕ, Bool, false, true, List, [], ◌∷◌, ◌++◌, length, slice_index_or, Contains, IfSome, Option, Some, Result, ⊤}
+use Rattle.std.specs.Prelude.{◌≡◌, ◌⊎◌, ◌<◌, ℕ, Bool, false, true, List, [], ◌∷◌, ◌++◌, length, slice_index_or, Contains, IfSome, None, Option, Some, Result, ⊤}
 use Rattle.std.specs.Io.KnownBytes.{Consumes, IsAtEnd}
 use Rattle.clap.specs.Words.{Text}
 use Rattle.modes_frame.specs.declared.cutter.Cut.{Cut}
@@ -12,7 +12,7 @@ use Rattle.station_portions.specs.declared.message.PathEnd.{PathEnd}
 use Rattle.station_portions.specs.declared.message.PathEnd.TheVariants.{AtEnd}
 use Rattle.station_shared.specs.Seats.{Seated, new_seat}
 use Rattle.station_shared.specs.Workers.{Works}
-use Rattle.station_paths.specs.Inputs.{GaveAll, IsUnfinished}
+use Rattle.station_paths.specs.Inputs.{GaveAll, IsFinished, IsUnfinished}
 use Rattle.station_run.specs.Limits.{most_reads}
 use Rattle.station_run.specs.Stations.{EndsRound, RunPlan, Station}
 use Rattle.station_run.specs.Run.{ends_run}
@@ -58,17 +58,18 @@ pub record AreLinesOf (end : PathEnd) (left : Option (List ℕ)) (lines : List C
 -- the receivers of a path took these portions, by how it ended. Their bytes, one after another, are all that its source has given
 -- in the end. The lines that were taken are the first lines of these bytes: all of them, unless the last receiver used up its
 -- turns or was out of memory
-pub record TakesPath (status : ℕ) (unfinished : List Text) (path : Text) (left : Option (List ℕ)) (source : SourceState) (answer : Result Tally PumpFault) (portions : List Portion) : Type 0 where
+pub record TakesPath (status : ℕ) (stopped : Bool) (unfinished : List Text) (path : Text) (left : Option (List ℕ)) (source : SourceState) (answer : Result Tally PumpFault) (portions : List Portion) : Type 0 where
   pub given : source.given ≡ Some (all_bytes portions)
   pub left_out : List Cut
   pub lines : cuts (all_bytes portions) ≡ all_lines portions ++ left_out
   pub all : ends_run answer ≡ false → left_out ≡ []
-  -- the path was read to its end, and its source gave all, or it is one of the unfinished
-  pub ended : GaveAll AtEnd left source ⊎ (Contains unfinished path × IsUnfinished left source)
+  -- the path was read to its end, and its source gave all, or the run is stopped and the path goes on, or it is one of the unfinished
+  pub ended : IsFinished stopped left source ⊎ (Contains unfinished path × IsUnfinished left source)
   -- of a path that is over, the lines taken are those of all bytes that reading it gave
   pub over : (end : PathEnd) → GaveAll end left source → ends_run answer ≡ false → AreLinesOf end left (all_lines portions)
-  -- in a round with status 0 they are those of all bytes up to its end
-  pub well : status ≡ 0 → AreLinesOf AtEnd left (all_lines portions)
+  -- in a round with status 0 no line is left out, and they are those of all bytes up to its end, unless the run is stopped and the
+  -- path goes on
+  pub well : status ≡ 0 → (left_out ≡ []) × (AreLinesOf AtEnd left (all_lines portions) ⊎ ((stopped ≡ true) × (source.left ≡ None)))
 
 -- the portions of a round so far after a station: all of them where it hands over, and none before the next round
 abbrev pub so_far_after : (hands_over : Bool) → List Portion → List Portion
@@ -82,7 +83,7 @@ TakeInEach asked place path left source answer so_far [] = ⊤
 TakeInEach asked place path left source answer so_far (station ∷ stations) =
     (portion : Portion) × TakesPortion station place portion
     × ((err_old err_new : Told) (status : ℕ) → (round : EndsRound asked station.left err_old err_new status) →
-    TakesPath status round.unfinished (slice_index_or asked.paths place path) (slice_index_or asked.known place left)
+    TakesPath status round.stopped round.unfinished (slice_index_or asked.paths place path) (slice_index_or asked.known place left)
     (slice_index_or station.left.sources place source) (slice_index_or station.left.counted place answer) (so_far ++ portion ∷ []))
     × TakeInEach asked place path left source answer (so_far_after station.left.hands_over (so_far ++ portion ∷ [])) stations
 

@@ -9,6 +9,7 @@ pub mod output;
 mod run_job;
 mod run_options;
 mod stage;
+mod stopping;
 mod threads;
 
 pub use output::{ClosedOutput, JobResult, drop_unwritten, unbuffered, without_output};

@@ -17,14 +17,16 @@ use crate::kept::keep;
 use crate::output::{JobResult, give_back, without_output};
 use crate::run_options::RunOptions;
 use crate::stage::{Stage, StationEnd};
+use crate::stopping::stopped;
 use crate::threads::Output;
 use messages::{Fault, StandardError, tell, tell_end};
-use station_paths::{Host, Opened, PathSystem, System, open_all, start_all, tell_ends};
-use station_reporter::{Beside, Displays, Duties, Kept, RecordFile, displays, recorder};
+use station_paths::{Host, Opened, PathSystem, Paths, System, open_all, start_all, tell_ends};
+use station_reporter::{Beside, Displays, Duties, Kept, RecordFile, Stop, displays, recorder};
 use std::alloc::Global;
 use std::fs::File;
 use std::io::{Read, Write};
 use std::rt::Files;
+use std::sync::Arc;
 use std::thread::Threads;
 use std::time::Instant;
 
@@ -45,12 +47,14 @@ pub struct Carried<O: Write + Drop, A: Write + Drop> {
     /// How many rounds come after this one.
     pub rounds_left: u16,
     pub kept: Kept,
+    /// The end of the run, where somebody may ask for it.
+    pub stop: Option<Arc<Stop, Global>>,
     pub out: Output<O>,
     pub beside: Beside<Output<RecordFile>, A>,
 }
 
 /// What comes after a station that was closed. Where its round is over, what was counted is printed. The next round begins
-/// unless it was the last, or a fault was printed.
+/// unless it was the last, a fault was printed, or the run is ended by a pipe.
 pub fn next_stage<'a, 'p, R: System, W: PathSystem, O: Write + Drop, A: Write + Drop, E: Write>(
     host: &Host<'a, R, W>,
     asked: RunOptions<'p>,
@@ -113,7 +117,7 @@ fn hand_over<'a, 'p, R, I: Read + Drop, O: Write + Drop, A: Write + Drop>(
 }
 
 // Ends a round: prints what was counted, and keeps what the next one goes on from. `Err` at the end of the run: it was the
-// last round, or a fault was printed. Where it is known what reading a path gives, that was given of each path that ended.
+// last round, a fault was printed, or the run is ended by a pipe. Where it is known what reading a path gives, that was given of each path that ended.
 fn end_round<
     'a,
     R: System,
@@ -135,6 +139,7 @@ fn end_round<
         plan.paths ≡ map (λ t. string_bytes t.path.now) closed.entry.paths.threads.items →
         plan.known ≡ map (λ t. I.remaining t.handle.promise.from.value) closed.entry.paths.threads.items →
         plan.has_displays ≡ is_some asked.entry.displays.now →
+        plan.stop ≡ (plan_of asked.entry).stop →
         closed.entry.journal.log ≡ log_of start closed.entry.journal.log.entries →
         IsRoundEnd O.contents plan (left_of closed.entry start reporter receivers counted)
         (streams_of O.contents closed.entry.out closed.entry.beside.record (told_of E.contents err.old))
@@ -152,12 +157,17 @@ fn end_round<
         mut beside,
         ..
     } = closed;
+    let Paths { threads, requests } = paths;
+    let stopped = stopped(asked, &requests);
     let told = tell_end(err, &answers, has_failed);
-    let status = tell_ends(host.rt, inputs, paths.threads, told, err);
+    let status = tell_ends(host.rt, inputs, threads, stopped, told, err);
     if rounds_left == 0 {
         return Err(end_run(asked, status, out, has_failed, beside, err));
     }
     if status > 0 {
+        return Err(end_run(asked, status, out, has_failed, beside, err));
+    }
+    if stopped.is_some() {
         return Err(end_run(asked, status, out, has_failed, beside, err));
     }
     let kept = match keep(host.alloc, &journal, &mut beside) {
@@ -171,6 +181,7 @@ fn end_round<
         clock,
         rounds_left: rounds_left - 1,
         kept,
+        stop: requests.stop,
         out,
         beside,
     })
@@ -244,7 +255,7 @@ pub fn begin_round<
     ensures beside { IfOk result (λ stage. stage.beside ≡ carried.beside) }
 {
     let files = open_all(host.rt, host.alloc, asked.paths, asked.reopens)?;
-    let started = start_all(host, files)?;
+    let started = start_all(host, files, carried.stop)?;
     let duties = Duties::first(
         asked.tables,
         carried.kept.last_tick,

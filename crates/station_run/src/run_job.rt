@@ -14,6 +14,7 @@ use crate::next_station::{Carried, Next, begin_round, next_stage};
 use crate::output::{JobResult, without_output};
 use crate::run_options::RunOptions;
 use crate::stage::{Stage, run_station};
+use crate::stopping::begin_stop;
 use crate::threads::Output;
 use messages::{Alarms, Fault, StandardError};
 use station_paths::{Host, Opened, PathSystem, System};
@@ -34,7 +35,8 @@ use streams::ToWrite;
 ///
 /// Each station goes on from the last 70,000 ms of the one before. A fault ends the run after its round. What is printed is
 /// recorded, and each table is put where displays find it, if that is asked. A failed write of either is reported at once,
-/// ends the record or the displays alone, and the status is 1. Answers the output, unless a station couldn't begin or be
+/// ends the record or the displays alone, and the status is 1. Where a pipe is given for it, the run is ended by that, as if all
+/// paths had ended between two lines. Answers the output, unless a station couldn't begin or be
 /// closed.
 pub fn run<R: System, W: PathSystem, O: Write + Send + Drop, A: Write + Send + Drop, E: Write>(
     host: &Host<'_, R, W>,
@@ -109,6 +111,7 @@ fn first_stage<'a, 'p, R: System, W: PathSystem, O: Write + Drop, A: Write + Dro
     ensures out { IfOk result (λ stage. (buffered_of O.contents stage.out).taken ≡ O.contents out) }
     ensures record { IfOk result (λ stage. IsBlank (option_map string_bytes asked.entry.record.now) (A.contents alarms.record) stage.beside.record) }
 {
+    let stop = begin_stop(host, asked)?;
     let beside = begin_beside(host.rt, host.alloc, asked, alarms)?;
     let Ok(buffered) = BufWriter::with_capacity(host.alloc, TABLE_ROOM, out) else {
         return Err(Fault::NoMemory);
@@ -117,6 +120,7 @@ fn first_stage<'a, 'p, R: System, W: PathSystem, O: Write + Drop, A: Write + Dro
         clock: Instant::now(host.rt).ok(),
         rounds_left: asked.rounds - 1,
         kept: Kept::nothing(host.alloc, asked.site),
+        stop,
         out: ToWrite::new(buffered),
         beside,
     };

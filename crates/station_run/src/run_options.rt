@@ -17,6 +17,8 @@ pub struct RunOptions<'a> {
     pub rounds: u16,
     /// Whether a path that has ended, or whose read failed, is opened again. Then there is one round.
     pub reopens: bool,
+    /// The named pipe that ends the run once it is written to, if one is given.
+    pub stop: &'a Option<String>,
     /// When the clock of the tables begins, in milliseconds since 1970.
     pub origin: u64,
     /// The file that the run is recorded to, if one is given.
@@ -48,6 +50,7 @@ impl<'a> RunOptions<'a> {
             },
             rounds: arguments.rounds,
             reopens: arguments.reopens,
+            stop: &arguments.stop,
             origin,
             record: &arguments.record,
             displays: &arguments.displays,

@@ -19,14 +19,14 @@ use crate::threads::{Output, Receiver, run_threads};
 use messages::{Answer, Fault};
 use station_journal::Journal;
 use station_paths::{Input, Paths, System};
-use station_portions::{HandOver, PathEnd};
+use station_portions::PathEnd;
 use station_reporter::{Beside, Due, Duties, Kept, RecordFile, Reporter};
 use station_shared::{Places, PumpFault, StationName};
 use std::alloc::Global;
 use std::io::{Read, Write};
 use std::marker::Brand;
+use std::sync::Wait;
 use std::sync::ledger::Blank;
-use std::sync::{Arc, Wait};
 use std::time::Instant;
 
 /// What a station is begun with.
@@ -93,16 +93,9 @@ pub fn run_station<
     let Ok(places) = Places::new(rt, alloc, stage.kept.recent.base, 1) else {
         return Err(Fault::NoMemory);
     };
-    resume_all(&stage.paths.hand_overs);
+    stage.paths.requests.resume_all();
     let blank = Blank::new(stage.inputs.len() as u64 + 1);
     run_named::<Brand, _, _, _, _>(rt, alloc, stage, blank, places)
-}
-
-// Begins the next portion of each path.
-fn resume_all(hand_overs: &Vec<Arc<HandOver, Global>>) {
-    for hand_over in hand_overs {
-        hand_over.resume();
-    }
 }
 
 // Runs a station that has a name.
@@ -142,7 +135,7 @@ fn run_named<
     let ran = run_threads(
         rt,
         &station,
-        &paths.hand_overs,
+        &paths.requests,
         stage.clock,
         receivers,
         reporter,

@@ -5,13 +5,12 @@ ghost use Rattle.station_run.specs.Run.{HaveWorked};
 
 use crate::limits::{AIRCRAFT, TURNS};
 use station_paths::{Input, System};
-use station_portions::HandOver;
-use station_reporter::{Bell, Beside, Reporter, ReporterResult, ReportsFrom, report};
+use station_portions::Portions;
+use station_reporter::{Bell, Beside, Reporter, ReporterResult, ReportsFrom, Requests, report};
 use station_shared::{Seat, Station, StationName, Worker, run_receivers};
-use std::alloc::Global;
 use std::io::{BufWriter, Write};
 use std::snapshot::Snapshot;
-use std::sync::{Arc, Wait};
+use std::sync::Wait;
 use std::thread;
 use std::thread::Threads;
 use std::time::Instant;
@@ -50,7 +49,7 @@ pub fn run_threads<
 >(
     rt: &R,
     station: &Station<AIRCRAFT, L>,
-    hand_overs: &Vec<Arc<HandOver, Global>>,
+    requests: &Requests,
     start: Option<Instant>,
     receivers: Vec<Receiver<'a, R, L>>,
     reporter: Reporter<Seat<AIRCRAFT, L>, S, Beside<T, A>>,
@@ -69,7 +68,7 @@ pub fn run_threads<
             ensures reporter { IfSome result (λ left. HasReported S.state (λ b. b.record) L.start reporter left.report) }
         {
             let given = ReportsFrom(Snapshot::of(&reporter));
-            let job = move || report(rt, station, ended, hand_overs, start, reporter);
+            let job = move || report(rt, station, ended, requests, start, reporter);
             let Ok(reporting) = scope.spawn_with(given, job) else {
                 return None;
             };

@@ -7,9 +7,7 @@ use super::staged::Staged;
 use super::{Ran, Trials, text};
 use crate::comparing::{holds, same};
 use station_journal::{Entry, Recent};
-use station_main::{
-    Alarms, Duties, Kept, Pace, RunOptions, StandardError, Tables, run,
-};
+use station_main::{Alarms, Duties, Kept, Pace, RunOptions, StandardError, Tables, run};
 use station_report::Format;
 use std::alloc::{AllocError, Global};
 use std::fs;
@@ -177,6 +175,7 @@ impl<R: System, W: Own> Trials<'_, R, W> {
             tables: tables_each(3_600_000),
             rounds: 1,
             reopens: false,
+            stop: &None,
             origin: 0,
             record: &record,
             displays: &None,

@@ -37,6 +37,7 @@ const RUN_HELP: &str = concat!(
     "      --json <DIR>       Folder for each table as aircraft.json, for displays\n",
     "      --rounds <R>       How often to read the paths, 1 to 1000 [default: 1]\n",
     "      --reopen           Open each path again 1 s after it ended or failed\n",
+    "      --stop <PIPE>      Named pipe that ends the run once it is written to\n",
     "      --record <FILE>    File to record the run to, for replay\n",
     "      --at <LAT,LON>     Place of the receivers, for aircraft on the ground\n",
     "  -h, --help             Print help\n\n",

@@ -107,6 +107,15 @@ fn badly_given_options_are_refused(rt: HostRuntime) -> Result<(), AllocError> {
             "error: a value is required for '--json <DIR>' but none was supplied\n",
         ),
         (
+            "run --every 5 --stop= x",
+            "error: a value is required for '--stop <PIPE>' but none was supplied\n",
+        ),
+        (
+            "run --every 5 --stop p --stop p x",
+            "error: the argument '--stop <PIPE>' cannot be used multiple times\n\n\
+            Usage: groundstation run [OPTIONS] --every <MS> <PATH>...\n",
+        ),
+        (
             "run --every 5 --reopen=true x",
             "error: unexpected value 'true' for '--reopen' found; no more were expected\n\n\
             Usage: groundstation run --every <MS> --reopen <PATH>...\n",
@@ -212,6 +221,24 @@ fn record_is_the_file_that_is_given(rt: HostRuntime) -> Result<(), WordsFault> {
     ] {
         let is_found = match options_of(rt.alloc(), line)? {
             Some(options) => options.record.as_deref() == file,
+            None => false,
+        };
+        holds_at(&rt, is_found, line);
+    }
+    Ok(())
+}
+
+#[test]
+fn stop_is_the_pipe_that_is_given(rt: HostRuntime) -> Result<(), WordsFault> {
+    for (line, pipe) in [
+        ("run --every 5 x", None),
+        ("run --every 5 --record f --json d x", None),
+        ("run --every 5 -- x --stop p", None),
+        ("run --stop p --record f --every 5 x", Some("p")),
+        ("run --every 5 x --reopen --stop=--every", Some("--every")),
+    ] {
+        let is_found = match options_of(rt.alloc(), line)? {
+            Some(options) => options.stop.as_deref() == pipe,
             None => false,
         };
         holds_at(&rt, is_found, line);

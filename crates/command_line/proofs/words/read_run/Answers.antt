@@ -40,8 +40,9 @@ returns-clause-options c =
       reopens_is = reopens_is ∙ ap is_set (one_text-rows found (codes "reopen"));
       not_both = c.requires.not_both;
       paths_are = sym (raw_values-rows found (codes "path")) ∙ sym c.in-Some-get_strs.ensures ∙ ap Some (sym c.in_ok-paths.ensures);
-      file_is = c.in_ok-record.ensures ∙ c.get_str-2.ensures ∙ first_value-rows found (codes "record");
-      folder_is = c.in_ok-displays.ensures ∙ c.get_str-3.ensures ∙ first_value-rows found (codes "json");
+      stop_is = c.in_ok-stop.ensures ∙ c.get_str-2.ensures ∙ first_value-rows found (codes "stop");
+      file_is = c.in_ok-record.ensures ∙ c.get_str-3.ensures ∙ first_value-rows found (codes "record");
+      folder_is = c.in_ok-displays.ensures ∙ c.get_str-4.ensures ∙ first_value-rows found (codes "json");
       format_is = c.named-format.ensures ∙ ap format_named (c.get_str.ensures ∙ first_value-rows found (codes "format"));
       place = c.requires.place;
     }

@@ -1,4 +1,4 @@
-use Rattle.std.proofs.Common.{rules, ◌≡◌, ◌∙◌, ◌∷◌, [], ⊎_elim, ap, arith, length, map, max, string_bytes, sym}
+use Rattle.std.proofs.Common.{rules, ◌≡◌, ◌∙◌, ◌∷◌, [], ⊎_elim, ap, arith, is_some, length, map, max, string_bytes, sym}
 use Rattle.std.specs.Vec.Iter.{into_iter_items}
 use Rattle.std.proofs.lemmas.Grind.{common_steps}
 use Rattle.std.proofs.lemmas.List.{length-map}
@@ -20,7 +20,7 @@ loop-input-init g c =
     record {
       take = rw (inputs_are, threads_are) c.requires.take;
       most = c.requires.before;
-      so_far = rw (inputs_are, threads_are) (ends-none _ _ _ _ _ _);
+      so_far = rw (inputs_are, threads_are) (ends-none _ _ _ _ _ _ _);
     }
 
 pub loop-input-preserved : goal.loop-input-preserved
@@ -33,7 +33,7 @@ loop-input-preserved g c =
     record {
       take = (first_take (λ t. t.handle.promise) _ _ c.in-Some.thread _ _ c.in-Some.input threads_split split was.take).1;
       most = omega (arith, new_is, was.most, one.most);
-      so_far = ends-more (λ t. string_bytes t.path.now) (λ t. g.I.Read.remaining t.handle.promise.from.value) _ _ _ c.in-Some.thread _ _ _ c.in-Some.input _ _ _ _ _ _ _ threads_split split c.requires.before one.most one.whole one.unfinished one.told new_is was.so_far;
+      so_far = ends-more (is_some c.args.stopped) (λ t. string_bytes t.path.now) (λ t. g.I.Read.remaining t.handle.promise.from.value) _ _ _ c.in-Some.thread _ _ _ c.in-Some.input _ _ _ _ _ _ _ threads_split split c.requires.before one.most one.whole one.unfinished one.told new_is was.so_far;
     }
 
 pub returns-clause-ends : goal.returns-clause-ends
@@ -44,4 +44,4 @@ returns-clause-ends g c =
     let many : length b ≡ length a = sym (length-map b (λ t. t.handle.promise)) ∙ take_length (map (λ t. t.handle.promise) b) (map state_of a) c.loop-input.invariant.take ∙ length-map a state_of in
     let none : into_iter_items c.loop-input.input-iterator.a ≡ [] =
     ⊎_elim (λ p. no_items a (omega (arith, p.1.0))) (λ p. no_items a (omega (arith, many, p.1.0))) c.in-None.ensures.steps in
-    (so_far.unfinished, ends-all _ _ _ b _ a _ _ _ _ (no_items b (omega (arith, many, ap length none))) none so_far, so_far.told, so_far.status_is)
+    (so_far.unfinished, ends-all _ _ _ _ b _ a _ _ _ _ (no_items b (omega (arith, many, ap length none))) none so_far, so_far.told, so_far.status_is)

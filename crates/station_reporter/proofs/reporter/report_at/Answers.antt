@@ -20,7 +20,7 @@ loop-preserved g c =
           (rw c.report_limits.ensures so_far) c.if-reported.false c.now-now.ensures c.act_at-act.ensures c.do_act-reported.ensures;
     }
 
-pub returns-then-asks-clause-reports : goal.returns-then-asks-clause-reports
-returns-then-asks-clause-reports g c =
+pub returns-then-not-is_ending-clause-reports : goal.returns-then-not-is_ending-clause-reports
+returns-then-not-is_ending-clause-reports g c =
     let so_far = one_more_look _ _ _ _ _ _ _ _ _ _ _ _ _ _ c.loop.invariant.so_far c.count-seat.ensures.later in
     rw c.report_limits.ensures (so_far.moments, so_far.are_given, so_far.reports)

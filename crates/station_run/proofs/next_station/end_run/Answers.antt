@@ -1,4 +1,4 @@
-use Rattle.std.proofs.Common.{◌∙◌, ap, ap₂, max, refl}
+use Rattle.std.proofs.Common.{◌≡◌, ◌∙◌, ap, ap₂, arith, max, refl, sym}
 use Rattle.station_run.proofs.next_station.end_run.Goals as goal
 
 pub returns-clause-closes : goal.returns-clause-closes

@@ -31,12 +31,12 @@ returns-in-Ok-begin_round g c = λ start reporter receivers counted log.
     let paths : List _ = map string_bytes c.args.asked.paths.now.items in
     let threads = c.args.closed.paths.threads.items in
     let many : length threads ≡ length paths = sym (length-map threads (λ t. string_bytes t.path.now)) ∙ ap length c.requires.read.named in
-    let end = rw c.in-Ok-end_round.is at (c.end_round.ensures.end (plan_of c.args.asked) start reporter receivers counted (sym c.requires.read.named) (unknown_is paths threads many) refl log) in
+    let end = rw c.in-Ok-end_round.is at (c.end_round.ensures.end (plan_of c.args.asked) start reporter receivers counted (sym c.requires.read.named) (unknown_is paths threads many) refl refl log) in
     let made = c.in-Ok-begin_round.ensures in (
       record {
         is_kept = rw (made.kept, made.beside) end.2;
         out = ap (λ o. (buffered_of g.O.Write.contents o).taken) made.out ∙ end.3;
-        how = inr (record { over = end.1; rounds_left = rw made.rounds_left end.0; first = made.first });
+        how = inr (record { over = end.1.0; goes_on = end.1.1; rounds_left = rw made.rounds_left end.0; first = made.first });
       },
       made.read,
     )
@@ -48,7 +48,7 @@ returns-in-Err-begin_round g c = λ start reporter receivers counted log.
     let paths : List _ = map string_bytes c.args.asked.paths.now.items in
     let threads = c.args.closed.paths.threads.items in
     let many : length threads ≡ length paths = sym (length-map threads (λ t. string_bytes t.path.now)) ∙ ap length c.requires.read.named in
-    let end = rw c.in-Ok-end_round.is at (c.end_round.ensures.end (plan_of c.args.asked) start reporter receivers counted (sym c.requires.read.named) (unknown_is paths threads many) refl log) in
+    let end = rw c.in-Ok-end_round.is at (c.end_round.ensures.end (plan_of c.args.asked) start reporter receivers counted (sym c.requires.read.named) (unknown_is paths threads many) refl refl log) in
     let ended = c.without_output-in-Err-begin_round.ensures in (
       omega (arith, ended.status),
       lost_on (plan_of c.args.asked) left old _ _ _ _ (inr (omega (arith, end.0), end.1)) (ap (option_map g.O.Write.contents) ended.out)
@@ -60,4 +60,4 @@ returns-in-Err-end_round g c = λ start reporter receivers counted log.
     let paths : List _ = map string_bytes c.args.asked.paths.now.items in
     let threads = c.args.closed.paths.threads.items in
     let many : length threads ≡ length paths = sym (length-map threads (λ t. string_bytes t.path.now)) ∙ ap length c.requires.read.named in
-    (c.in-Err-end_round.ensures.most, rw c.in-Err-end_round.is at (c.end_round.ensures.end (plan_of c.args.asked) start reporter receivers counted (sym c.requires.read.named) (unknown_is paths threads many) refl log))
+    (c.in-Err-end_round.ensures.most, rw c.in-Err-end_round.is at (c.end_round.ensures.end (plan_of c.args.asked) start reporter receivers counted (sym c.requires.read.named) (unknown_is paths threads many) refl refl log))
