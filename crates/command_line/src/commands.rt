@@ -64,6 +64,7 @@ const AFTER_RUN_HELP: &str = concat!(
     "--json writes each table to DIR/aircraft.json too, which displays read.\n",
     "--record writes all that was accepted to FILE, with a ? for each table:\n",
     "'groundstation replay < FILE' prints the tables again, with the same --at.\n",
+    "With one of these a run goes on for it where standard output fails.\n",
     "With --at aircraft on the ground have positions too. LAT and LON are the place\n",
     "of the receivers in degrees, right to some 100 km. A latitude of the south needs\n",
     "the = sign: --at=-33.9,151.2\n",

@@ -18,6 +18,7 @@ fn main(rt: HostRuntime) -> ExitCode {
     let owned = own_words(&rt);
     let (input, out) = (rt.stdin(), rt.stdout());
     let alarms = Alarms {
+        output: error_lines(&rt),
         record: error_lines(&rt),
         displays: error_lines(&rt),
         limits: error_lines(&rt),

@@ -9,6 +9,7 @@ use Rattle.station_replay.specs.declared.replaying.ReplayFault.{ReplayFault}
 use Rattle.station_replay.specs.declared.replaying.ReplayFault.TheVariants as replay
 use Rattle.station_lines.specs.declared.tally.Tally.{Tally}
 use Rattle.messages.specs.Reasons.{reason_text}
+use Rattle.messages.specs.declared.alarms.Alarms.{Alarms}
 use Rattle.messages.specs.declared.reason.Reason.{Reason}
 use Rattle.messages.specs.declared.faults.Fault.{Fault}
 use Rattle.messages.specs.declared.faults.Fault.TheVariants as fault
@@ -22,6 +23,19 @@ pub record Told : Type 0 where
 -- the view of standard error by its writer's trait
 abbrev pub told_of : {E : Type 0} → (E → Option (List ℕ)) → StandardError E → Told
 told_of contents err = record { taken = contents err.inner; has_failed = err.has_failed }
+
+-- what the standard errors have taken on which a job reports at once a failed write of its record, or of its output, where that is
+-- known
+pub record Alarmed : Type 0 where
+  pub of_record : Option (List ℕ)
+  pub of_output : Option (List ℕ)
+
+abbrev pub alarmed_by : {A : Type 0} → (A → Option (List ℕ)) → Alarms A → Alarmed
+alarmed_by contents alarms = record { of_record = contents alarms.record; of_output = contents alarms.output }
+
+-- both are handles of one standard error
+abbrev pub both_alarmed : Option (List ℕ) → Alarmed
+both_alarmed taken = record { of_record = taken; of_output = taken }
 
 -- this text is printed and nothing else, unless a write fails
 pub record Tells (old new : Told) (text : List ℕ) : Type 0 where

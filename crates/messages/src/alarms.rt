@@ -3,6 +3,8 @@
 /// Standard errors for what is reported at once, each used by one thread at a time.
 #[derive(Drop)]
 pub struct Alarms<A> {
+    /// For a failed write of the output, where the job goes on without it.
+    pub output: A,
     /// For a failed write of the record.
     pub record: A,
     /// For a failed write for displays.

@@ -12,6 +12,7 @@ macro_rules! tables {
 }
 
 mod displays;
+mod failed_outputs;
 mod hand_overs;
 mod help;
 mod json;
@@ -95,12 +96,15 @@ const TABLE_OF_NOBODY: &str = tables!("now 0 aircraft 0" => []);
 
 const NO_MEMORY: &str = "groundstation: no memory\n";
 
+const WRITE_FAILED: &str = "groundstation: write failed\n";
+
 // What the program leaves: its status, its output, standard error, and what it reports at once.
 #[derive(Drop)]
 struct Ran {
     status: u8,
     out: Vec<u8>,
     err: Vec<u8>,
+    output_alarm: Vec<u8>,
     record_alarm: Vec<u8>,
     display_alarm: Vec<u8>,
     limit_alarm: Vec<u8>,
@@ -112,6 +116,7 @@ impl Ran {
             status: 0,
             out: Vec::new(alloc),
             err: Vec::new(alloc),
+            output_alarm: Vec::new(alloc),
             record_alarm: Vec::new(alloc),
             display_alarm: Vec::new(alloc),
             limit_alarm: Vec::new(alloc),
@@ -164,6 +169,7 @@ impl<R: System, W: Own> Trials<'_, R, W> {
         let words = words.as_slice();
         let (mut ran, mut err) = (Ran::nothing(alloc), stream(alloc)?);
         let alarms = Alarms {
+            output: &mut ran.output_alarm,
             record: &mut ran.record_alarm,
             displays: &mut ran.display_alarm,
             limits: &mut ran.limit_alarm,
@@ -192,6 +198,7 @@ impl<R: System, W: Own> Trials<'_, R, W> {
         let (rt, own, alloc) = (self.rt, self.own, self.alloc);
         let (mut out, mut err) = (Vec::new(alloc), Vec::new(alloc));
         let alarms = Alarms {
+            output: io::sink(),
             record: io::sink(),
             displays: io::sink(),
             limits: io::sink(),

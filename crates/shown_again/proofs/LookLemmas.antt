@@ -76,9 +76,9 @@ pub later-prefix : (start : Start) (old new : Seated) → IsLater start old new 
 later-prefix start old new (inl same) = begins-same old.seen new.seen (ap (λ (s : Seated). s.seen) (sym same))
 later-prefix start old new (inr looks) = looks.later
 
-pub hand-over-prefix : (start : Start) (duties : Duties) (asked_at : Option ℕ) (due next : Due) (old new : Seated) (failed : Bool) → MayHandOver start duties asked_at due next old new failed → IsPrefix old.seen new.seen
-hand-over-prefix start duties None due next old new failed is = begins-same old.seen new.seen (ap (λ (s : Seated). s.seen) (sym is.0))
-hand-over-prefix start duties (Some at) due next old new failed is = ticked start old at new is.ticks
+pub hand-over-prefix : (start : Start) (duties : Duties) (asked_at : Option ℕ) (due next : Due) (old new : Seated) (broken : Bool) → MayHandOver start duties asked_at due next old new broken → IsPrefix old.seen new.seen
+hand-over-prefix start duties None due next old new broken is = begins-same old.seen new.seen (ap (λ (s : Seated). s.seen) (sym is.0))
+hand-over-prefix start duties (Some at) due next old new broken is = ticked start old at new is.ticks
 
 -- the showings, and looks after them from a seat that has seen as much or more
 pub grown : (start : Start) (old : Seated) (showings : List Showing) (shown mid : Seated) (end : List Entry) (last : List (Option Seated)) → Showings start old showings shown → IsPrefix shown.seen mid.seen

@@ -16,9 +16,10 @@ use Rattle.station_replay.proofs.KeepingLemmas.{nothing-lost}
 use Rattle.station_replay.proofs.LimitLemmas.{forgets-unreached}
 use Rattle.station_record.proofs.ReplayLemmas.{lines-drawn}
 use Rattle.messages.proofs.Common.{fault_status, status_of, Told}
+use Rattle.messages.specs.Telling.{Alarmed}
 use Rattle.station_reporter.proofs.Common.{Recording, record_status}
 use Rattle.station_reporter.specs.declared.schedule.Tables.{Tables}
-use Rattle.station_run.specs.Stations.{IsBlank}
+use Rattle.station_run.specs.Stations.{IsBlank, new_output}
 use Rattle.station_run.proofs.Common.{Begun, IsFirst, RoundStart, RunEnd, RunPlan, Runs, RunsOn, RunsStation, RunsStations, Station, Streams, forget_at, most_between_ticks, no_start, program_limits}
 use Rattle.shown_again.proofs.Common.{HasPrinted, HasRecorded, HasRoom, IsOneStation, ReplayPrints}
 use Rattle.shown_again.proofs.SaidLemmas.{Said}
@@ -62,10 +63,10 @@ first-zero x y e = grind (arith)
 abbrev ShowsAgain : (site : Site) (before : Option (List ℕ)) (after : Option (Option (List ℕ))) (blank left : Option Recording) → Type 0 → Type 0
 ShowsAgain site before after blank left only = (text lines : List ℕ) × HasPrinted before after text × HasRecorded blank left lines × (unlimited_output (empty_log (program_limits site)) (cuts lines) ≡ text) × (only → HasRoom site lines) × (HasRoom site lines → ReplayPrints site lines text)
 
-module _ (asked : RunPlan) (before : Option (List ℕ)) (after : Option (Option (List ℕ))) (blank : Recording) (err_old : Told) (end : RunEnd) (is_text : asked.tables.format ≡ Text) (none : blank.recorded ≡ 0)
+module _ (asked : RunPlan) (before told : Option (List ℕ)) (after : Option (Option (List ℕ))) (blank : Recording) (err_old : Told) (end : RunEnd) (is_text : asked.tables.format ≡ Text) (none : blank.recorded ≡ 0)
     (left : end.out ≡ after) (ended : end.status ≡ 0) (well : record_status end.recording ≡ 0) where
   abbrev old : Streams
-  old = record { out = before; recording = Some blank; err = err_old }
+  old = record { out = new_output asked before told; recording = Some blank; err = err_old }
 
   from-first : (begun : Begun) (station : Station) (stations : List Station) → begun.given ≡ no_start asked.site → IsFirst asked begun → station.begun ≡ begun → station.old ≡ old → RunsStation station → RunsOn asked station stations end
       → ShowsAgain asked.site before after (Some blank) end.recording (IsOneStation (station ∷ stations))
@@ -76,7 +77,7 @@ module _ (asked : RunPlan) (before : Option (List ℕ)) (after : Option (Option 
       let all = stations-said asked is_text end ended well station stations blank runs station_text (ap (λ (s : Streams). s.recording) old_is) known others in
       let said : Said (length stations ≡ 0) (no_start asked.site) before all.output blank all.is =
       subst (λ (g : RoundStart). Said (length stations ≡ 0) g before all.output blank all.is) given_is
-      (subst (λ (o : Option (List ℕ)). Said (length stations ≡ 0) station.begun.given o all.output blank all.is) (ap (λ (s : Streams). s.out) old_is) all.said) in
+      (subst (λ (o : Option (List ℕ)). Said (length stations ≡ 0) station.begun.given o all.output blank all.is) (ap (λ (s : Streams). s.out.taken) old_is) all.said) in
       let shown = said-again asked.site (length stations ≡ 0) before all.output blank all.is said in (
         shown.tables,
         shown.lines,
@@ -96,13 +97,13 @@ blank-of : (file : Option (List ℕ)) (alarm : Option (List ℕ)) (recording : O
 blank-of None alarm recording asked is_blank = absurd (search rules)
 blank-of (Some file) alarm recording asked (blank, there, new) = (blank, there, new.recorded)
 
-pub run-replayed : (asked : RunPlan) (before : Option (List ℕ)) (after : Option (Option (List ℕ))) (alarm : Option (List ℕ)) (err_old err_new : Told) → asked.tables.format ≡ Text → is_some asked.file ≡ true → (run : RunsStations asked before after alarm err_old err_new 0)
+pub run-replayed : (asked : RunPlan) (before : Option (List ℕ)) (after : Option (Option (List ℕ))) (alarm : Alarmed) (err_old err_new : Told) → asked.tables.format ≡ Text → is_some asked.file ≡ true → (run : RunsStations asked before after alarm err_old err_new 0)
     → ShowsAgain asked.site before after run.blank run.leaves.end.recording (IsOneStation run.stations)
 run-replayed asked before after alarm err_old err_new is_text has_file run =
     let leaves = run.leaves in
-    let blank = blank-of asked.file alarm run.blank has_file run.is_blank in
+    let blank = blank-of asked.file alarm.of_record run.blank has_file run.is_blank in
     let both = first-zero _ _ leaves.status_is in
-    let runs : Runs asked (record { out = before; recording = Some blank.0; err = err_old }) run.stations leaves.end =
-    subst (λ (o : Option Recording). Runs asked (record { out = before; recording = o; err = err_old }) run.stations leaves.end) blank.1 leaves.ends_so in
+    let runs : Runs asked (record { out = new_output asked before alarm.of_output; recording = Some blank.0; err = err_old }) run.stations leaves.end =
+    subst (λ (o : Option Recording). Runs asked (record { out = new_output asked before alarm.of_output; recording = o; err = err_old }) run.stations leaves.end) blank.1 leaves.ends_so in
     subst (λ (o : Option Recording). ShowsAgain asked.site before after o leaves.end.recording (IsOneStation run.stations)) (sym blank.1)
-    (by-stations asked before after blank.0 err_old leaves.end is_text blank.2 leaves.out (first-zero _ _ (sym both)) (second-zero _ _ (sym both)) run.stations runs)
+    (by-stations asked before alarm.of_output after blank.0 err_old leaves.end is_text blank.2 leaves.out (first-zero _ _ (sym both)) (second-zero _ _ (sym both)) run.stations runs)

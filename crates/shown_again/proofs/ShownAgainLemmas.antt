@@ -1,27 +1,23 @@
 -- A replay of the record of a run prints what the run printed, station by station.
-use Rattle.std.proofs.Common.{rules, ◌≡◌, ◌∙◌, ◌⊎◌, inl, inr, ℕ, suc, ◌+◌, ◌≤◌, ◌&&◌, ◌||◌, Bool, true, false, List, [], ◌∷◌, Option, Some, None, is_some, refl, sym, ap, subst, length, max, arith}
-use Rattle.std.specs.Io.KnownBytes.{Appends, Keeps}
+use Rattle.std.proofs.Common.{rules, ◌≡◌, ◌∙◌, ◌⊎◌, inl, inr, ℕ, suc, ◌+◌, ◌≤◌, ◌||◌, Bool, true, false, List, [], ◌∷◌, ◌++◌, Option, Some, None, refl, sym, ap, subst, length, arith}
+use Rattle.std.specs.Io.KnownBytes.{Appends}
 use Rattle.modes_frame.specs.Lines.{cuts}
-use Rattle.station_journal.specs.declared.entry.Entry.{Entry}
 use Rattle.station_journal.proofs.Common.{Site}
 use Rattle.station_journal.specs.Log.{IsLegal, empty_log, most_entries}
 use Rattle.station_report.specs.declared.formats.Format.TheVariants.{Text}
 use Rattle.station_replay.proofs.Common.{calls_in, unlimited_output}
-use Rattle.station_history.proofs.Common.{Start}
 use Rattle.station_replay.proofs.LimitLemmas.{limit-unreached, under-output}
 use Rattle.station_record.specs.ReadBack.{new_log}
 use Rattle.station_record.proofs.RoundLemmas.{first-continues}
-use Rattle.station_shared.specs.Seats.{Seated}
 use Rattle.messages.proofs.Common.{Told, fault_status}
-use Rattle.station_reporter.proofs.Common.{IfRecording, MayHandOver, Recording, Records, record_status, seen_by}
+use Rattle.station_reporter.proofs.Common.{IfRecording, Printing, Recording, looks_of, record_status}
+use Rattle.station_reporter.proofs.PrintingLemmas.{unfailed-before}
 use Rattle.station_reporter.specs.declared.duties.Duties.{Duties}
-use Rattle.station_reporter.specs.declared.schedule.Due.{Due}
 use Rattle.station_reporter.specs.declared.schedule.Tables.{Tables}
-use Rattle.station_run.specs.Stations.{NoRoundAfter}
-use Rattle.station_run.proofs.Common.{BeginsRound, Begun, EndsRound, EndsRun, GivesBack, HandsOver, IsOver, KeepsRecent, Left, RoundStart, RunEnd, RunPlan, RunsOn, RunsStation, Station, Streams, may_go_on, no_start, program_limits}
+use Rattle.station_run.proofs.Common.{BeginsRound, Begun, EndsRun, HandsOver, KeepsRecent, RunEnd, RunPlan, RunsOn, RunsStation, Station, no_start, program_limits}
 use Rattle.shown_again.proofs.KeptEndLemmas.{Begins, wide}
 use Rattle.shown_again.proofs.SaidLemmas.{Said, handed-on, only-said, still-well}
-use Rattle.shown_again.proofs.StationLemmas.{StationSays, kept-whole, no-fault, says-kept, station-says}
+use Rattle.shown_again.proofs.StationLemmas.{kept-whole, no-fault, says-kept, station-says}
 
 -- ---- the record is there after a part of a run if it was there before it
 
@@ -32,29 +28,9 @@ record-after goes_on (Some old) (Some new) was there records = (new, refl)
 
 -- ---- a station without a fault
 
-first-zero : (x y : ℕ) → max x y ≡ 0 → x ≡ 0
-first-zero x y e = grind (arith)
-
--- a round with status 0 has no failed write
-round-well : (asked : RunPlan) (left : Left) (err_old err_new : Told) (status : ℕ) → status ≡ 0 → EndsRound asked left err_old err_new status → left.has_failed ≡ false
-round-well asked left err_old err_new status ended round =
-    let told : round.told ≡ 0 = first-zero _ _ (sym round.status_is ∙ ended) in
-    no-fault _ left.has_failed (sym told ∙ round.told_is)
-
--- neither has a station that hands over
-asked-well : (start : Start) (duties : Duties) (asked_at : Option ℕ) (due next : Due) (old new : Seated) (failed more : Bool) → true ≡ (is_some asked_at && more) → MayHandOver start duties asked_at due next old new failed → failed ≡ false
-asked-well start duties None due next old new failed more hands asks = absurd (search rules)
-asked-well start duties (Some at) due next old new failed more hands asks = asks.well
-
-handed-well : (station : Station) → RunsStation station → station.left.hands_over ≡ true → station.left.has_failed ≡ false
-handed-well station runs hands =
-    let shows = runs.shows in
-    shows.failed (ap (λ (b : Bool). b || shows.failed_before) hands)
-    ∙ asked-well station.left.start station.begun.duties shows.asked_at _ station.left.due shows.looked shows.mid shows.failed_before _ (sym hands ∙ shows.hands_over) shows.asks
-
-goes-on-well : (asked : RunPlan) (station : Station) (next : Begun) (err : Told) → RunsStation station → HandsOver station.left next station.new.err err ⊎ BeginsRound asked station.left next station.new.err err → station.left.has_failed ≡ false
-goes-on-well asked station next err runs (inl hands) = handed-well station runs hands.goes_on
-goes-on-well asked station next err runs (inr round) = round-well asked station.left station.new.err err 0 refl round.over
+-- a station whose output has not failed began with one that had not
+began-well : (station : Station) → RunsStation station → station.new.out.has_failed ≡ false → station.old.out.has_failed ≡ false
+began-well station runs well = unfailed-before station.begun.duties.tables.format station.left.start (looks_of runs.shows.showings ++ runs.shows.last) station.old.out station.new.out runs.shows.takes well
 
 abbrev IsText : Begun → Type 0
 IsText begun = begun.duties.tables.format ≡ Text
@@ -73,7 +49,8 @@ pub record SaidOn (only : Type 0) (station : Station) (end : RunEnd) (was : Reco
   pub is : Recording
   pub recorded : end.recording ≡ Some is
   pub well : is.has_failed ≡ false
-  pub said : Said only station.begun.given station.old.out output was is
+  pub written : station.old.out.has_failed ≡ false
+  pub said : Said only station.begun.given station.old.out.taken output was is
 
 not-one : (status : ℕ) → status ≡ 0 → status ≡ 1 → ⊥
 not-one status none one = omega arith
@@ -85,15 +62,9 @@ no-failure : (b : Bool) → fault_status b ≡ 0 → b ≡ false
 no-failure false e = refl
 no-failure true e = absurd (omega (arith, e))
 
-neither : (a b : Bool) → a ≡ false → b ≡ false → (a || b) ≡ false
-neither false false e f = refl
-neither true b e f = absurd (search rules)
-neither false true e f = absurd (search rules)
-
--- the last round had status 0
-over-well : (rounds_left : ℕ) (stopped : Bool) (err_old err_new : Told) (of_round told : ℕ) → told ≡ 0 → NoRoundAfter rounds_left stopped err_old err_new of_round told → of_round ≡ 0
-over-well rounds_left stopped err_old err_new of_round told none (inl over) = sym over.2 ∙ none
-over-well rounds_left stopped err_old err_new of_round told none (inr full) = full.0
+neither : (a b : Bool) → (a || b) ≡ false → a ≡ false
+neither false b e = refl
+neither true b e = absurd (search rules)
 
 module _ (asked : RunPlan) (asks_text : asked.tables.format ≡ Text) (end : RunEnd) (ended : end.status ≡ 0) (well : record_status end.recording ≡ 0) where
   last-said : (only : Type 0) (station : Station) (was : Recording) → RunsStation station → IsText station.begun → station.old.recording ≡ Some was → was.recorded ≡ length station.begun.given.entries → EndsRun asked station.left station.new end → SaidOn only station end was
@@ -102,12 +73,10 @@ module _ (asked : RunPlan) (asks_text : asked.tables.format ≡ Text) (end : Run
       let shown = record-after _ station.old.recording station.new.recording was there runs.shows.records in
       let recorded : end.recording ≡ Some shown.0 = over.recording ∙ shown.1 in
       let is_well = well-record end.recording shown.0 recorded well in
-      let told : over.told ≡ 0 = first-zero _ _ (sym over.status_is ∙ ended) in
-      let of_round = over-well station.left.rounds_left over.round.stopped over.err_round over.err_mid over.of_round over.told told over.no_more in
-      let written = round-well asked station.left station.new.err over.err_round over.of_round of_round over.round in
-      let late = no-fault over.told over.has_failed (sym ended ∙ over.status_is) in
-      let kept = kept-whole station.new.out over.output _ (neither station.left.has_failed over.has_failed written late) over.gives in
-      let says = says-kept station.begun.given station.left.start station.left.closing.reporter station.old.out station.new.out over.output was shown.0 kept
+      let all_written = no-fault over.told (station.new.out.has_failed || over.has_failed) (sym ended ∙ over.status_is) in
+      let written = neither station.new.out.has_failed over.has_failed all_written in
+      let kept = kept-whole station.new.out.taken over.output _ all_written over.gives in
+      let says = says-kept station.begun.given station.left.start station.left.closing.reporter station.old.out.taken station.new.out.taken over.output was shown.0 kept
       (station-says station was shown.0 runs is_text there shown.1 written is_well) in
       record {
         output = over.output;
@@ -115,7 +84,8 @@ module _ (asked : RunPlan) (asks_text : asked.tables.format ≡ Text) (end : Run
         is = shown.0;
         recorded = recorded;
         well = is_well;
-        said = only-said only station.begun.given station.left.start station.left.closing.reporter station.old.out over.output was shown.0 known runs.goes_on says;
+        written = began-well station runs written;
+        said = only-said only station.begun.given station.left.start station.left.closing.reporter station.old.out.taken over.output was shown.0 known runs.goes_on says;
       }
 
   not-one-more : (n : ℕ) → suc n ≡ 0 → ⊥
@@ -133,16 +103,18 @@ module _ (asked : RunPlan) (asks_text : asked.tables.format ≡ Text) (end : Run
       let keeps : KeepsRecent start journal next.begun.given (Some shown.0) (Some found.0) =
       subst (λ (o : Option Recording). KeepsRecent start journal next.begun.given (Some shown.0) o) found.1 (subst (λ (o : Option Recording). KeepsRecent start journal next.begun.given o next.old.recording) shown.1 follows.is_kept) in
       let later = stations-said next stations found.0 next_runs (next-text asked station next.begun next.old.err asks_text runs is_text follows.how) found.1 keeps.records.recorded others in
-      let rest : Said (length stations ≡ 0) next.begun.given station.new.out later.output found.0 later.is = subst (λ (o : Option (List ℕ)). Said (length stations ≡ 0) next.begun.given o later.output found.0 later.is) follows.out later.said in
-      let well_shown = still-well station.begun.given next.begun.given start closing journal station.old.out station.new.out later.output was shown.0 found.0 later.is known rest.well keeps in
-      let says = station-says station was shown.0 runs is_text there shown.1 (goes-on-well asked station next.begun next.old.err runs follows.how) well_shown in
+      let rest : Said (length stations ≡ 0) next.begun.given station.new.out.taken later.output found.0 later.is = subst (λ (o : Printing). Said (length stations ≡ 0) next.begun.given o.taken later.output found.0 later.is) follows.out later.said in
+      let written : station.new.out.has_failed ≡ false = ap (λ (o : Printing). o.has_failed) (sym follows.out) ∙ later.written in
+      let well_shown = still-well station.begun.given next.begun.given start closing journal station.old.out.taken station.new.out.taken later.output was shown.0 found.0 later.is known rest.well keeps in
+      let says = station-says station was shown.0 runs is_text there shown.1 written well_shown in
       record {
         output = later.output;
         out = later.out;
         is = later.is;
         recorded = later.recorded;
         well = later.well;
-        said = handed-on station.begun.given next.begun.given start closing journal station.old.out station.new.out later.output was shown.0 found.0 later.is known rest.well
+        written = began-well station runs written;
+        said = handed-on station.begun.given next.begun.given start closing journal station.old.out.taken station.new.out.taken later.output was shown.0 found.0 later.is known rest.well
             (suc (length stations) ≡ 0) (length stations ≡ 0) (not-one-more (length stations)) runs.goes_on says runs.closed.closes.legal runs.closed.closes.seen.0 keeps rest;
       }
 

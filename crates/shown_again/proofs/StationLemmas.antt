@@ -1,5 +1,5 @@
 -- What a station printed and recorded, whose output and record have not failed.
-use Rattle.std.proofs.Common.{sym, rules, ◌≡◌, ◌∙◌, ℕ, Bool, true, false, List, [], ◌++◌, ◌||◌, Option, Some, None, refl, ap, subst, append-nil, length, arith, max, flat_map}
+use Rattle.std.proofs.Common.{rules, ◌≡◌, ◌∙◌, ℕ, Bool, true, false, List, [], ◌++◌, ◌||◌, Option, Some, None, refl, ap, subst, append-nil, length, arith, max, flat_map}
 use Rattle.std.specs.Io.KnownBytes.{Appends, Keeps, append_known}
 use Rattle.station_journal.specs.declared.entry.Entry.{Entry}
 use Rattle.station_report.specs.declared.formats.Format.{Format}
@@ -9,7 +9,7 @@ use Rattle.station_history.specs.Start.{Start}
 use Rattle.station_shared.specs.Seats.{Seated, newcomer}
 use Rattle.station_record.specs.Record.{recorded_after, shows_after}
 use Rattle.messages.proofs.Common.{fault_status}
-use Rattle.station_reporter.proofs.Common.{AreRecordable, IfRecording, Recording, Records, TakesText, TakesBy, seen_by, looks_of, TakesTexts, texts}
+use Rattle.station_reporter.proofs.Common.{AreRecordable, IfRecording, Recording, Records, TakesText, TakesBy, seen_by, looks_of, Printing, TakesTexts, TakesTextsBy, texts}
 use Rattle.station_run.proofs.Common.{GivesBack, RoundStart, RunsStation, Station}
 use Rattle.shown_again.proofs.LookLemmas.{Grown, grown, hand-over-prefix, last-grown, later-prefix, text_table, texts-seen}
 use Rattle.station_reporter.proofs.PrefixLemmas.{begins-trans}
@@ -35,9 +35,13 @@ took-by true false a b x p e = absurd p
 pub took : (a b : Recording) (x : List ℕ) → TakesText a b x → b.has_failed ≡ false → Appends a.taken b.taken x
 took a b x p e = took-by a.has_failed b.has_failed a b x p e
 
-whole-texts : (format : Format) (start : Start) (looks : List (Option Seated)) (before between : Option (List ℕ)) (failed : Bool) → failed ≡ false → TakesTexts format start looks before between failed → Appends before between (texts format start looks)
-whole-texts format start looks before between false e takes = takes
-whole-texts format start looks before between true e takes = absurd (search rules)
+whole-by : (f g : Bool) (format : Format) (start : Start) (looks : List (Option Seated)) (before between : Printing) → g ≡ false → TakesTextsBy f g format start looks before between → Appends before.taken between.taken (texts format start looks)
+whole-by false false format start looks before between e takes = takes.grown
+whole-by f true format start looks before between e takes = absurd (search rules)
+whole-by true false format start looks before between e takes = absurd takes
+
+whole-texts : (format : Format) (start : Start) (looks : List (Option Seated)) (before between : Printing) → between.has_failed ≡ false → TakesTexts format start looks before between → Appends before.taken between.taken (texts format start looks)
+whole-texts format start looks before between e takes = whole-by before.has_failed between.has_failed format start looks before between e takes.bytes
 
 -- the looks of a station without a fault, whose record has not failed
 pub record StationSays (given : RoundStart) (start : Start) (closing : Seated) (before after : Option (List ℕ)) (was is : Recording) : Type 0 where
@@ -49,24 +53,24 @@ pub record StationSays (given : RoundStart) (start : Start) (closing : Seated) (
   pub recordable : AreRecordable was.recorded lists
   pub well : was.has_failed ≡ false
 
-pub station-says : (station : Station) (was is : Recording) → RunsStation station → station.begun.duties.tables.format ≡ Text → station.old.recording ≡ Some was → station.new.recording ≡ Some is → station.left.has_failed ≡ false → is.has_failed ≡ false
-    → StationSays station.begun.given station.left.start station.left.closing.reporter station.old.out station.new.out was is
+pub station-says : (station : Station) (was is : Recording) → RunsStation station → station.begun.duties.tables.format ≡ Text → station.old.recording ≡ Some was → station.new.recording ≡ Some is → station.new.out.has_failed ≡ false → is.has_failed ≡ false
+    → StationSays station.begun.given station.left.start station.left.closing.reporter station.old.out.taken station.new.out.taken was is
 station-says station was is runs is_text was_is is_is well_written well =
     let shows = runs.shows in
     let start = station.left.start in
     let looks = looks_of shows.showings ++ shows.last in
-    let none = station.left.hands_over || shows.failed_before in
+    let none = station.left.hands_over || shows.broken_before in
     let first = newcomer station.begun.given.entries (length station.begun.sources) in
     let records : Records (seen_by looks) was is =
     subst (λ (o : Option Recording). IfRecording (Records (seen_by looks)) (Some was) o) is_is (subst (λ (o : Option Recording). IfRecording (Records (seen_by looks)) o station.new.recording) was_is shows.records) in
     let to = begins-trans shows.shown.seen shows.looked.seen shows.mid.seen (later-prefix start shows.shown shows.looked shows.later)
-    (hand-over-prefix start station.begun.duties shows.asked_at _ station.left.due shows.looked shows.mid shows.failed_before shows.asks) in
+    (hand-over-prefix start station.begun.duties shows.asked_at _ station.left.due shows.looked shows.mid shows.broken_before shows.asks) in
     record {
       lists = seen_by looks;
       grown = grown start first shows.showings shows.shown shows.mid station.left.closing.reporter.seen shows.last shows.keeps.walk to
           (last-grown start shows.mid station.left.closing.reporter none shows.last shows.looks);
-      prints = subst (Appends station.old.out station.new.out) (ap (λ (format : Format). texts format start looks) is_text ∙ texts-seen start looks)
-          (whole-texts station.begun.duties.tables.format start looks station.old.out station.new.out station.left.has_failed well_written shows.takes);
+      prints = subst (Appends station.old.out.taken station.new.out.taken) (ap (λ (format : Format). texts format start looks) is_text ∙ texts-seen start looks)
+          (whole-texts station.begun.duties.tables.format start looks station.old.out station.new.out well_written shows.takes);
       records = took was is (shows_after was.recorded (seen_by looks)) records.takes well;
       recorded = records.recorded;
       recordable = records.recordable well;

@@ -3,7 +3,7 @@ ghost use Rattle.std.specs.Prelude.{◌≡◌, ℕ, List, Option, is_some, true}
 ghost use Rattle.station_report.specs.declared.formats.Format.TheVariants.{Text};
 ghost use Rattle.station_run.specs.Stations.{RunPlan, RunsStations};
 ghost use Rattle.shown_again.specs.ShownAgain.{HasPrinted, HasRecorded, HasRoom, IsOneStation, ReplayPrints};
-ghost use Rattle.messages.specs.Telling.{Told};
+ghost use Rattle.messages.specs.Telling.{Alarmed, Told};
 ghost use Rattle.station_run.specs.Limits.{program_limits};
 ghost use Rattle.station_replay.specs.Forgetting.{unlimited_output};
 ghost use Rattle.station_journal.specs.Log.{empty_log};
@@ -17,7 +17,7 @@ ghost use Rattle.modes_frame.specs.Lines.{cuts};
 /// them as long as fewer than 12,582,912 are recent and fewer than 4,194,304 come between two ticks.
 pub fn a_replay_prints_what_the_run_printed()
     ensures { (asked : RunPlan) (before : Option (List ℕ)) (after : Option (Option (List ℕ)))
-        (alarm : Option (List ℕ)) (err_old err_new : Told) → asked.tables.format ≡ Text → is_some asked.file ≡ true →
+        (alarm : Alarmed) (err_old err_new : Told) → asked.tables.format ≡ Text → is_some asked.file ≡ true →
         (run : RunsStations asked before after alarm err_old err_new 0) → (text lines : List ℕ) ×
         HasPrinted before after text × HasRecorded run.blank run.leaves.end.recording lines ×
         (unlimited_output (empty_log (program_limits asked.site)) (cuts lines) ≡ text) ×

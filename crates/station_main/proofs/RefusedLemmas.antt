@@ -4,12 +4,12 @@ use Rattle.clap.specs.Words.{App, IsAmong, Text, fault_of, kind_of}
 use Rattle.clap.specs.declared.error.Error.{Error}
 use Rattle.command_line.specs.Command.{IsOwnFault, IsWordsFault, misplaced, reopens_rounds}
 use Rattle.station_main.specs.Jobs.{HasNoMemory, IsObeyed, RefusesBoth, RefusesPlace, WritesText, is_shown}
-use Rattle.messages.specs.Telling.{Told, not_a_place_text, reopens_rounds_text}
+use Rattle.messages.specs.Telling.{Alarmed, Told, not_a_place_text, reopens_rounds_text}
 use Rattle.command_line.specs.declared.words.WordsFault.{WordsFault}
 use Rattle.command_line.specs.declared.words.WordsFault.TheVariants as words_fault
 
 -- what a command line leaves whose answer of `clap` is written, or for whose text there was no memory
-pub refused_obeyed : (app : App) (words : List Text) (origin : ℕ) (input before : Option (List ℕ)) (after : Option (Option (List ℕ))) (alarm : Option (List ℕ)) (err_old err_new : Told) (status : ℕ) (fault : WordsFault) (error : Error)
+pub refused_obeyed : (app : App) (words : List Text) (origin : ℕ) (input before : Option (List ℕ)) (after : Option (Option (List ℕ))) (alarm : Alarmed) (err_old err_new : Told) (status : ℕ) (fault : WordsFault) (error : Error)
     → fault ≡ words_fault.Clap error → IsWordsFault app words fault
     → HasNoMemory after err_old err_new status ⊎ ((text : List ℕ) × WritesText (is_shown (kind_of error)) text before after err_old err_new status)
     → IsObeyed app words origin input before after alarm err_old err_new status

@@ -8,20 +8,20 @@ use Rattle.command_line.specs.Command.{IsStation, NamesJob, format_since, mispla
 use Rattle.station_run.specs.Limits.{program_limits}
 use Rattle.station_main.specs.Replay.{EndsReplay}
 use Rattle.station_run.specs.Stations.{RunsAsked, plan_from}
-use Rattle.messages.specs.Telling.{OutOfMemory, Tells, Told, not_a_place_text, reopens_rounds_text}
+use Rattle.messages.specs.Telling.{Alarmed, OutOfMemory, Tells, Told, not_a_place_text, reopens_rounds_text}
 use Rattle.command_line.specs.declared.words.Job.{Job}
 use Rattle.command_line.specs.declared.words.Job.TheVariants.{Replay, Run}
 
--- a job is done, beside a standard error for what is reported at once; a replay that leaves no output has read nothing;
+-- a job is done, beside standard errors for what is reported at once; a replay that leaves no output has read nothing;
 -- JSON of a run counts from the origin, in milliseconds since 1970, and of a replay from 0
-abbrev pub IsDone : Job → (origin : ℕ) → Option (List ℕ) → Option (List ℕ) → Option (Option (List ℕ)) → Option (List ℕ) → Told → Told → ℕ → Type 0
+abbrev pub IsDone : Job → (origin : ℕ) → Option (List ℕ) → Option (List ℕ) → Option (Option (List ℕ)) → Alarmed → Told → Told → ℕ → Type 0
 IsDone (Replay form site) origin input before None alarm err_old err_new status = OutOfMemory err_old err_new status
 IsDone (Replay form site) origin input before (Some after) alarm err_old err_new status = EndsReplay (format_since form 0) (program_limits site) input before after err_old err_new status
 IsDone (Run arguments) origin input before after alarm err_old err_new status =
     RunsAsked (plan_from arguments origin) before after alarm err_old err_new status
 
 -- `clap` accepts the command line, and the job that it names is done
-pub record DoesJob (app : App) (words : List Text) (origin : ℕ) (input before : Option (List ℕ)) (after : Option (Option (List ℕ))) (alarm : Option (List ℕ)) (err_old err_new : Told) (status : ℕ) : Type 0 where
+pub record DoesJob (app : App) (words : List Text) (origin : ℕ) (input before : Option (List ℕ)) (after : Option (Option (List ℕ))) (alarm : Alarmed) (err_old err_new : Told) (status : ℕ) : Type 0 where
   pub accepted : fault_of app words ≡ []
   pub job : Job
   pub named : NamesJob app words job
@@ -67,19 +67,19 @@ pub record RefusesPlace (app : App) (words : List Text) (before : Option (List �
   pub says : WritesText false (not_a_place_text text) before after err_old err_new status
 
 -- what a command line leaves that `clap` accepts
-abbrev pub IsAnswered : App → List Text → (origin : ℕ) → Option (List ℕ) → Option (List ℕ) → Option (Option (List ℕ)) → Option (List ℕ) → Told → Told → ℕ → Type 0
+abbrev pub IsAnswered : App → List Text → (origin : ℕ) → Option (List ℕ) → Option (List ℕ) → Option (Option (List ℕ)) → Alarmed → Told → Told → ℕ → Type 0
 IsAnswered app words origin input before after alarm err_old err_new status =
     DoesJob app words origin input before after alarm err_old err_new status
     ⊎ (HasNoMemory after err_old err_new status ⊎ (RefusesBoth app words before after err_old err_new status ⊎ RefusesPlace app words before after err_old err_new status))
 
 -- what any command line leaves
-abbrev pub IsObeyed : App → List Text → (origin : ℕ) → Option (List ℕ) → Option (List ℕ) → Option (Option (List ℕ)) → Option (List ℕ) → Told → Told → ℕ → Type 0
+abbrev pub IsObeyed : App → List Text → (origin : ℕ) → Option (List ℕ) → Option (List ℕ) → Option (Option (List ℕ)) → Alarmed → Told → Told → ℕ → Type 0
 IsObeyed app words origin input before after alarm err_old err_new status =
     IsAnswered app words origin input before after alarm err_old err_new status ⊎ IsRefused app words before after err_old err_new status
 
 -- a status that a command line gives over these streams, whatever is left of them: there was no memory for its words, or it is
 -- obeyed, and JSON of a run counts from some origin
-abbrev pub GivesStatus : List Text → Option (List ℕ) → Option (List ℕ) → Option (List ℕ) → Option (List ℕ) → ℕ → Type 0
+abbrev pub GivesStatus : List Text → Option (List ℕ) → Option (List ℕ) → Alarmed → Option (List ℕ) → ℕ → Type 0
 GivesStatus words input before alarm err status =
     ((err_new : Told) × OutOfMemory (record { taken = err; has_failed = false }) err_new status)
     ⊎ ((app : App) × IsStation app × (origin : ℕ) × (after : Option (Option (List ℕ))) × (err_new : Told)

@@ -2,7 +2,7 @@
 ghost use Rattle.clap.specs.Words.{App, kind_of, takes};
 ghost use Rattle.command_line.specs.Command.{IsInRange, IsStation, misplaced, reopens_rounds};
 ghost use Rattle.station_main.specs.Jobs.{GivesStatus, HasNoMemory, IsAnswered, IsDone, IsObeyed, WritesText, is_shown};
-ghost use Rattle.messages.specs.Telling.{Tells, not_a_place_text, reopens_rounds_text, told_of};
+ghost use Rattle.messages.specs.Telling.{Tells, alarmed_by, both_alarmed, not_a_place_text, reopens_rounds_text, told_of};
 ghost use Rattle.std.specs.Prelude.{◌≡◌, ◌≤◌, ◌⊎◌, ℕ, List, None, Some, false, map, option_map, true};
 
 use crate::replay_job::replay_input;
@@ -33,11 +33,12 @@ pub fn program<
     E: Write + Copy + Send + Drop,
 >(rt: &R, own: W, alloc: Global, words: &[&str], input: I, out: O, err: E) -> u8
     ensures { GivesStatus (map (λ w. w.now) words.now) (I.remaining input) (O.Write.contents out)
-        (E.Write.contents err) (E.Write.contents err) result }
+        (both_alarmed (E.Write.contents err)) (E.Write.contents err) result }
 {
     let origin = milliseconds_since_1970(rt);
     let mut last = StandardError::new(err);
     let alarms = Alarms {
+        output: err,
         record: err,
         displays: err,
         limits: err,
@@ -82,10 +83,10 @@ pub fn obey<
         → (reopens_rounds app (map (λ w. w.now) words.now) ≡ false
         → misplaced app (map (λ w. w.now) words.now) ≡ None → result.status ≤ 1)
         × IsAnswered app (map (λ w. w.now) words.now) origin (I.remaining input) (O.Write.contents out)
-        (option_map (λ left. O.Write.contents left) result.out) (A.Write.contents alarms.record)
+        (option_map (λ left. O.Write.contents left) result.out) (alarmed_by A.Write.contents alarms)
         (told_of E.contents err.old) (told_of E.contents err.new) result.status)
         × IsObeyed app (map (λ w. w.now) words.now) origin (I.remaining input) (O.Write.contents out)
-        (option_map (λ left. O.Write.contents left) result.out) (A.Write.contents alarms.record)
+        (option_map (λ left. O.Write.contents left) result.out) (alarmed_by A.Write.contents alarms)
         (told_of E.contents err.old) (told_of E.contents err.new) result.status }
 {
     match read_words(alloc, words) {
@@ -125,7 +126,7 @@ fn do_job<
     requires { IsInRange job }
     ensures most { result.status ≤ 1 }
     ensures done { IsDone job origin (I.remaining input) (O.Write.contents out)
-        (option_map (λ left. O.Write.contents left) result.out) (A.Write.contents alarms.record)
+        (option_map (λ left. O.Write.contents left) result.out) (alarmed_by A.Write.contents alarms)
         (told_of E.contents err.old) (told_of E.contents err.new) result.status }
 {
     match job {

@@ -2,6 +2,7 @@
 ghost use Rattle.std.specs.Prelude.{◌≡◌, ◌≢◌, ◌≤◌, IfErr, IfOk, map};
 ghost use Rattle.std.specs.Process.{exit_status};
 ghost use Rattle.std.specs.String.{string_bytes};
+ghost use Rattle.messages.specs.Telling.{alarmed_by};
 ghost use Rattle.station_main.specs.Jobs.{GivesStatus};
 
 use crate::obeying::obey;
@@ -34,7 +35,7 @@ pub fn exit_code<
     err: E,
 ) -> ExitCode
     ensures given { IfOk owned (λ words. GivesStatus (map string_bytes words.items) (I.remaining input)
-        (O.Write.contents out) (A.Write.contents alarms.record) (E.Write.contents err) (exit_status result)) }
+        (O.Write.contents out) (alarmed_by A.Write.contents alarms) (E.Write.contents err) (exit_status result)) }
     ensures memory { IfErr owned (λ kind. kind ≡ ErrorKind.OutOfMemory → exit_status result ≡ 1) }
     ensures text { IfErr owned (λ kind. kind ≢ ErrorKind.OutOfMemory → exit_status result ≡ 2) }
 {

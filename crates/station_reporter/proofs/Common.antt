@@ -1,7 +1,7 @@
 -- The words that proofs of this crate and of those above it cite most, passed on from one place. Declares nothing.
 pub use Rattle.station_reporter.specs.Recorded.{AreRecordable, IfRecording, PrintsAndRecords, Recording, Records, TakesBy, TakesText, TellsFailure, record_status, seen_by}
 pub use Rattle.station_reporter.specs.Reporter.{Acting, DoesAct, IsActAt, IsLater, IsShowing, MayHandOver, Reports, ReportsByAClock, Showing, Showings, Ticks, after_table, after_tick, due_after, due_moments, has_come, looks_of, not_before, seat_after}
-pub use Rattle.station_reporter.specs.Tables.{text_of, PassesOver, Prints, TakesTexts, failures_after, look_text, texts}
+pub use Rattle.station_reporter.specs.Tables.{FailsWithin, PassesOver, Printing, Prints, TakesEach, TakesNothing, TakesTexts, TakesTextsBy, TellsOutput, is_broken, look_text, text_of, texts}
 pub use Rattle.station_reporter.specs.declared.duties.Duties.{Duties}
 pub use Rattle.station_reporter.specs.declared.schedule.Due.{Due}
 pub use Rattle.station_reporter.specs.declared.schedule.Tables.{Tables}

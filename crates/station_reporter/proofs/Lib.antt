@@ -1,5 +1,6 @@
 pub mod Common
 pub mod PrefixLemmas
+pub mod PrintingLemmas
 pub mod RecordedLemmas
 pub mod ReportLemmas
 mod ReportTimeLemmas

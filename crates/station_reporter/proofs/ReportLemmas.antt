@@ -1,15 +1,14 @@
 -- Showings of the reporter, one more at the end.
-use Rattle.std.proofs.Common.{rules, ◌≡◌, ◌∙◌, ◌⊎◌, inl, inr, ℕ, ◌+◌, ◌≤◌, ◌<◌, Bool, true, false, List, [], ◌∷◌, ◌++◌, Option, Some, None, Result, Ok, Err, IfSome, refl, sym, ap, subst, append_assoc, append-nil, map, is_err, IfOk, IfErr}
+use Rattle.std.proofs.Common.{rules, ◌≡◌, ◌∙◌, ◌⊎◌, inl, inr, ℕ, ◌+◌, ◌≤◌, ◌<◌, true, false, List, [], ◌∷◌, ◌++◌, Option, Some, None, Result, Ok, Err, IfSome, refl, sym, ap, subst, append-nil, map, IfOk, IfErr}
 use Rattle.std.specs.Io.KnownBytes.{Appends}
-use Rattle.std.proofs.KnownBytes.{Appends-nil, Appends-trans}
+use Rattle.std.proofs.KnownBytes.{Appends-trans}
 use Rattle.station_journal.specs.declared.entry.Entry.TheVariants.{Tick}
 use Rattle.station_journal.specs.declared.refusal.Refusal.{Refusal}
-use Rattle.streams.specs.Sink.{SinkState, count_after}
 use Rattle.station_report.specs.declared.formats.Format.{Format}
-use Rattle.streams.specs.declared.sinks.WriteFault.{WriteFault}
 use Rattle.station_history.proofs.Common.{Start, Known}
 use Rattle.station_shared.specs.Seats.{Seated, Accepted, Refused, Looks}
-use Rattle.station_reporter.proofs.Common.{Acting, DoesAct, IsActAt, IsShowing, IsLater, Reports, Showing, Showings, Ticks, after_table, after_tick, due_moments, has_come, looks_of, seat_after, IfRecording, PrintsAndRecords, Recording, Records, seen_by, Due, Tables, Prints, PassesOver, TakesTexts, look_text, texts, failures_after}
+use Rattle.station_reporter.proofs.Common.{Acting, DoesAct, IsActAt, IsShowing, IsLater, Reports, Showing, Showings, Ticks, after_table, after_tick, due_moments, has_come, looks_of, seat_after, IfRecording, PrintsAndRecords, Recording, Records, seen_by, Due, Tables, Printing, TakesTexts, is_broken}
+use Rattle.station_reporter.proofs.PrintingLemmas.{takes-nothing, takes-refused, takes-then}
 use Rattle.station_reporter.specs.declared.reporter.ReporterResult.{ReporterResult}
 use Rattle.station_reporter.specs.declared.schedule.Act.{Act}
 use Rattle.station_reporter.specs.declared.schedule.Act.TheVariants as act
@@ -32,62 +31,28 @@ looks_snoc : (showings : List Showing) (showing : Showing) → looks_of (showing
 looks_snoc [] showing = refl
 looks_snoc (r ∷ rs) showing = ap (λ (ls : List (Option Seated)). r.look ∷ ls) (looks_snoc rs showing)
 
-texts_snoc : (format : Format) (station : Start) (looks : List (Option Seated)) (look : Option Seated) → texts format station (looks ++ look ∷ []) ≡ texts format station looks ++ look_text format station look
-texts_snoc format station [] look = append-nil (look_text format station look)
-texts_snoc format station (l ∷ ls) look = ap (λ t. look_text format station l ++ t) (texts_snoc format station ls look) ∙ sym (append_assoc (look_text format station l) (texts format station ls) (look_text format station look))
-
 -- one more table, by what its printing ensures
-pub record PrintsOne (format : Format) (station : Start) (looks : List (Option Seated)) (old new : Seated) (before after : SinkState) (failed_before : ℕ) (was is : Option Recording) (result : Result (Unit {0}) WriteFault) : Type 0 where
+pub record PrintsOne (format : Format) (station : Start) (looks : List (Option Seated)) (old new : Seated) (first after : Printing) (was is : Option Recording) : Type 0 where
   pub look : Option Seated
   pub looked : (look ≡ None) × (new ≡ old) ⊎ (look ≡ Some new) × Looks station old new
-  pub takes : TakesTexts format station (looks ++ look ∷ []) before.taken after.taken (is_err result)
-  pub failures : after.failures ≡ failures_after (is_err result) failed_before
+  pub takes : TakesTexts format station (looks ++ look ∷ []) first after
   pub records : IfRecording (Records (seen_by (look ∷ []))) was is
 
-printed : (format : Format) (station : Start) (looks : List (Option Seated)) (old new : Seated) (start before after : SinkState) (was is : Option Recording) (result : Result (Unit {0}) WriteFault)
-    → Appends start.taken before.taken (texts format station looks) → before.failures ≡ start.failures → Prints format station old new before after result → IfRecording (Records (new.seen ∷ [])) was is
-    → PrintsOne format station looks old new start after start.failures was is result
-printed format station looks old new start before after was is (Ok done) so_far same prints records = record {
+pub printed_at_most : (format : Format) (station : Start) (looks : List (Option Seated)) (old new : Seated) (first before after : Printing) (was is : Option Recording)
+    → TakesTexts format station looks first before → is_broken before ≡ false → PrintsAndRecords format station old new before after was is
+    → PrintsOne format station looks old new first after was is
+printed_at_most format station looks old new first before after was is so_far well (inl (prints, records)) = record {
   look = Some new;
   looked = inr (refl, prints.looks);
-  takes = subst (Appends start.taken after.taken) (sym (texts_snoc format station looks (Some new))) (Appends-trans start.taken before.taken after.taken _ _ so_far prints.takes.bytes);
-  failures = prints.takes.failures ∙ same;
+  takes = takes-then format station looks (Some new ∷ []) first before after so_far prints.takes;
   records = records;
 }
-printed format station looks old new start before after was is (Err fault) so_far same prints records = record {
-  look = Some new;
-  looked = inr (refl, prints.looks);
-  takes = record {
-    front = looks;
-    last = new;
-    taken = prints.takes.bytes.front;
-    rest = prints.takes.bytes.rest;
-    parts = refl;
-    cut = prints.takes.bytes.parts;
-    grown = Appends-trans start.taken before.taken after.taken _ _ so_far prints.takes.bytes.grown;
-  };
-  failures = prints.takes.failures ∙ ap (λ n. count_after false n) same;
-  records = records;
-}
-
-passed : (format : Format) (station : Start) (looks : List (Option Seated)) (old new : Seated) (start before after : SinkState) (was is : Option Recording) (result : Result (Unit {0}) WriteFault)
-    → Appends start.taken before.taken (texts format station looks) → before.failures ≡ start.failures → PassesOver old new before after result → is ≡ was
-    → PrintsOne format station looks old new start after start.failures was is result
-passed format station looks old new start before after was is (Ok done) so_far same passes unchanged = record {
+printed_at_most format station looks old new first before after was is so_far well (inr (passes, unchanged)) = record {
   look = None;
   looked = inl (refl, passes.same_seat);
-  takes = subst (λ (p : SinkState). Appends start.taken p.taken (texts format station (looks ++ None ∷ []))) (sym passes.same_sink)
-      (subst (Appends start.taken before.taken) (sym (texts_snoc format station looks None ∙ append-nil (texts format station looks))) so_far);
-  failures = ap (λ (p : SinkState). p.failures) passes.same_sink ∙ same;
+  takes = takes-then format station looks (None ∷ []) first before after so_far (takes-refused format station before after passes.same_output well);
   records = no-more-records was is unchanged;
 }
-passed format station looks old new start before after was is (Err fault) so_far same passes unchanged = absurd (search rules)
-
-pub printed_at_most : (format : Format) (station : Start) (looks : List (Option Seated)) (old new : Seated) (start before after : SinkState) (was is : Option Recording) (result : Result (Unit {0}) WriteFault)
-    → Appends start.taken before.taken (texts format station looks) → before.failures ≡ start.failures → PrintsAndRecords format station old new before after was is result
-    → PrintsOne format station looks old new start after start.failures was is result
-printed_at_most format station looks old new start before after was is result so_far same (inl prints) = printed format station looks old new start before after was is result so_far same prints.0 prints.1
-printed_at_most format station looks old new start before after was is result so_far same (inr passes) = passed format station looks old new start before after was is result so_far same passes.0 passes.1
 
 -- ---- looks that show nothing
 
@@ -109,19 +74,19 @@ ticks_later station a b c at (inr l) (inr t) =
     inr (t.0, record { later = begins-trans a.seen b.seen c.seen l.later is.later; legal = is.legal; verdict = is.verdict; accepted = is.accepted ∙ l.accepted; number = is.number ∙ l.number; place = is.place ∙ (l.has_place ∙ sym l.had_place) })
 
 -- the showings so far, by the times that a clock gave after the first ones, and what is due next
-pub record ReportsTo (station : Start) (tables : Tables) (first : Due) (due : Due) (given given_now : Option (List ℕ)) (old new : Seated) (before after : SinkState) (was is : Option Recording) (has_failed : Bool) : Type 0 where
+pub record ReportsTo (station : Start) (tables : Tables) (first : Due) (due : Due) (given given_now : Option (List ℕ)) (old new : Seated) (before after : Printing) (was is : Option Recording) : Type 0 where
   pub moments : List ℕ
   pub are_given : Appends given given_now moments
-  pub reports : Reports station tables first due moments old new before after was is has_failed
+  pub reports : Reports station tables first due moments old new before after was is
 
-pub no_moment : (station : Start) (tables : Tables) (first : Due) (seat : Seated) (sink : SinkState) (was : Option Recording) → Reports station tables first first [] seat seat sink sink was was false
-no_moment station tables first seat sink was = record { showings = []; shown = seat; keeps = record { acts = refl; walk = refl }; later = inl refl; next_is = refl; takes = Appends-nil sink.taken; failures = refl; records = no-records was }
+pub no_moment : (station : Start) (tables : Tables) (first : Due) (seat : Seated) (out : Printing) (was : Option Recording) → Reports station tables first first [] seat seat out out was was
+no_moment station tables first seat out was = record { showings = []; shown = seat; keeps = record { acts = refl; walk = refl }; later = inl refl; next_is = refl; takes = takes-nothing tables.format station out; records = no-records was }
 
 -- nothing is done at a time at which nothing is due
-pub one_more_sleep : (station : Start) (tables : Tables) (first : Due) (due : Due) (now : ℕ) (given given_before given_now : Option (List ℕ)) (old new : Seated) (before after : SinkState) (was is : Option Recording) (has_failed : Bool)
-    → ReportsTo station tables first due given given_before old new before after was is has_failed → Appends given_before given_now (now ∷ []) → now < due.table → has_come due.tick now ≡ false
-    → ReportsTo station tables first due given given_now old new before after was is has_failed
-one_more_sleep station tables first due now given given_before given_now old new before after was is has_failed so_far gives early none =
+pub one_more_sleep : (station : Start) (tables : Tables) (first : Due) (due : Due) (now : ℕ) (given given_before given_now : Option (List ℕ)) (old new : Seated) (before after : Printing) (was is : Option Recording)
+    → ReportsTo station tables first due given given_before old new before after was is → Appends given_before given_now (now ∷ []) → now < due.table → has_come due.tick now ≡ false
+    → ReportsTo station tables first due given given_now old new before after was is
+one_more_sleep station tables first due now given given_before given_now old new before after was is so_far gives early none =
     let more = nothing-due tables.pace due now early none in
     record {
       moments = so_far.moments ++ now ∷ [];
@@ -136,17 +101,16 @@ one_more_sleep station tables first due now given given_before given_now old new
           walk = so_far.reports.keeps.walk;
         };
         takes = so_far.reports.takes;
-        failures = so_far.reports.failures;
         records = so_far.reports.records;
       };
     }
 
 -- a tick alone, at a time at which only that is due
-pub one_more_tick : (station : Start) (tables : Tables) (first : Due) (due : Due) (now : ℕ) (given given_before given_now : Option (List ℕ)) (old mid new : Seated) (start before : SinkState) (from was : Option Recording)
-    → ReportsTo station tables first due given given_before old mid start before from was false → Appends given_before given_now (now ∷ []) → now < due.table → has_come due.tick now ≡ true
+pub one_more_tick : (station : Start) (tables : Tables) (first : Due) (due : Due) (now : ℕ) (given given_before given_now : Option (List ℕ)) (old mid new : Seated) (start before : Printing) (from was : Option Recording)
+    → ReportsTo station tables first due given given_before old mid start before from was → is_broken before ≡ false → Appends given_before given_now (now ∷ []) → now < due.table → has_come due.tick now ≡ true
     → Ticks station mid now new
-    → ReportsTo station tables first (after_tick tables.pace due now) given given_now old new start before from was false
-one_more_tick station tables first due now given given_before given_now old mid new start before from was so_far gives early come ticks =
+    → ReportsTo station tables first (after_tick tables.pace due now) given given_now old new start before from was
+one_more_tick station tables first due now given given_before given_now old mid new start before from was so_far well gives early come ticks =
     let more = tick-due tables.pace due now early come in
     let showings = so_far.reports.showings in
     let showing : Showing = record { acting = record { at = now; has_table = false }; ticked = new; look = None } in
@@ -164,9 +128,8 @@ one_more_tick station tables first due now given given_before given_now old mid 
               ∙ sym (acts-then tables.pace first due (after_tick tables.pace due now) now so_far.moments _ so_far.reports.next_is more);
           walk = Showings_snoc station old so_far.reports.shown showings showing so_far.reports.keeps.walk shows;
         };
-        takes = subst (λ ls. TakesTexts tables.format station ls start.taken before.taken false) (sym (looks_snoc showings showing))
-            (subst (Appends start.taken before.taken) (sym (texts_snoc tables.format station (looks_of showings) None ∙ append-nil (texts tables.format station (looks_of showings)))) so_far.reports.takes);
-        failures = so_far.reports.failures;
+        takes = subst (λ ls. TakesTexts tables.format station ls start before) (sym (looks_snoc showings showing))
+            (takes-then tables.format station (looks_of showings) (None ∷ []) start before before so_far.reports.takes (takes-refused tables.format station before before refl well));
         records = subst (λ (ls : List (Option Seated)). IfRecording (Records (seen_by ls)) from was) (sym (looks_snoc showings showing))
             (one-more-look (looks_of showings) None from was was so_far.reports.records (no-more-records was was refl));
       };
@@ -190,14 +153,14 @@ pub ticks_of : {N : Type 0} (station : Start) (old new : Seated) (at : ℕ) (nam
 ticks_of station old new at name n (Ok receipt) accepted refused = inl (receipt, accepted.1)
 ticks_of station old new at name n (Err refusal) accepted refused = inr (refusal, refused)
 
-pub one_more_showing : (station : Start) (tables : Tables) (first : Due) (due : Due) (now : ℕ) (given given_before given_now : Option (List ℕ)) (old mid ticked new : Seated) (start before after : SinkState) (from was is : Option Recording) (result : Result (Unit {0}) WriteFault)
-    → ReportsTo station tables first due given given_before old mid start before from was false → Appends given_before given_now (now ∷ []) → due.table ≤ now
-    → Ticks station mid now ticked → PrintsAndRecords tables.format station ticked new before after was is result
-    → ReportsTo station tables first (after_table tables.pace now) given given_now old new start after from is (is_err result)
-one_more_showing station tables first due now given given_before given_now old mid ticked new start before after from was is result so_far gives late ticks prints =
+pub one_more_showing : (station : Start) (tables : Tables) (first : Due) (due : Due) (now : ℕ) (given given_before given_now : Option (List ℕ)) (old mid ticked new : Seated) (start before after : Printing) (from was is : Option Recording)
+    → ReportsTo station tables first due given given_before old mid start before from was → is_broken before ≡ false → Appends given_before given_now (now ∷ []) → due.table ≤ now
+    → Ticks station mid now ticked → PrintsAndRecords tables.format station ticked new before after was is
+    → ReportsTo station tables first (after_table tables.pace now) given given_now old new start after from is
+one_more_showing station tables first due now given given_before given_now old mid ticked new start before after from was is so_far well gives late ticks prints =
     let more = table-due tables.pace due now late in
     let showings = so_far.reports.showings in
-    let p = printed_at_most tables.format station (looks_of showings) ticked new start before after was is result so_far.reports.takes so_far.reports.failures prints in
+    let p = printed_at_most tables.format station (looks_of showings) ticked new start before after was is so_far.reports.takes well prints in
     let showing : Showing = record { acting = record { at = now; has_table = true }; ticked = ticked; look = p.look } in
     let shows : IsShowing station so_far.reports.shown showing = record { ticks = ticks_later station so_far.reports.shown mid _ now so_far.reports.later ticks; looks = looked_is station ticked new p.look p.looked; alone = λ (e : true ≡ false). absurd (search rules) } in
     record {
@@ -214,17 +177,16 @@ one_more_showing station tables first due now given given_before given_now old m
           walk = subst (Showings station old (showings ++ showing ∷ [])) (end_of station ticked new now p.look p.looked)
               (Showings_snoc station old so_far.reports.shown showings showing so_far.reports.keeps.walk shows);
         };
-        takes = subst (λ ls. TakesTexts tables.format station ls start.taken after.taken (is_err result)) (sym (looks_snoc showings showing)) p.takes;
-        failures = p.failures;
+        takes = subst (λ ls. TakesTexts tables.format station ls start after) (sym (looks_snoc showings showing)) p.takes;
         records = subst (λ (ls : List (Option Seated)). IfRecording (Records (seen_by ls)) from is) (sym (looks_snoc showings showing))
             (one-more-look (looks_of showings) p.look from was is so_far.reports.records p.records);
       };
     }
 
 -- a look that shows nothing
-pub one_more_look : (station : Start) (tables : Tables) (first : Due) (due : Due) (given given_now : Option (List ℕ)) (old mid new : Seated) (before after : SinkState) (was is : Option Recording) (has_failed : Bool)
-    → ReportsTo station tables first due given given_now old mid before after was is has_failed → IsLater station mid new → ReportsTo station tables first due given given_now old new before after was is has_failed
-one_more_look station tables first due given given_now old mid new before after was is has_failed so_far later = record {
+pub one_more_look : (station : Start) (tables : Tables) (first : Due) (due : Due) (given given_now : Option (List ℕ)) (old mid new : Seated) (before after : Printing) (was is : Option Recording)
+    → ReportsTo station tables first due given given_now old mid before after was is → IsLater station mid new → ReportsTo station tables first due given given_now old new before after was is
+one_more_look station tables first due given given_now old mid new before after was is so_far later = record {
   moments = so_far.moments;
   are_given = so_far.are_given;
   reports = record {
@@ -234,26 +196,25 @@ one_more_look station tables first due given given_now old mid new before after 
     later = later_later station so_far.reports.shown mid new so_far.reports.later later;
     next_is = so_far.reports.next_is;
     takes = so_far.reports.takes;
-    failures = so_far.reports.failures;
     records = so_far.reports.records;
   };
 }
 
 -- whatever is due is done
-pub one_more_act : {O K : Type 0} (state : O → SinkState) (record_of : K → Option Recording) (station : Start) (tables : Tables) (first : Due) (now : ℕ) (given given_before given_now : Option (List ℕ)) (old : Seated) (start : SinkState) (from : Option Recording) (done : Act) (was is : ReporterResult Seated O K)
-    → ReportsTo station tables first was.due given given_before old was.seat start (state was.out) from (record_of was.beside) was.has_failed → was.has_failed ≡ false → Appends given_before given_now (now ∷ []) → IsActAt tables.pace was.due now done
-    → DoesAct state record_of tables.format station done was is → ReportsTo station tables first is.due given given_now old is.seat start (state is.out) from (record_of is.beside) is.has_failed
-one_more_act state record_of station tables first now given given_before given_now old start from (act.Sleep pause) was is so_far well gives due does =
-    rw does (one_more_sleep _ _ _ _ now _ _ _ _ _ _ _ _ _ _ so_far gives due.0 due.1)
-one_more_act state record_of station tables first now given given_before given_now old start from (act.Tick at next) was is so_far well gives due does =
+pub one_more_act : {K : Type 0} (record_of : K → Option Recording) (station : Start) (tables : Tables) (first : Due) (now : ℕ) (given given_before given_now : Option (List ℕ)) (old : Seated) (start : Printing) (from : Option Recording) (done : Act) (was is : ReporterResult Seated Printing K)
+    → ReportsTo station tables first was.due given given_before old was.seat start was.out from (record_of was.beside) → is_broken was.out ≡ false → Appends given_before given_now (now ∷ []) → IsActAt tables.pace was.due now done
+    → DoesAct record_of tables.format station done was is → ReportsTo station tables first is.due given given_now old is.seat start is.out from (record_of is.beside)
+one_more_act record_of station tables first now given given_before given_now old start from (act.Sleep pause) was is so_far well gives due does =
+    rw does (one_more_sleep _ _ _ _ now _ _ _ _ _ _ _ _ _ so_far gives due.0 due.1)
+one_more_act record_of station tables first now given given_before given_now old start from (act.Tick at next) was is so_far well gives due does =
     let ticks = subst (λ (t : ℕ). Ticks station was.seat t is.seat) due.2 does.0 in
-    rw (does.1, does.2, does.3, does.4, due.3, well) (one_more_tick station tables first was.due now given given_before given_now old was.seat is.seat start (state was.out) from (record_of was.beside) (rw well at so_far) gives due.0 due.1 ticks)
-one_more_act state record_of station tables first now given given_before given_now old start from (act.Print at next) was is so_far well gives due does =
-    let ticks = subst (λ (t : ℕ). Ticks station was.seat t does.0) due.1 does.2 in
-    rw (does.4, does.5, due.2) (one_more_showing station tables first was.due now given given_before given_now old was.seat does.0 is.seat start (state was.out) (state is.out) from (record_of was.beside) (record_of is.beside) does.1 (rw well at so_far) gives due.0 ticks does.3)
+    rw (does.1, does.2, does.3, due.3) (one_more_tick station tables first was.due now given given_before given_now old was.seat is.seat start was.out from (record_of was.beside) so_far well gives due.0 due.1 ticks)
+one_more_act record_of station tables first now given given_before given_now old start from (act.Print at next) was is so_far well gives due does =
+    let ticks = subst (λ (t : ℕ). Ticks station was.seat t does.0) due.1 does.1 in
+    rw (does.3, due.2) (one_more_showing station tables first was.due now given given_before given_now old was.seat does.0 is.seat start was.out is.out from (record_of was.beside) (record_of is.beside) so_far well gives due.0 ticks does.2)
 
 -- nothing that it does asks for a hand-over
-pub never_asks : {O K : Type 0} (state : O → SinkState) (record_of : K → Option Recording) (format : Format) (station : Start) (done : Act) (was is : ReporterResult Seated O K) → DoesAct state record_of format station done was is → is.asked_at ≡ was.asked_at
-never_asks {O} {K} state record_of format station (act.Sleep pause) was is does = ap (λ (r : ReporterResult Seated O K). r.asked_at) does
-never_asks state record_of format station (act.Tick at next) was is does = does.5
-never_asks state record_of format station (act.Print at next) was is does = does.6
+pub never_asks : {K : Type 0} (record_of : K → Option Recording) (format : Format) (station : Start) (done : Act) (was is : ReporterResult Seated Printing K) → DoesAct record_of format station done was is → is.asked_at ≡ was.asked_at
+never_asks {K} record_of format station (act.Sleep pause) was is does = ap (λ (r : ReporterResult Seated Printing K). r.asked_at) does
+never_asks record_of format station (act.Tick at next) was is does = does.4
+never_asks record_of format station (act.Print at next) was is does = does.4

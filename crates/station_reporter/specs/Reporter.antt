@@ -1,17 +1,15 @@
 -- When the reporter acts, and what it prints.
-use Rattle.std.specs.Prelude.{◌≡◌, ℕ, ◌+◌, ◌-◌, ◌*◌, ◌/◌, ◌^◌, ◌≤◌, ◌<◌, ◌⊎◌, ◌&&◌, Bool, true, false, List, [], ◌∷◌, Option, Some, None, IfSome, Result, cond, is_err, length, map, min, nat_le, nat_lt, unwrap_or, if◌then◌else◌}
+use Rattle.std.specs.Prelude.{◌≡◌, ℕ, ◌+◌, ◌-◌, ◌*◌, ◌/◌, ◌^◌, ◌≤◌, ◌<◌, ◌⊎◌, ◌&&◌, Bool, true, false, List, [], ◌∷◌, Option, Some, None, IfSome, cond, length, map, min, nat_le, nat_lt, unwrap_or, if◌then◌else◌}
 use Rattle.std.specs.Option.{option_map_or}
 use Rattle.std.specs.Duration.{as_nanos}
-use Rattle.streams.specs.Sink.{SinkState}
 use Rattle.station_journal.specs.declared.entry.Entry.TheVariants.{Tick}
 use Rattle.station_journal.specs.declared.refusal.Refusal.{Refusal}
 use Rattle.station_report.specs.declared.formats.Format.{Format}
-use Rattle.streams.specs.declared.sinks.WriteFault.{WriteFault}
 use Rattle.station_history.specs.History.{Known}
 use Rattle.station_history.specs.Start.{Start}
 use Rattle.station_shared.specs.Seats.{Seated, Accepted, Refused, Looks}
 use Rattle.station_reporter.specs.Recorded.{IfRecording, PrintsAndRecords, Recording, Records, seen_by}
-use Rattle.station_reporter.specs.Tables.{TakesTexts, failures_after}
+use Rattle.station_reporter.specs.Tables.{Printing, TakesTexts, is_broken}
 use Rattle.station_reporter.specs.declared.schedule.Act.{Act}
 use Rattle.station_reporter.specs.declared.schedule.Act.TheVariants as act
 use Rattle.station_reporter.specs.declared.schedule.Due.{Due}
@@ -96,14 +94,13 @@ Ticks start old at new =
     ((receipt : Known) × Accepted start old new (Tick old.number at) receipt) ⊎ ((refusal : Refusal) × Refused start old new (Tick old.number at) refusal)
 
 -- what a reporter does: it sleeps; or it ticks alone; or it ticks, and the table is printed and recorded
-abbrev pub DoesAct : {O K : Type 0} → (O → SinkState) → (K → Option Recording) → Format → Start → Act → ReporterResult Seated O K → ReporterResult Seated O K → Type 0
-DoesAct state record_of format start (act.Sleep pause) old new = new ≡ old
-DoesAct state record_of format start (act.Tick at next) old new =
-    Ticks start old.seat at new.seat × (new.out ≡ old.out) × (new.beside ≡ old.beside) × (new.due ≡ next) × (new.has_failed ≡ old.has_failed) × (new.asked_at ≡ old.asked_at)
-DoesAct state record_of format start (act.Print at next) old new =
-    (ticked : Seated) × (result : Result (Unit {0}) WriteFault) × Ticks start old.seat at ticked
-    × PrintsAndRecords format start ticked new.seat (state old.out) (state new.out) (record_of old.beside) (record_of new.beside) result
-    × (new.due ≡ next) × (new.has_failed ≡ is_err result) × (new.asked_at ≡ old.asked_at)
+abbrev pub DoesAct : {K : Type 0} → (K → Option Recording) → Format → Start → Act → ReporterResult Seated Printing K → ReporterResult Seated Printing K → Type 0
+DoesAct record_of format start (act.Sleep pause) old new = new ≡ old
+DoesAct record_of format start (act.Tick at next) old new =
+    Ticks start old.seat at new.seat × (new.out ≡ old.out) × (new.beside ≡ old.beside) × (new.due ≡ next) × (new.asked_at ≡ old.asked_at)
+DoesAct record_of format start (act.Print at next) old new =
+    (ticked : Seated) × Ticks start old.seat at ticked × PrintsAndRecords format start ticked new.seat old.out new.out (record_of old.beside) (record_of new.beside)
+    × (new.due ≡ next) × (new.asked_at ≡ old.asked_at)
 
 -- the seat ticks, and then looks; it doesn't look after a tick alone
 pub record IsShowing (start : Start) (old : Seated) (showing : Showing) : Type 0 where
@@ -127,14 +124,13 @@ pub record KeepsTime (start : Start) (pace : Pace) (due : Due) (moments : List �
 
 -- a reporter whose clock gave these times, from one seat to another, and what is due next; the record goes on with what its
 -- looks have seen
-pub record Reports (start : Start) (tables : Tables) (due next : Due) (moments : List ℕ) (old new : Seated) (before after : SinkState) (was is : Option Recording) (has_failed : Bool) : Type 0 where
+pub record Reports (start : Start) (tables : Tables) (due next : Due) (moments : List ℕ) (old new : Seated) (before after : Printing) (was is : Option Recording) : Type 0 where
   pub showings : List Showing
   pub shown : Seated
   pub keeps : KeepsTime start tables.pace due moments old showings shown
   pub later : IsLater start shown new
   pub next_is : next ≡ due_after tables.pace due moments
-  pub takes : TakesTexts tables.format start (looks_of showings) before.taken after.taken has_failed
-  pub failures : after.failures ≡ failures_after has_failed before.failures
+  pub takes : TakesTexts tables.format start (looks_of showings) before after
   pub records : IfRecording (Records (seen_by (looks_of showings))) was is
 
 -- a reporter that finds this many entries asks for a hand-over: they are enough, it isn't too early, and no table is due within a
@@ -147,28 +143,28 @@ asks_hand_over duties entries now due = nat_le duties.hand_over_at entries && na
 abbrev pub not_before : (hand_over_at entries last_tick : ℕ) → ℕ
 not_before hand_over_at entries last_tick = if nat_lt (hand_over_at / 2) entries then next_moment 10000 last_tick else 0
 
--- a hand-over is asked for at a time: the journal has so many entries, no write has failed, and the seat ticks alone once more;
--- the table is due where it was
-pub record HandsOver (start : Start) (duties : Duties) (at : ℕ) (due next : Due) (old new : Seated) (has_failed : Bool) : Type 0 where
+-- a hand-over is asked for at a time: the journal has so many entries, the output isn't broken, and the seat ticks alone once
+-- more; the table is due where it was
+pub record HandsOver (start : Start) (duties : Duties) (at : ℕ) (due next : Due) (old new : Seated) (broken : Bool) : Type 0 where
   pub full : duties.hand_over_at ≤ length old.seen
-  pub well : has_failed ≡ false
+  pub well : broken ≡ false
   pub ticks : Ticks start old at new
   pub next_is : next ≡ after_tick duties.tables.pace due at
 
 -- where none is asked for nothing is done
 abbrev pub MayHandOver : Start → Duties → Option ℕ → Due → Due → Seated → Seated → Bool → Type 0
-MayHandOver start duties None due next old new has_failed = (new ≡ old) × (next ≡ due)
-MayHandOver start duties (Some at) due next old new has_failed = HandsOver start duties at due next old new has_failed
+MayHandOver start duties None due next old new broken = (new ≡ old) × (next ≡ due)
+MayHandOver start duties (Some at) due next old new broken = HandsOver start duties at due next old new broken
 
 -- a reporter by some clock, which may ask for a hand-over at its end
-pub record ReportsByAClock (start : Start) (duties : Duties) (next : Due) (asked_at : Option ℕ) (old new : Seated) (before after : SinkState) (was is : Option Recording) (has_failed : Bool) : Type 0 where
+pub record ReportsByAClock (start : Start) (duties : Duties) (next : Due) (asked_at : Option ℕ) (old new : Seated) (before after : Printing) (was is : Option Recording) : Type 0 where
   pub moments : List ℕ
   pub due : Due
   pub mid : Seated
-  pub reports : Reports start duties.tables duties.due due moments old mid before after was is has_failed
-  pub hands_over : MayHandOver start duties asked_at due next mid new has_failed
+  pub reports : Reports start duties.tables duties.due due moments old mid before after was is
+  pub hands_over : MayHandOver start duties asked_at due next mid new (is_broken after)
 
 -- such a reporter by what it starts with and what it leaves
-abbrev pub HasReported : {O K : Type 0} → (O → SinkState) → (K → Option Recording) → Start → Reporter Seated O K → ReporterResult Seated O K → Type 0
-HasReported state record_of start reporter reported =
-    ReportsByAClock start reporter.duties reported.due reported.asked_at reporter.seat reported.seat (state reporter.out) (state reported.out) (record_of reporter.beside) (record_of reported.beside) reported.has_failed
+abbrev pub HasReported : {K : Type 0} → (K → Option Recording) → Start → Reporter Seated Printing K → ReporterResult Seated Printing K → Type 0
+HasReported record_of start reporter reported =
+    ReportsByAClock start reporter.duties reported.due reported.asked_at reporter.seat reported.seat reporter.out reported.out (record_of reporter.beside) (record_of reported.beside)

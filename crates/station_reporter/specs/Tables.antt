@@ -1,30 +1,38 @@
 -- The tables that are printed, one and many.
-use Rattle.std.specs.Prelude.{◌≡◌, ℕ, Bool, true, false, List, [], ◌∷◌, ◌++◌, Option, Some, None, Result, Ok}
+use Rattle.std.specs.Prelude.{◌≡◌, ℕ, ◌&&◌, Bool, true, false, not, List, [], ◌∷◌, ◌++◌, Option, Some, None}
 use Rattle.std.specs.Io.KnownBytes.{Appends}
 use Rattle.station_journal.specs.declared.entry.Entry.{Entry}
-use Rattle.streams.specs.Sink.{SinkState, TakesAll, count_after}
+use Rattle.streams.specs.Sink.{count_after}
 use Rattle.station_report.specs.declared.formats.Format.{Format}
-use Rattle.streams.specs.declared.sinks.WriteFault.{WriteFault}
 use Rattle.station_replay.specs.Replay.{table_in}
 use Rattle.station_history.specs.Start.{Start, log_of}
 use Rattle.station_shared.specs.Seats.{Seated, Looks}
+use Rattle.messages.specs.Telling.{Tells, Told, fault_line}
+use Rattle.messages.specs.declared.faults.Fault.TheVariants as fault
 
 -- the table of these entries, in a format
 abbrev pub text_of : Format → Start → List Entry → List ℕ
 text_of format start seen = table_in format (log_of start seen)
 
--- ---- one table
+-- ---- the output
 
--- the seat looks, and the table of all that it has seen by then is written
-pub record Prints (format : Format) (start : Start) (old new : Seated) (before after : SinkState) (result : Result (Unit {0}) WriteFault) : Type 0 where
-  pub looks : Looks start old new
-  pub takes : TakesAll before after (text_of format start new.seen) result
+-- the output of tables: the bytes taken so far, if they are known; the writes and flushes that failed; whether a table failed; whether
+-- a run goes on without its output; and the standard error where a failed table is then reported at once
+pub record Printing : Type 0 where
+  pub taken : Option (List ℕ)
+  pub failures : ℕ
+  pub has_failed : Bool
+  pub goes_on : Bool
+  pub alarm : Told
 
--- the look is refused, and nothing is written
-pub record PassesOver (old new : Seated) (before after : SinkState) (result : Result (Unit {0}) WriteFault) : Type 0 where
-  pub same_seat : new ≡ old
-  pub same_sink : after ≡ before
-  pub well : result ≡ Ok tt
+-- an output is broken: a table failed, and the run doesn't go on without it
+abbrev pub is_broken : Printing → Bool
+is_broken out = out.has_failed && not out.goes_on
+
+-- a failed table is reported at once where the run goes on without its output
+abbrev pub TellsOutput : (goes_on : Bool) → (old new : Told) → Type 0
+TellsOutput true old new = Tells old new (fault_line fault.Write)
+TellsOutput false old new = new ≡ old
 
 -- ---- many tables
 
@@ -38,22 +46,52 @@ abbrev pub texts : Format → Start → List (Option Seated) → List ℕ
 texts format start [] = []
 texts format start (look ∷ looks) = look_text format start look ++ texts format start looks
 
--- the sink took the texts before the last look's, and failed within that one
-pub record FailsAtLast (format : Format) (start : Start) (looks : List (Option Seated)) (old new : Option (List ℕ)) : Type 0 where
+-- the output took the texts of all looks and nothing else
+pub record TakesEach (format : Format) (start : Start) (looks : List (Option Seated)) (old new : Printing) : Type 0 where
+  pub grown : Appends old.taken new.taken (texts format start looks)
+  pub failures : new.failures ≡ old.failures
+  pub untold : new.alarm ≡ old.alarm
+
+-- the output took the texts before one look's, failed within that one, and took nothing more. Where the run doesn't go on without
+-- it, no look came after that one
+pub record FailsWithin (format : Format) (start : Start) (looks : List (Option Seated)) (old new : Printing) : Type 0 where
   pub front : List (Option Seated)
-  pub last : Seated
+  pub failed : Seated
+  pub later : List (Option Seated)
   pub taken : List ℕ
   pub rest : List ℕ
-  pub parts : looks ≡ front ++ Some last ∷ []
-  pub cut : text_of format start last.seen ≡ taken ++ rest
-  pub grown : Appends old new (texts format start front ++ taken)
+  pub parts : looks ≡ front ++ Some failed ∷ later
+  pub cut : text_of format start failed.seen ≡ taken ++ rest
+  pub grown : Appends old.taken new.taken (texts format start front ++ taken)
+  pub failures : new.failures ≡ count_after false old.failures
+  pub told : TellsOutput old.goes_on old.alarm new.alarm
+  pub stops : old.goes_on ≡ false → later ≡ []
 
--- the sink took the texts of all looks and nothing else, or failed at the last
-abbrev pub TakesTexts : Format → Start → List (Option Seated) → Option (List ℕ) → Option (List ℕ) → Bool → Type 0
-TakesTexts format start looks old new false = Appends old new (texts format start looks)
-TakesTexts format start looks old new true = FailsAtLast format start looks old new
+-- the output failed before, and took nothing. Where the run doesn't go on without it, no look came
+pub record TakesNothing (looks : List (Option Seated)) (old new : Printing) : Type 0 where
+  pub same : new ≡ old
+  pub stops : old.goes_on ≡ false → looks ≡ []
 
--- the count of failures rises by one if the sink failed
-abbrev pub failures_after : Bool → ℕ → ℕ
-failures_after false n = n
-failures_after true n = count_after false n
+-- before and after: whether a table failed
+abbrev pub TakesTextsBy : (before after : Bool) → Format → Start → List (Option Seated) → Printing → Printing → Type 0
+TakesTextsBy false false format start looks old new = TakesEach format start looks old new
+TakesTextsBy false true format start looks old new = FailsWithin format start looks old new
+TakesTextsBy true true format start looks old new = TakesNothing looks old new
+TakesTextsBy true false format start looks old new = ⊥
+
+-- the output took the texts of these looks, or a front of them if it failed
+pub record TakesTexts (format : Format) (start : Start) (looks : List (Option Seated)) (old new : Printing) : Type 0 where
+  pub bytes : TakesTextsBy old.has_failed new.has_failed format start looks old new
+  pub goes_on : new.goes_on ≡ old.goes_on
+
+-- ---- one table
+
+-- the seat looks, and the table of all that it has seen by then is printed, unless one failed before
+pub record Prints (format : Format) (start : Start) (old new : Seated) (before after : Printing) : Type 0 where
+  pub looks : Looks start old new
+  pub takes : TakesTexts format start (Some new ∷ []) before after
+
+-- the look is refused, or no more tables are printed: nothing is done
+pub record PassesOver (old new : Seated) (before after : Printing) : Type 0 where
+  pub same_seat : new ≡ old
+  pub same_output : after ≡ before

@@ -3,18 +3,18 @@ ghost use Rattle.std.specs.Prelude.{◌≡◌, ◌≤◌, ℕ, List, None, false
 ghost use Rattle.std.specs.Io.KnownBytes.{Appends};
 ghost use Rattle.station_reporter.specs.Recorded.{PrintsAndRecords};
 ghost use Rattle.station_reporter.specs.Reporter.{DoesAct, IsLater, Reports, ReportsByAClock};
-ghost use Rattle.station_reporter.specs.Tables.{text_of};
-ghost use Rattle.streams.specs.Sink.{TakesAll};
+ghost use Rattle.station_reporter.specs.Tables.{is_broken};
 
 use crate::bell::Bell;
 use crate::beside::Beside;
 use crate::displays::{put_table, table_for};
 use crate::duties::Duties;
+use crate::printer::Printer;
 use crate::recorder::record_look;
 use crate::requests::Requests;
 use crate::schedule::{Act, Due, ElapsedClock, LONGEST_SLEEP, Moments, act_at, after_tick};
-use station_report::{Format, table_as};
-use station_shared::{Look, Seat, Station, StationName};
+use station_report::Format;
+use station_shared::{Seat, Station, StationName};
 use std::fs::File;
 use std::io::Write;
 use std::rt::Files;
@@ -22,7 +22,7 @@ use std::snapshot::Snapshot;
 use std::sync::Wait;
 use std::thread::Promise;
 use std::time::{Clock, Duration, Instant};
-use streams::{Sink, WriteFault, flush_after};
+use streams::Sink;
 
 /// What a reporter leaves.
 #[derive(Drop)]
@@ -30,8 +30,6 @@ pub struct ReporterResult<S, O, K> {
     pub seat: S,
     pub out: O,
     pub beside: K,
-    /// Whether a write of the output failed.
-    pub has_failed: bool,
     /// What is due next.
     pub due: Due,
     /// The time of the tick with which a hand-over was asked for, if one was.
@@ -52,19 +50,19 @@ pub struct Reporter<S, O, K> {
 pub struct ReportsFrom<S, O, K>(pub Snapshot<Reporter<S, O, K>>);
 
 impl<const N: usize, L: StationName, S: Sink, T: Sink, A: Write> Promise<
-    ReporterResult<Seat<N, L>, S, Beside<T, A>>,
-> for ReportsFrom<Seat<N, L>, S, Beside<T, A>> {
+    ReporterResult<Seat<N, L>, Printer<S, A>, Beside<T, A>>,
+> for ReportsFrom<Seat<N, L>, Printer<S, A>, Beside<T, A>> {
     ghost use Rattle.station_reporter.specs.Reporter.{HasReported};
 
-    ghost kept_by = { λ given reported. HasReported S.state (λ b. b.record) L.start given.0.value reported };
+    ghost kept_by = { λ given reported. HasReported (λ b. b.record) L.start given.0.value reported };
 }
 
 /// Ticks, prints the table and records it each time that it is due, in milliseconds since `start`.
-/// Between tables it ticks alone, if ticks are asked for. Ends when all receivers have ended, a write of the output failed,
-/// or the journal has enough entries for the station to hand over: then it ticks alone once more, and asks for the end of
-/// all portions. Where the end of the run was asked for, it asks for that end too, and the station doesn't hand over. Answers
-/// the seat, the sink, which has taken the tables of its looks and nothing else, and what is written beside: the record has gone
-/// on with what these looks saw. Limits that calls have met are reported at once.
+/// Between tables it ticks alone, if ticks are asked for. Ends when all receivers have ended, a table failed without which
+/// the run doesn't go on, or the journal has enough entries for the station to hand over: then it ticks alone once more, and
+/// asks for the end of all portions. Where the end of the run was asked for, it asks for that end too, and the station doesn't
+/// hand over. Answers the seat, the output, which has taken the tables of its looks and nothing else, and what is written
+/// beside: the record has gone on with what these looks saw. Limits that calls have met are reported at once.
 pub fn report<
     const N: usize,
     L: StationName,
@@ -78,16 +76,19 @@ pub fn report<
     ended: &Bell,
     requests: &Requests,
     start: Option<Instant>,
-    reporter: Reporter<Seat<N, L>, S, Beside<T, A>>,
-) -> ReporterResult<Seat<N, L>, S, Beside<T, A>>
+    reporter: Reporter<Seat<N, L>, Printer<S, A>, Beside<T, A>>,
+) -> ReporterResult<Seat<N, L>, Printer<S, A>, Beside<T, A>>
     ensures { ReportsByAClock L.start reporter.duties result.due result.asked_at reporter.seat result.seat
-        (S.state reporter.out) (S.state result.out) reporter.beside.record result.beside.record result.has_failed }
+        reporter.out result.out reporter.beside.record result.beside.record }
 {
     let duties = reporter.duties;
     let mut moments = ElapsedClock { rt, start };
     let (mut reported, is_full) = report_at(rt, station, ended, requests, reporter, &mut moments);
     if !is_full {
-        end_if(requests, duties.ends_with_output && reported.has_failed);
+        end_if(
+            requests,
+            duties.ends_with_output && reported.out.is_broken(),
+        );
         await_end(rt, ended, requests);
         return reported;
     }
@@ -136,20 +137,23 @@ fn report_at<
     station: &Station<N, L>,
     ended: &Bell,
     requests: &Requests,
-    reporter: Reporter<Seat<N, L>, S, Beside<T, A>>,
+    reporter: Reporter<Seat<N, L>, Printer<S, A>, Beside<T, A>>,
     moments: &mut M,
-) -> (ReporterResult<Seat<N, L>, S, Beside<T, A>>, bool)
+) -> (
+    ReporterResult<Seat<N, L>, Printer<S, A>, Beside<T, A>>,
+    bool,
+)
     ensures reports { (given : List ℕ) × Appends (M.given moments.old) (M.given moments.new) given
         × Reports L.start reporter.duties.tables reporter.duties.due result.0.due given reporter.seat result.0.seat
-        (S.state reporter.out) (S.state result.0.out) reporter.beside.record result.0.beside.record result.0.has_failed }
+        reporter.out result.0.out reporter.beside.record result.0.beside.record }
     ensures full { result.1 ≡ true → reporter.duties.hand_over_at ≤ length result.0.seat.seen }
-    ensures well { result.1 ≡ true → result.0.has_failed ≡ false }
+    ensures well { result.1 ≡ true → is_broken result.0.out ≡ false }
     ensures asked { result.0.asked_at ≡ None }
 {
     let duties = reporter.duties;
     let (mut reported, mut now) = (begin(reporter), 0);
     for _ in rt.forever() {
-        if reported.has_failed || ended.has_rung() {
+        if reported.out.is_broken() || ended.has_rung() {
             break;
         }
         reported.beside.report_limits(station.limits_met());
@@ -171,7 +175,6 @@ fn begin<S, O, K>(reporter: Reporter<S, O, K>) -> ReporterResult<S, O, K>
     ensures seat { result.seat ≡ reporter.seat }
     ensures out { result.out ≡ reporter.out }
     ensures beside { result.beside ≡ reporter.beside }
-    ensures failed { result.has_failed ≡ false }
     ensures due { result.due ≡ reporter.duties.due }
     ensures asked { result.asked_at ≡ None }
 {
@@ -179,7 +182,6 @@ fn begin<S, O, K>(reporter: Reporter<S, O, K>) -> ReporterResult<S, O, K>
         seat: reporter.seat,
         out: reporter.out,
         beside: reporter.beside,
-        has_failed: false,
         due: reporter.duties.due,
         asked_at: None,
     }
@@ -199,9 +201,9 @@ fn do_act<
     ended: &Bell,
     format: Format,
     act: Act,
-    mut reported: ReporterResult<Seat<N, L>, S, Beside<T, A>>,
-) -> ReporterResult<Seat<N, L>, S, Beside<T, A>>
-    ensures { DoesAct S.state (λ b. b.record) format L.start act reported result }
+    mut reported: ReporterResult<Seat<N, L>, Printer<S, A>, Beside<T, A>>,
+) -> ReporterResult<Seat<N, L>, Printer<S, A>, Beside<T, A>>
+    ensures { DoesAct (λ b. b.record) format L.start act reported result }
 {
     match act {
         Act::Sleep(pause) => ended.rest(rt, pause),
@@ -213,9 +215,7 @@ fn do_act<
             let _ = station.tick(rt, &mut reported.seat, at);
             let seat = reported.seat;
             let (out, beside) = (&mut reported.out, &mut reported.beside);
-            let (seat, written) = print_and_record(rt, station, seat, format, out, beside);
-            reported.seat = seat;
-            reported.has_failed = written.is_err();
+            reported.seat = print_and_record(rt, station, seat, format, out, beside);
             reported.due = next_due;
         }
     }
@@ -236,8 +236,9 @@ fn count<const N: usize, L: StationName>(seat: Seat<N, L>) -> (Seat<N, L>, u64)
     }
 }
 
-/// Prints the table as the seat sees it, in this format, and hands the seat back. Then it records what was seen, if there is
-/// a record, and puts the table where displays find it, if that is asked. A refused look prints and records nothing.
+/// Prints the table as the seat sees it, in this format, unless one failed before, and hands the seat back. Then it records
+/// what was seen, if there is a record, and puts the table where displays find it, if that is asked. Does nothing of this
+/// where the look is refused, or a table failed without which the run doesn't go on.
 pub fn print_and_record<
     const N: usize,
     L: StationName,
@@ -250,36 +251,23 @@ pub fn print_and_record<
     station: &Station<N, L>,
     seat: Seat<N, L>,
     format: Format,
-    out: &mut S,
+    out: &mut Printer<S, A>,
     beside: &mut Beside<T, A>,
-) -> (Seat<N, L>, Result<(), WriteFault>)
-    ensures { PrintsAndRecords format L.start seat result.0 (S.state out.old)
-        (S.state out.new) beside.old.record beside.new.record result.1 }
+) -> Seat<N, L>
+    ensures { PrintsAndRecords format L.start seat result out.old out.new beside.old.record beside.new.record }
 {
+    if out.is_broken() {
+        return seat;
+    }
     match seat.look() {
         Ok(look) => {
             let count = look.entries();
             let for_displays = table_for(&beside.displays, &look);
-            let (seat, written) = write_table(look, format, out);
+            let seat = out.print(look, format);
             record_look(&mut beside.record, rt, station, &seat, count);
             put_table(&mut beside.displays, rt, for_displays);
-            (seat, written)
+            seat
         }
-        Err(seat) => (seat, Ok(())),
+        Err(seat) => seat,
     }
-}
-
-// Writes the table of a look, ends the look, and then flushes. If the buffer has room for a table, output that waits
-// blocks no receiver.
-fn write_table<const N: usize, L: StationName, S: Sink>(
-    look: Look<N, L>,
-    format: Format,
-    out: &mut S,
-) -> (Seat<N, L>, Result<(), WriteFault>)
-    ensures seat { result.0 ≡ look }
-    ensures takes { TakesAll (S.state out.old) (S.state out.new) (text_of format L.start look.seen) result.1 }
-{
-    let written = table_as(format, &look, look.now(), look.entries(), out);
-    let seat = look.done();
-    (seat, flush_after(written, out))
 }

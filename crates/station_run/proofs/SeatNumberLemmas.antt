@@ -1,15 +1,13 @@
 -- The numbers of a round's seats: the reporter's seat keeps its own, and the numbers of all are their places.
-use Rattle.std.proofs.Common.{zero, suc, ◌≡◌, ◌∙◌, ℕ, ◌+◌, ◌<◌, ◌≤◌, ◌≢◌, Bool, true, false, cond, eqb, ◌⊎◌, inl, inr, ⊎_elim, List, [], ◌∷◌, Option, Some, None, Result, length, get_or, refl, ap, arith, IfSome, count_by, unwrap_or}
+use Rattle.std.proofs.Common.{zero, suc, ◌≡◌, ◌∙◌, ℕ, ◌+◌, ◌<◌, ◌≤◌, ◌≢◌, Bool, true, false, cond, eqb, ◌⊎◌, inl, inr, ⊎_elim, List, [], ◌∷◌, Option, Some, None, length, get_or, refl, ap, arith, IfSome, count_by, unwrap_or}
 use Rattle.std.specs.List.{AllByRecursion}
 use Rattle.std.proofs.lemmas.Bool.Decides.{eqb_tells}
 use Rattle.std.proofs.lemmas.List.Sums.{sum_by-cons}
-use Rattle.streams.specs.Sink.{SinkState}
 use native.Mathlib.Decide.{dec_lt}
 use Rattle.station_history.specs.Start.{Start}
 use Rattle.station_shared.proofs.Common.{EachOnce, Seated, Looks}
 use Rattle.station_report.specs.declared.formats.Format.{Format}
-use Rattle.streams.specs.declared.sinks.WriteFault.{WriteFault}
-use Rattle.station_reporter.proofs.Common.{PrintsAndRecords, Recording, IsLater, MayHandOver, ReportsByAClock, Showing, Showings, Ticks, seat_after}
+use Rattle.station_reporter.proofs.Common.{PrintsAndRecords, Printing, Recording, IsLater, MayHandOver, ReportsByAClock, Showing, Showings, Ticks, is_broken, seat_after}
 use Rattle.station_reporter.specs.declared.duties.Duties.{Duties}
 use Rattle.station_reporter.specs.declared.schedule.Due.{Due}
 use Rattle.station_reporter.specs.declared.reporter.ReporterResult.{ReporterResult}
@@ -36,24 +34,24 @@ later_number : (start : Start) (old new : Seated) → IsLater start old new → 
 later_number start old new (inl same) = ap (λ (s : Seated). s.number) same
 later_number start old new (inr looks) = looks.number
 
-hand_over_number : (start : Start) (duties : Duties) (asked_at : Option ℕ) (due next : Due) (old new : Seated) (has_failed : Bool) → MayHandOver start duties asked_at due next old new has_failed → new.number ≡ old.number
-hand_over_number start duties None due next old new has_failed is = ap (λ (s : Seated). s.number) is.0
-hand_over_number start duties (Some at) due next old new has_failed is = ticks_number start old new at is.ticks
+hand_over_number : (start : Start) (duties : Duties) (asked_at : Option ℕ) (due next : Due) (old new : Seated) (broken : Bool) → MayHandOver start duties asked_at due next old new broken → new.number ≡ old.number
+hand_over_number start duties None due next old new broken is = ap (λ (s : Seated). s.number) is.0
+hand_over_number start duties (Some at) due next old new broken is = ticks_number start old new at is.ticks
 
-pub reporter_numbered : (start : Start) (duties : Duties) (next : Due) (asked_at : Option ℕ) (old new : Seated) (before after : SinkState) (was is : Option Recording) (has_failed : Bool)
-    → ReportsByAClock start duties next asked_at old new before after was is has_failed → new.number ≡ old.number
-reporter_numbered start duties next asked_at old new before after was is has_failed by_clock =
-    hand_over_number start duties asked_at by_clock.due next by_clock.mid new has_failed by_clock.hands_over
+pub reporter_numbered : (start : Start) (duties : Duties) (next : Due) (asked_at : Option ℕ) (old new : Seated) (before after : Printing) (was is : Option Recording)
+    → ReportsByAClock start duties next asked_at old new before after was is → new.number ≡ old.number
+reporter_numbered start duties next asked_at old new before after was is by_clock =
+    hand_over_number start duties asked_at by_clock.due next by_clock.mid new (is_broken after) by_clock.hands_over
     ∙ later_number start by_clock.reports.shown by_clock.mid by_clock.reports.later
     ∙ showings_number start old by_clock.reports.shown by_clock.reports.showings by_clock.reports.keeps.walk
 
-pub last_numbered : {O K : Type 0} (state : O → SinkState) (record_of : K → Option Recording) (format : Format) (start : Start) (none : Bool) (old new : ReporterResult Seated O K) → PrintsLast state record_of format start none old new → new.seat.number ≡ old.seat.number
-last_numbered state record_of format start true old new same = ap (λ (r : ReporterResult Seated _ _). r.seat.number) same
-last_numbered state record_of format start false old new (result, prints, failed, due, asked) = printed_number format start old.seat new.seat (state old.out) (state new.out) (record_of old.beside) (record_of new.beside) result prints
+pub last_numbered : {K : Type 0} (record_of : K → Option Recording) (format : Format) (start : Start) (none : Bool) (old new : ReporterResult Seated Printing K) → PrintsLast record_of format start none old new → new.seat.number ≡ old.seat.number
+last_numbered record_of format start true old new same = ap (λ (r : ReporterResult Seated Printing _). r.seat.number) same
+last_numbered record_of format start false old new (prints, due, asked) = printed_number format start old.seat new.seat old.out new.out (record_of old.beside) (record_of new.beside) prints
   where
-    printed_number : (format : Format) (start : Start) (old new : Seated) (before after : SinkState) (was is : Option Recording) (result : Result (Unit {0}) WriteFault) → PrintsAndRecords format start old new before after was is result → new.number ≡ old.number
-    printed_number format start old new before after was is result (inl prints) = prints.0.looks.number
-    printed_number format start old new before after was is result (inr passes) = ap (λ (s : Seated). s.number) passes.0.same_seat
+    printed_number : (format : Format) (start : Start) (old new : Seated) (before after : Printing) (was is : Option Recording) → PrintsAndRecords format start old new before after was is → new.number ≡ old.number
+    printed_number format start old new before after was is (inl prints) = prints.0.looks.number
+    printed_number format start old new before after was is (inr passes) = ap (λ (s : Seated). s.number) passes.0.same_seat
 
 -- ---- seats whose numbers are their places
 

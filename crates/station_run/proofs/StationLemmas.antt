@@ -1,7 +1,6 @@
 -- Stations of the job `run`: what a reporter has shown, and how one follows another.
-use Rattle.std.proofs.Common.{rules, ◌≡◌, ◌∙◌, ◌⊎◌, inl, inr, ℕ, zero, suc, ◌+◌, ◌<◌, ◌&&◌, ◌||◌, Bool, true, false, List, [], ◌∷◌, ◌++◌, Option, Some, None, Result, flat_map, fold, is_err, is_some, length, map, max, string_bytes, append-nil, refl, sym, ap, subst, reverse, arith}
+use Rattle.std.proofs.Common.{rules, ◌≡◌, ◌∙◌, ◌⊎◌, inl, inr, ℕ, ◌&&◌, ◌||◌, Bool, true, false, List, [], ◌∷◌, ◌++◌, Option, Some, None, Result, flat_map, fold, is_some, length, map, max, string_bytes, append-nil, refl, sym, ap, subst, reverse, arith}
 use Rattle.streams.specs.Source.{SourceState}
-use Rattle.streams.specs.Sink.{SinkState}
 use Rattle.station_journal.specs.declared.entry.Entry.{Entry}
 use Rattle.station_journal.specs.declared.limits.Limits.{Limits}
 use Rattle.station_journal.proofs.Common.{Site, IsSound, recent_base, IsLegal}
@@ -18,14 +17,14 @@ use Rattle.messages.specs.declared.faults.Fault.TheVariants as fault
 use Rattle.station_paths.specs.Faults.{IsUnopened}
 use Rattle.station_run.specs.Stations.{CannotStart, ClosesOutput, IsBlank, NoRoundAfter}
 use Rattle.station_run.proofs.ReceiverLemmas.{pumped-take}
-use Rattle.station_reporter.proofs.Common.{IfRecording, Recording, Records, seen_by, MayHandOver, ReportsByAClock, looks_of, TakesTexts}
+use Rattle.station_reporter.proofs.Common.{IfRecording, Recording, Records, seen_by, MayHandOver, Printing, ReportsByAClock, is_broken, looks_of, TakesTexts}
 use Rattle.station_reporter.proofs.RecordedLemmas.{one-more-look}
 use Rattle.station_reporter.proofs.ReportLemmas.{printed_at_most}
 use Rattle.station_reporter.specs.declared.duties.Duties.{Duties}
 use Rattle.station_reporter.specs.declared.schedule.Due.{Due}
 use Rattle.station_reporter.specs.declared.reporter.ReporterResult.{ReporterResult}
 use Rattle.station_paths.proofs.Common.{AllTakeFrom, GaveAllBut, unfinished_status}
-use Rattle.station_run.proofs.Common.{AreRead, Begun, BeginsRound, Closing, EndsEarly, EndsRound, EndsRun, Leaves, HandsOver, Follows, GoesOn, IsLost, KeepsRecent, LastLook, Left, PrintsLast, RoundStart, RunEnd, RunPlan, RunsFrom, RunsOn, RunsStation, Shows, Station, Streams, may_go_on, program_limits}
+use Rattle.station_run.proofs.Common.{AreRead, Begun, BeginsRound, EndsEarly, EndsRound, EndsRun, Leaves, HandsOver, Follows, GoesOn, IsLost, KeepsRecent, LastLook, Left, PrintsLast, RoundStart, RunEnd, RunPlan, RunsFrom, RunsStation, Shows, Station, Streams, may_go_on, program_limits}
 
 -- ---- what is kept of a station
 
@@ -60,18 +59,18 @@ one_look station mid new None (inr p) = absurd (search rules)
 one_look station mid new (Some l) (inl p) = absurd (search rules)
 one_look station mid new (Some l) (inr p) = let same : new ≡ l = cc in (Some l, refl, sym same, subst (λ s. Looks station mid s) same p.1)
 
-none_failed : (hands failed : Bool) → false ≡ (hands || failed) → failed ≡ false
-none_failed false false e = refl
-none_failed true failed e = absurd (search rules)
-none_failed false true e = absurd (search rules)
+none_broken : (hands broken : Bool) → false ≡ (hands || broken) → broken ≡ false
+none_broken false false e = refl
+none_broken true broken e = absurd (search rules)
+none_broken false true e = absurd (search rules)
 
-module _ {O K : Type 0} (state : O → SinkState) (record_of : K → Option Recording) (begun : Begun) (start : Start) (receivers : List Seated) (journal : List Entry) (counted answers : List (Result Tally PumpFault)) (sources : List SourceState)
-    (hands_over : Bool) (before : SinkState) (was : Option Recording) (err : Told) where
+module _ {K : Type 0} (record_of : K → Option Recording) (begun : Begun) (start : Start) (receivers : List Seated) (journal : List Entry) (counted answers : List (Result Tally PumpFault)) (sources : List SourceState)
+    (hands_over : Bool) (before : Printing) (was : Option Recording) (err : Told) where
   -- a station that leaves what its reporter does
-  abbrev pub reported : ReporterResult Seated O K → Station
+  abbrev pub reported : ReporterResult Seated Printing K → Station
   reported report = record {
     begun = begun;
-    old = record { out = before.taken; recording = was; err = err };
+    old = record { out = before; recording = was; err = err };
     left = record {
       rounds_left = begun.rounds_left;
       duties = begun.duties;
@@ -82,15 +81,15 @@ module _ {O K : Type 0} (state : O → SinkState) (record_of : K → Option Reco
       due = report.due;
       sources = sources;
       answers = answers;
-      has_failed = report.has_failed;
+      is_broken = is_broken report.out;
     };
-    new = record { out = (state report.out).taken; recording = record_of report.beside; err = err };
+    new = record { out = report.out; recording = record_of report.beside; err = err };
   }
 
-  abbrev HasShown : ReporterResult Seated O K → Type 0
-  HasShown report = ReportsByAClock start begun.duties report.due report.asked_at (newcomer begun.given.entries (length begun.sources)) report.seat before (state report.out) was (record_of report.beside) report.has_failed
+  abbrev HasShown : ReporterResult Seated Printing K → Type 0
+  HasShown report = ReportsByAClock start begun.duties report.due report.asked_at (newcomer begun.given.entries (length begun.sources)) report.seat before report.out was (record_of report.beside)
 
-  shows-none : (report : ReporterResult Seated O K) → true ≡ (hands_over || report.has_failed) → hands_over ≡ (is_some report.asked_at && may_go_on sources counted) → HasShown report → Shows (reported report)
+  shows-none : (report : ReporterResult Seated Printing K) → true ≡ (hands_over || is_broken report.out) → hands_over ≡ (is_some report.asked_at && may_go_on sources counted) → HasShown report → Shows (reported report)
   shows-none report none hands by_clock =
       let reports = by_clock.reports in
       let looks = looks_of reports.showings in
@@ -102,55 +101,57 @@ module _ {O K : Type 0} (state : O → SinkState) (record_of : K → Option Reco
         looked = by_clock.mid;
         later = reports.later;
         asked_at = report.asked_at;
-        failed_before = report.has_failed;
+        broken_before = is_broken report.out;
         mid = report.seat;
-        asks = subst (λ due. MayHandOver start begun.duties report.asked_at due report.due by_clock.mid report.seat report.has_failed) reports.next_is by_clock.hands_over;
+        asks = subst (λ due. MayHandOver start begun.duties report.asked_at due report.due by_clock.mid report.seat (is_broken report.out)) reports.next_is by_clock.hands_over;
         hands_over = hands;
         last = [];
         looks = subst (λ (b : Bool). LastLook start report.seat report.seat b []) none (refl, refl);
-        failed = λ _. refl;
-        takes = subst (λ ls. TakesTexts begun.duties.tables.format start ls before.taken (state report.out).taken report.has_failed) (sym (append-nil looks)) reports.takes;
+        broken = λ _. refl;
+        is_broken = refl;
+        takes = subst (λ ls. TakesTexts begun.duties.tables.format start ls before report.out) (sym (append-nil looks)) reports.takes;
         records = subst (λ (ls : List (Option Seated)). IfRecording (Records (seen_by ls)) was (record_of report.beside)) (sym (append-nil looks)) reports.records;
       }
 
-  shows-last : (report last : ReporterResult Seated O K) → false ≡ (hands_over || report.has_failed) → hands_over ≡ (is_some report.asked_at && may_go_on sources counted) → HasShown report
-      → PrintsLast state record_of begun.duties.tables.format start false report last → Shows (reported last)
-  shows-last report last none hands by_clock (result, prints, failed_is, due_is, asked_is) =
-      let well : report.has_failed ≡ false = none_failed hands_over report.has_failed none in
-      let well_clock = subst (λ (b : Bool). ReportsByAClock start begun.duties report.due report.asked_at (newcomer begun.given.entries (length begun.sources)) report.seat before (state report.out) was (record_of report.beside) b) well by_clock in
-      let reports = well_clock.reports in
+  shows-last : (report last : ReporterResult Seated Printing K) → false ≡ (hands_over || is_broken report.out) → hands_over ≡ (is_some report.asked_at && may_go_on sources counted) → HasShown report
+      → PrintsLast record_of begun.duties.tables.format start false report last → Shows (reported last)
+  shows-last report last none hands by_clock (prints, due_is, asked_is) =
+      let well : is_broken report.out ≡ false = none_broken hands_over (is_broken report.out) none in
+      let reports = by_clock.reports in
       let looks = looks_of reports.showings in
-      let p = printed_at_most begun.duties.tables.format start looks report.seat last.seat before (state report.out) (state last.out) (record_of report.beside) (record_of last.beside) result reports.takes reports.failures prints in
+      let p = printed_at_most begun.duties.tables.format start looks report.seat last.seat before report.out last.out (record_of report.beside) (record_of last.beside) reports.takes well prints in
+      let asks = subst (λ (b : Bool). MayHandOver start begun.duties report.asked_at by_clock.due report.due by_clock.mid report.seat b) well by_clock.hands_over in
       record {
-        moments = well_clock.moments;
+        moments = by_clock.moments;
         showings = reports.showings;
         shown = reports.shown;
         keeps = reports.keeps;
-        looked = well_clock.mid;
+        looked = by_clock.mid;
         later = reports.later;
         asked_at = report.asked_at;
-        failed_before = false;
+        broken_before = false;
         mid = report.seat;
-        asks = subst (λ due. MayHandOver start begun.duties report.asked_at due last.due well_clock.mid report.seat false) reports.next_is
-            (subst (λ due. MayHandOver start begun.duties report.asked_at well_clock.due due well_clock.mid report.seat false) (sym due_is) well_clock.hands_over);
+        asks = subst (λ due. MayHandOver start begun.duties report.asked_at due last.due by_clock.mid report.seat false) reports.next_is
+            (subst (λ due. MayHandOver start begun.duties report.asked_at by_clock.due due by_clock.mid report.seat false) (sym due_is) asks);
         hands_over = hands;
         last = p.look ∷ [];
         looks = subst (λ (b : Bool). LastLook start report.seat last.seat b (p.look ∷ [])) (none ∙ ap (λ (b : Bool). hands_over || b) well) (one_look start report.seat last.seat p.look p.looked);
-        failed = λ none_is. absurd (let bad : false ≡ true = none ∙ ap (λ (b : Bool). hands_over || b) well ∙ none_is in search rules);
-        takes = subst (λ (b : Bool). TakesTexts begun.duties.tables.format start (looks ++ p.look ∷ []) before.taken (state last.out).taken b) (sym failed_is) p.takes;
+        broken = λ none_is. absurd (let bad : false ≡ true = none ∙ ap (λ (b : Bool). hands_over || b) well ∙ none_is in search rules);
+        is_broken = refl;
+        takes = p.takes;
         records = one-more-look looks p.look was (record_of report.beside) (record_of last.beside) reports.records p.records;
       }
 
-  pub shows : (report last : ReporterResult Seated O K) (none : Bool) → none ≡ (hands_over || report.has_failed) → hands_over ≡ (is_some report.asked_at && may_go_on sources counted) → HasShown report
-      → PrintsLast state record_of begun.duties.tables.format start none report last → Shows (reported last)
+  pub shows : (report last : ReporterResult Seated Printing K) (none : Bool) → none ≡ (hands_over || is_broken report.out) → hands_over ≡ (is_some report.asked_at && may_go_on sources counted) → HasShown report
+      → PrintsLast record_of begun.duties.tables.format start none report last → Shows (reported last)
   shows report last true none hands by_clock prints = subst (λ r. Shows (reported r)) (sym prints) (shows-none report none hands by_clock)
   shows report last false none hands by_clock prints = shows-last report last none hands by_clock prints
 
 -- the same of a seat that equals the one that it began with
-pub reports_from : (start : Start) (duties : Duties) (due : Due) (asked_at : Option ℕ) (old first new : Seated) (before after : SinkState) (was is : Option Recording) (has_failed : Bool) → old ≡ first
-    → ReportsByAClock start duties due asked_at old new before after was is has_failed → ReportsByAClock start duties due asked_at first new before after was is has_failed
-reports_from start duties due asked_at old first new before after was is has_failed same by_clock =
-    subst (λ (s : Seated). ReportsByAClock start duties due asked_at s new before after was is has_failed) same by_clock
+pub reports_from : (start : Start) (duties : Duties) (due : Due) (asked_at : Option ℕ) (old first new : Seated) (before after : Printing) (was is : Option Recording) → old ≡ first
+    → ReportsByAClock start duties due asked_at old new before after was is → ReportsByAClock start duties due asked_at first new before after was is
+reports_from start duties due asked_at old first new before after was is same by_clock =
+    subst (λ (s : Seated). ReportsByAClock start duties due asked_at s new before after was is) same by_clock
 
 -- ---- one station after another
 
@@ -207,8 +208,8 @@ leaves_by has_displays ends other after err_new status leaves so = record {
 -- a round that is over, once it is printed what was counted, and which paths weren't read to their ends
 pub round_over : (asked : RunPlan) (left : Left) (paths : List (List ℕ)) (known : List (Option (List ℕ))) (stopped : Bool) (err_old err_mid err_new : Told) (told status : ℕ)
     → left.hands_over ≡ false → (stopped ≡ true → is_some asked.stop ≡ true) → asked.paths ≡ paths → asked.known ≡ known
-    → Tells err_old err_mid (flat_map pump_lines left.answers ++ output_lines left.has_failed)
-    → told ≡ max (fold (λ worst answer. max worst (status_of answer)) 0 left.answers) (fault_status left.has_failed)
+    → Tells err_old err_mid (flat_map pump_lines left.answers ++ output_lines left.is_broken)
+    → told ≡ max (fold (λ worst answer. max worst (status_of answer)) 0 left.answers) (fault_status left.is_broken)
     → (unfinished : List (List ℕ)) × GaveAllBut stopped paths known left.sources unfinished × Tells err_mid err_new (unfinished_lines told unfinished) × (status ≡ max told (unfinished_status unfinished))
     → (round : EndsRound asked left err_old err_new status) × (round.stopped ≡ stopped)
 round_over asked left paths known stopped err_old err_mid err_new told status stays may_stop named known_is counts told_is ended = (
@@ -237,9 +238,9 @@ ends_well asked left err_old err_new (suc status) none round goes_on = absurd (o
 -- the end after the last round
 pub over : (asked : RunPlan) (left : Left) (old : Streams) (err_round err_mid err_new : Told) (of_round told : ℕ) (after : Option (Option (List ℕ))) (status : ℕ)
     → (round : EndsRound asked left old.err err_round of_round) → NoRoundAfter left.rounds_left round.stopped err_round err_mid of_round told
-    → ClosesOutput asked.has_displays old.out left.has_failed old.recording err_mid err_new told after status → Leaves asked.has_displays (EndsRun asked left old) after err_new status
+    → ClosesOutput asked.has_displays old.out.taken old.out.has_failed old.recording err_mid err_new told after status → Leaves asked.has_displays (EndsRun asked left old) after err_new status
 over asked left old err_round err_mid err_new of_round told after status round no_more closes = record {
-  end = record { out = after; recording = old.recording; err = err_new; status = max told (fault_status closes.has_failed) };
+  end = record { out = after; recording = old.recording; err = err_new; status = max told (fault_status (old.out.has_failed || closes.has_failed)) };
   ends_so = inl (record {
     err_round = err_round;
     of_round = of_round;
@@ -250,6 +251,7 @@ over asked left old err_round err_mid err_new of_round told after status round n
     output = closes.output;
     out = closes.out;
     has_failed = closes.has_failed;
+    once = closes.once;
     gives = closes.gives;
     told_too = closes.told;
     recording = refl;

@@ -1,13 +1,11 @@
 -- What the threads of a station of the job `run` leave, and how it is closed.
-use Rattle.std.specs.Prelude.{◌≡◌, ◌⊎◌, ℕ, ◌+◌, ◌<◌, ◌&&◌, Bool, true, false, not, List, [], ◌∷◌, ◌++◌, All, Option, IfSome, Result, Ok, Err, length, map, slice_index_or, is_err, is_some, fold, max, unwrap_or, Contains, ⊤}
-use Rattle.std.specs.List.{flat_map, list_any}
+use Rattle.std.specs.Prelude.{◌≡◌, ◌⊎◌, ℕ, ◌+◌, ◌<◌, ◌&&◌, Bool, true, false, not, List, [], ◌∷◌, All, Option, IfSome, Result, Ok, Err, length, map, slice_index_or, is_some, unwrap_or, Contains, ⊤}
+use Rattle.std.specs.List.{list_any}
 use Rattle.std.specs.Option.{option_map_or}
 use Rattle.streams.specs.Source.{SourceState}
-use Rattle.streams.specs.Sink.{SinkState}
 use Rattle.clap.specs.Words.{Text}
 use Rattle.station_journal.specs.declared.entry.Entry.{Entry}
 use Rattle.station_report.specs.declared.formats.Format.{Format}
-use Rattle.streams.specs.declared.sinks.WriteFault.{WriteFault}
 use Rattle.station_portions.specs.Giving.{state_of}
 use Rattle.station_portions.specs.declared.portions.Portions.{Portions}
 use Rattle.station_history.specs.Start.{Start}
@@ -18,17 +16,11 @@ use Rattle.station_lines.specs.declared.pumping.PumpFault.{PumpFault}
 use Rattle.station_lines.specs.declared.pumping.PumpFault.TheVariants as pump
 use Rattle.station_lines.specs.declared.tally.Tally.{Tally}
 use Rattle.station_run.specs.Limits.{most_reads}
-use Rattle.station_run.specs.Output.{GivesBack}
 use Rattle.station_reporter.specs.declared.reporter.ReporterResult.{ReporterResult}
-use Rattle.station_reporter.specs.Recorded.{IfRecording, PrintsAndRecords, Recording, Records, seen_by}
-use Rattle.station_reporter.specs.Reporter.{IsLater, KeepsTime, MayHandOver, Showing, due_after, looks_of}
-use Rattle.messages.specs.Status.{fault_status, status_of}
-use Rattle.station_reporter.specs.Tables.{TakesTexts}
-use Rattle.messages.specs.Telling.{Tells, Told, fault_line, output_lines, pump_lines}
+use Rattle.station_reporter.specs.Recorded.{PrintsAndRecords, Recording}
+use Rattle.station_reporter.specs.Tables.{Printing}
 use Rattle.messages.specs.declared.faults.Fault.{Fault}
 use Rattle.messages.specs.declared.faults.Fault.TheVariants as fault
-use Rattle.station_reporter.specs.declared.duties.Duties.{Duties}
-use Rattle.station_reporter.specs.declared.schedule.Due.{Due}
 
 -- ---- the receivers
 
@@ -100,11 +92,10 @@ pub record IsClosed (start : Start) (closing : Closing) : Type 0 where
 -- ---- the last table
 
 -- what a reporter leaves after the last table, as its seat sees it; or, where none is printed, as it was
-abbrev pub PrintsLast : {O K : Type 0} → (O → SinkState) → (K → Option Recording) → Format → Start → (none : Bool) → ReporterResult Seated O K → ReporterResult Seated O K → Type 0
-PrintsLast state record_of format start true old new = new ≡ old
-PrintsLast state record_of format start false old new =
-    (result : Result (Unit {0}) WriteFault) × PrintsAndRecords format start old.seat new.seat (state old.out) (state new.out) (record_of old.beside) (record_of new.beside) result
-    × (new.has_failed ≡ is_err result) × (new.due ≡ old.due) × (new.asked_at ≡ old.asked_at)
+abbrev pub PrintsLast : {K : Type 0} → (K → Option Recording) → Format → Start → (none : Bool) → ReporterResult Seated Printing K → ReporterResult Seated Printing K → Type 0
+PrintsLast record_of format start true old new = new ≡ old
+PrintsLast record_of format start false old new =
+    PrintsAndRecords format start old.seat new.seat old.out new.out (record_of old.beside) (record_of new.beside) × (new.due ≡ old.due) × (new.asked_at ≡ old.asked_at)
 
 -- the looks of the seat after the last showing: one, where a last table is printed
 abbrev pub LastLook : Start → Seated → Seated → (none : Bool) → List (Option Seated) → Type 0

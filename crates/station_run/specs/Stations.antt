@@ -21,23 +21,19 @@ use Rattle.station_paths.specs.Inputs.{AllTakeFrom, FailsBetweenLines, GaveAllBu
 use Rattle.station_run.specs.Limits.{forget_at, program_limits}
 use Rattle.station_reporter.specs.Recorded.{IfRecording, IsNewRecord, Recording, Records, RecordsRest, record_status, seen_by}
 use Rattle.messages.specs.Status.{fault_status, status_of}
-use Rattle.station_run.specs.Output.{GivesBack, buffered_of}
+use Rattle.station_run.specs.Output.{GivesBack}
 use Rattle.station_reporter.specs.Reporter.{IsLater, KeepsTime, MayHandOver, Showing, after_table, due_after, looks_of, not_before}
-use Rattle.station_reporter.specs.Tables.{TakesTexts}
+use Rattle.station_reporter.specs.Tables.{Printing, TakesTexts, is_broken}
 use Rattle.station_run.specs.Run.{Closing, HavePumped, IsClosed, LastLook, may_go_on}
 use Rattle.station_paths.specs.Faults.{IsEarly}
 use Rattle.messages.specs.Sums.{AddsEach}
-use Rattle.messages.specs.Telling.{Tells, Told, fault_line, output_lines, pump_lines, unfinished_lines}
+use Rattle.messages.specs.Telling.{Alarmed, Tells, Told, fault_line, output_lines, pump_lines, unfinished_lines}
 use Rattle.messages.specs.declared.faults.Fault.{Fault}
 use Rattle.messages.specs.declared.faults.Fault.TheVariants as fault
 use Rattle.station_reporter.specs.declared.kept.Kept.{Kept}
 use Rattle.station_reporter.specs.declared.duties.Duties.{Duties}
 use Rattle.station_reporter.specs.declared.schedule.Due.{Due}
 use Rattle.station_reporter.specs.declared.schedule.Tables.{Tables}
-use Rattle.std.specs.declared.io.buffered.BufWriter.{BufWriter}
-use Rattle.std.proofs.Common.{Global}
-use Rattle.streams.specs.declared.to_write.ToWrite.{ToWrite}
-use Rattle.station_portions.specs.declared.finished_path.WholePath.{WholePath}
 use Rattle.station_run.specs.declared.next_station.Carried.{Carried}
 use Rattle.station_run.specs.declared.next_station.Next.{Next}
 use Rattle.station_run.specs.declared.next_station.Next.TheVariants as next_is
@@ -65,7 +61,7 @@ pub record RunPlan : Type 0 where
 
 -- what a run writes to: its output, in its buffer and out of it, the record if there is one, and standard error
 pub record Streams : Type 0 where
-  pub out : Option (List ℕ)
+  pub out : Printing
   pub recording : Option Recording
   pub err : Told
 
@@ -119,7 +115,7 @@ pub record Begun : Type 0 where
   pub answers : List (Result Tally PumpFault)
 
 -- what a closed station leaves: how it started, its seats and its journal, what its receivers counted, whether it hands over,
--- what is due next, its sources, the sums of what was counted so far in its round, and whether a write of the output failed
+-- what is due next, its sources, the sums of what was counted so far in its round, and whether the output is broken
 pub record Left : Type 0 where
   pub rounds_left : ℕ
   pub duties : Duties
@@ -130,7 +126,7 @@ pub record Left : Type 0 where
   pub due : Due
   pub sources : List SourceState
   pub answers : List (Result Tally PumpFault)
-  pub has_failed : Bool
+  pub is_broken : Bool
 
 -- a station of a run, and what the run writes to as the station begins and when it is closed
 pub record Station : Type 0 where
@@ -140,7 +136,8 @@ pub record Station : Type 0 where
   pub new : Streams
 
 -- what the reporter of a station has printed and recorded: tables at just those times of a clock at which they are due, and a
--- last one, unless the station hands over or a write failed before; and nothing else, or a front of that if a write failed
+-- last one, unless the station hands over or the output was broken before; and nothing else. The output has a front of that if a
+-- table failed, and the record has all of it
 pub record Shows (station : Station) : Type 0 where
   pub moments : List ℕ
   pub showings : List Showing
@@ -151,15 +148,16 @@ pub record Shows (station : Station) : Type 0 where
   pub later : IsLater station.left.start shown looked
   -- a hand-over may be asked for, and is made just where a path goes on and no answer ends the run
   pub asked_at : Option ℕ
-  pub failed_before : Bool
+  pub broken_before : Bool
   pub mid : Seated
   pub asks : MayHandOver station.left.start station.begun.duties asked_at (due_after station.begun.duties.tables.pace station.begun.duties.due moments)
-      station.left.due looked mid failed_before
+      station.left.due looked mid broken_before
   pub hands_over : station.left.hands_over ≡ (is_some asked_at && may_go_on station.left.sources station.left.counted)
   pub last : List (Option Seated)
-  pub looks : LastLook station.left.start mid station.left.closing.reporter (station.left.hands_over || failed_before) last
-  pub failed : (station.left.hands_over || failed_before) ≡ true → station.left.has_failed ≡ failed_before
-  pub takes : TakesTexts station.begun.duties.tables.format station.left.start (looks_of showings ++ last) station.old.out station.new.out station.left.has_failed
+  pub looks : LastLook station.left.start mid station.left.closing.reporter (station.left.hands_over || broken_before) last
+  pub broken : (station.left.hands_over || broken_before) ≡ true → station.left.is_broken ≡ broken_before
+  pub is_broken : station.left.is_broken ≡ is_broken station.new.out
+  pub takes : TakesTexts station.begun.duties.tables.format station.left.start (looks_of showings ++ last) station.old.out station.new.out
   pub records : IfRecording (Records (seen_by (looks_of showings ++ last))) station.old.recording station.new.recording
 
 -- a station has run: its receivers have pumped the sources, and a source whose read failed has left no begun line; what they
@@ -189,15 +187,16 @@ pub record IsFirst (asked : RunPlan) (begun : Begun) : Type 0 where
   pub many_answers : length begun.answers ≡ length asked.paths
   pub none : All HasNoLines begun.answers
 
--- a round is over: what was counted of each path is printed, with its fault directly after it, and then a failed write. Paths that
--- weren't read to their ends go on, or their reads failed; they are printed where no fault was. Where the status is 0 there are none.
--- A run that has a pipe for it may be stopped: then paths that go on are over too, and aren't printed
+-- a round is over: what was counted of each path is printed, with its fault directly after it, and then a failed write, where the
+-- run doesn't go on without its output. Paths that weren't read to their ends go on, or their reads failed; they are printed where
+-- no fault was. Where the status is 0 there are none. A run that has a pipe for it may be stopped: then paths that go on are over
+-- too, and aren't printed
 pub record EndsRound (asked : RunPlan) (left : Left) (err_old err_new : Told) (status : ℕ) : Type 0 where
   pub stays : left.hands_over ≡ false
   pub err_mid : Told
   pub told : ℕ
-  pub counts : Tells err_old err_mid (flat_map pump_lines left.answers ++ output_lines left.has_failed)
-  pub told_is : told ≡ max (fold (λ worst answer. max worst (status_of answer)) 0 left.answers) (fault_status left.has_failed)
+  pub counts : Tells err_old err_mid (flat_map pump_lines left.answers ++ output_lines left.is_broken)
+  pub told_is : told ≡ max (fold (λ worst answer. max worst (status_of answer)) 0 left.answers) (fault_status left.is_broken)
   pub stopped : Bool
   pub may_stop : stopped ≡ true → is_some asked.stop ≡ true
   pub unfinished : List Text
@@ -260,7 +259,7 @@ NoRoundAfter rounds_left stopped err_old err_new of_round status =
     (((rounds_left ≡ 0) ⊎ ((of_round ≡ 1) ⊎ (stopped ≡ true))) × (err_new ≡ err_old) × (status ≡ of_round))
     ⊎ ((of_round ≡ 0) × Tells err_old err_new (fault_line fault.NoMemory) × (status ≡ 1))
 
--- the last round is over, and the output is out of its buffer. Unless a write failed before, all was written, or a failed write is
+-- the last round is over, and the output is out of its buffer. Unless a table failed before, all was written, or a failed write is
 -- printed
 pub record IsOver (asked : RunPlan) (left : Left) (old : Streams) (end : RunEnd) : Type 0 where
   pub err_round : Told
@@ -272,10 +271,11 @@ pub record IsOver (asked : RunPlan) (left : Left) (old : Streams) (end : RunEnd)
   pub output : Option (List ℕ)
   pub out : end.out ≡ Some output
   pub has_failed : Bool
-  pub gives : GivesBack old.out output (left.has_failed || has_failed)
+  pub once : old.out.has_failed ≡ true → has_failed ≡ false
+  pub gives : GivesBack old.out.taken output (old.out.has_failed || has_failed)
   pub told_too : Tells err_mid end.err (output_lines has_failed)
   pub recording : end.recording ≡ old.recording
-  pub status_is : end.status ≡ max told (fault_status has_failed)
+  pub status_is : end.status ≡ max told (fault_status (old.out.has_failed || has_failed))
 
 -- a further station is to come: this one hands over, or its round is over without a fault, and the run isn't stopped
 abbrev pub GoesOn : RunPlan → Left → (err_old err_new : Told) → Type 0
@@ -324,6 +324,16 @@ pub record StartsNothing (asked : RunPlan) (after : Option (Option (List ℕ))) 
   pub told : Tells err_old err_new (fault_line fault)
   pub status_is : status ≡ 1
 
+-- the output at the start of a run: no table failed; the run goes on without it where a record or displays are asked for
+abbrev pub new_output : RunPlan → (taken alarm : Option (List ℕ)) → Printing
+new_output asked taken alarm = record {
+  taken = taken;
+  failures = 0;
+  has_failed = false;
+  goes_on = is_some asked.file || asked.has_displays;
+  alarm = record { taken = alarm; has_failed = false };
+}
+
 -- the record at the start of a run: blank, where one is asked for
 abbrev pub IsBlank : Option Text → (alarm : Option (List ℕ)) → Option Recording → Type 0
 IsBlank None alarm recording = recording ≡ None
@@ -340,14 +350,14 @@ pub record Leaves (has_displays : Bool) (ends : RunEnd → Type 0) (after : Opti
   pub status_is : status ≡ max (max end.status (record_status end.recording)) (fault_status displays_failed)
 
 -- a run from its first station to its end
-pub record RunsStations (asked : RunPlan) (before : Option (List ℕ)) (after : Option (Option (List ℕ))) (alarm : Option (List ℕ)) (err_old err_new : Told) (status : ℕ) : Type 0 where
+pub record RunsStations (asked : RunPlan) (before : Option (List ℕ)) (after : Option (Option (List ℕ))) (alarm : Alarmed) (err_old err_new : Told) (status : ℕ) : Type 0 where
   pub blank : Option Recording
-  pub is_blank : IsBlank asked.file alarm blank
+  pub is_blank : IsBlank asked.file alarm.of_record blank
   pub stations : List Station
-  pub leaves : Leaves asked.has_displays (Runs asked (record { out = before; recording = blank; err = err_old }) stations) after err_new status
+  pub leaves : Leaves asked.has_displays (Runs asked (record { out = new_output asked before alarm.of_output; recording = blank; err = err_old }) stations) after err_new status
 
 -- what was asked is done
-abbrev pub RunsAsked : RunPlan → Option (List ℕ) → Option (Option (List ℕ)) → Option (List ℕ) → Told → Told → ℕ → Type 0
+abbrev pub RunsAsked : RunPlan → Option (List ℕ) → Option (Option (List ℕ)) → Alarmed → Told → Told → ℕ → Type 0
 RunsAsked asked before after alarm err_old err_new status =
     StartsNothing asked after err_old err_new status ⊎ RunsStations asked before after alarm err_old err_new status
 
@@ -385,9 +395,9 @@ plan_from arguments origin = record {
 abbrev pub start_of : Kept → RoundStart
 start_of kept = record { base = kept.recent.base; entries = kept.recent.entries.items; last_tick = kept.last_tick; site = kept.site }
 
--- what a run writes to, by its output in its buffer
-abbrev pub streams_of : {O : Type 0} → (O → Option (List ℕ)) → ToWrite (BufWriter O Global) → Option Recording → Told → Streams
-streams_of contents out recording err = record { out = (buffered_of contents out).taken; recording = recording; err = err }
+-- what a run writes to
+abbrev pub streams_of : Printing → Option Recording → Told → Streams
+streams_of out recording err = record { out = out; recording = recording; err = err }
 
 -- what a station is begun with
 abbrev pub begun_of : {R I O A : Type 0} → Stage R I O A → Begun
@@ -411,11 +421,11 @@ left_of closed start reporter receivers counted = record {
   due = closed.due;
   sources = map state_of closed.inputs.items;
   answers = closed.answers.items;
-  has_failed = closed.has_failed;
+  is_broken = is_broken closed.out;
 }
 
 -- a station has run, from what it was begun with to what it leaves
-pub record RanTo {R I O A : Type 0} (contents : O → Option (List ℕ)) (stage : Stage R I O A) (closed : StationEnd R I O A) : Type 0 where
+pub record RanTo {R I O A : Type 0} (stage : Stage R I O A) (closed : StationEnd R I O A) : Type 0 where
   pub start : Start
   pub reporter : Seated
   pub receivers : List Seated
@@ -423,9 +433,9 @@ pub record RanTo {R I O A : Type 0} (contents : O → Option (List ℕ)) (stage 
   pub log : closed.journal.log ≡ log_of start closed.journal.log.entries
   pub runs : (err : Told) → RunsStation (record {
     begun = begun_of stage;
-    old = streams_of contents stage.out stage.beside.record err;
+    old = streams_of stage.out stage.beside.record err;
     left = left_of closed start reporter receivers counted;
-    new = streams_of contents closed.out closed.beside.record err;
+    new = streams_of closed.out closed.beside.record err;
   })
   pub paths : closed.paths ≡ stage.paths
 
@@ -440,13 +450,13 @@ pub record AreRead {I : Type 0} (paths : List Text) (threads : List (PathThread 
 abbrev pub IsRoundEnd : {O A : Type 0} → (O → Option (List ℕ)) → RunPlan → Left → Streams → (err_new : Told) → Result (Carried O A) (JobResult O) → Type 0
 IsRoundEnd contents asked left old err_new (Ok carried) =
     (left.rounds_left ≡ carried.rounds_left + 1) × ((round : EndsRound asked left old.err err_new 0) × (round.stopped ≡ false))
-    × KeepsRecent left.start left.closing.journal (start_of carried.kept) old.recording carried.beside.record × ((buffered_of contents carried.out).taken ≡ old.out)
+    × KeepsRecent left.start left.closing.journal (start_of carried.kept) old.recording carried.beside.record × (carried.out ≡ old.out)
 IsRoundEnd contents asked left old err_new (Err ran) = Leaves asked.has_displays (EndsRun asked left old) (option_map contents ran.out) err_new ran.status
 
 -- what comes after a station
 abbrev pub IsNext : {R O A : Type 0} → (O → Option (List ℕ)) → RunPlan → Left → Streams → (err_new : Told) → Next R O A → Type 0
 IsNext contents asked left old err_new (next_is.Station stage) =
-    Follows asked left old (begun_of stage) (streams_of contents stage.out stage.beside.record err_new)
+    Follows asked left old (begun_of stage) (streams_of stage.out stage.beside.record err_new)
     × AreRead asked.paths stage.paths.threads.items (map state_of stage.inputs.items) stage.answers.items
 IsNext contents asked left old err_new (next_is.Over ran) = (ran.status ≤ 1) × Leaves asked.has_displays (EndsRun asked left old) (option_map contents ran.out) err_new ran.status
 
@@ -455,8 +465,9 @@ pub record ClosesOutput (has_displays : Bool) (before : Option (List ℕ)) (fail
   pub output : Option (List ℕ)
   pub out : after ≡ Some output
   pub has_failed : Bool
+  pub once : failed_before ≡ true → has_failed ≡ false
   pub gives : GivesBack before output (failed_before || has_failed)
   pub told : Tells err_old err_new (output_lines has_failed)
   pub displays_failed : Bool
   pub no_displays : has_displays ≡ false → displays_failed ≡ false
-  pub status_is : status ≡ max (max (max so_far (fault_status has_failed)) (record_status recording)) (fault_status displays_failed)
+  pub status_is : status ≡ max (max (max so_far (fault_status (failed_before || has_failed))) (record_status recording)) (fault_status displays_failed)

@@ -1,12 +1,11 @@
 //! What comes after a station: one that it hands over to, the first station of the next round, or the end of the run.
-ghost use Rattle.std.specs.Prelude.{◌≡◌, ◌≤◌, Bool, List, Result, IfErr, IfOk, false, is_some, length, map, option_map, true};
+ghost use Rattle.std.specs.Prelude.{◌≡◌, ◌≤◌, ◌||◌, Bool, List, Result, IfErr, IfOk, false, is_some, length, map, option_map, true};
 ghost use Rattle.std.specs.String.{string_bytes};
 ghost use Rattle.station_history.specs.Start.{Start, log_of};
 ghost use Rattle.station_portions.specs.Giving.{state_of};
 ghost use Rattle.station_lines.specs.declared.pumping.PumpFault.{PumpFault};
 ghost use Rattle.station_lines.specs.declared.tally.Tally.{Tally};
 ghost use Rattle.station_paths.specs.Inputs.{AllTakeFrom};
-ghost use Rattle.station_run.specs.Output.{buffered_of};
 ghost use Rattle.station_paths.specs.Faults.{IsEarly, IsUnstarted};
 ghost use Rattle.station_run.specs.Stations.{AreRead, ClosesOutput, HandsOver, IsFirst, IsNext, IsRoundEnd, KeepsRecent, RunPlan, begun_of, left_of, plan_of, start_of, streams_of};
 ghost use Rattle.messages.specs.Status.{fault_status};
@@ -21,7 +20,9 @@ use crate::stopping::stopped;
 use crate::threads::Output;
 use messages::{Fault, StandardError, tell, tell_end};
 use station_paths::{Host, Opened, PathSystem, Paths, System, open_all, start_all, tell_ends};
-use station_reporter::{Beside, Displays, Duties, Kept, RecordFile, Stop, displays, recorder};
+use station_reporter::{
+    Beside, Displays, Duties, Kept, Printer, RecordFile, Stop, displays, recorder,
+};
 use std::alloc::Global;
 use std::fs::File;
 use std::io::{Read, Write};
@@ -49,7 +50,7 @@ pub struct Carried<O: Write + Drop, A: Write + Drop> {
     pub kept: Kept,
     /// The end of the run, where somebody may ask for it.
     pub stop: Option<Arc<Stop, Global>>,
-    pub out: Output<O>,
+    pub out: Printer<Output<O>, A>,
     pub beside: Beside<Output<RecordFile>, A>,
 }
 
@@ -66,7 +67,7 @@ pub fn next_stage<'a, 'p, R: System, W: PathSystem, O: Write + Drop, A: Write + 
     ensures { (start : Start) (reporter : Seated) (receivers : List Seated) (counted : List (Result Tally PumpFault)) →
         closed.entry.journal.log ≡ log_of start closed.entry.journal.log.entries →
         IsNext O.contents (plan_of asked.entry) (left_of closed.entry start reporter receivers counted)
-        (streams_of O.contents closed.entry.out closed.entry.beside.record (told_of E.contents err.old))
+        (streams_of closed.entry.out closed.entry.beside.record (told_of E.contents err.old))
         (told_of E.contents err.new) result }
 {
     if closed.hands_over {
@@ -142,7 +143,7 @@ fn end_round<
         plan.stop ≡ (plan_of asked.entry).stop →
         closed.entry.journal.log ≡ log_of start closed.entry.journal.log.entries →
         IsRoundEnd O.contents plan (left_of closed.entry start reporter receivers counted)
-        (streams_of O.contents closed.entry.out closed.entry.beside.record (told_of E.contents err.old))
+        (streams_of closed.entry.out closed.entry.beside.record (told_of E.contents err.old))
         (told_of E.contents err.new) result }
 {
     let StationEnd {
@@ -153,28 +154,27 @@ fn end_round<
         inputs,
         answers,
         out,
-        has_failed,
         mut beside,
         ..
     } = closed;
     let Paths { threads, requests } = paths;
     let stopped = stopped(asked, &requests);
-    let told = tell_end(err, &answers, has_failed);
+    let told = tell_end(err, &answers, out.is_broken());
     let status = tell_ends(host.rt, inputs, threads, stopped, told, err);
     if rounds_left == 0 {
-        return Err(end_run(asked, status, out, has_failed, beside, err));
+        return Err(end_run(asked, status, out, beside, err));
     }
     if status > 0 {
-        return Err(end_run(asked, status, out, has_failed, beside, err));
+        return Err(end_run(asked, status, out, beside, err));
     }
     if stopped.is_some() {
-        return Err(end_run(asked, status, out, has_failed, beside, err));
+        return Err(end_run(asked, status, out, beside, err));
     }
     let kept = match keep(host.alloc, &journal, &mut beside) {
         Ok(kept) => kept,
         Err(fault) => {
             let status = tell(err, fault);
-            return Err(end_run(asked, status, out, has_failed, beside, err));
+            return Err(end_run(asked, status, out, beside, err));
         }
     };
     Ok(Carried {
@@ -187,22 +187,23 @@ fn end_round<
     })
 }
 
-// Ends a run: its output comes out of its buffer. The status is the worst of that so far, the record's and the displays'.
+// Ends a run: its output comes out of its buffer. The status is the worst of that so far, the output's, the record's and the
+// displays'.
 fn end_run<O: Write + Drop, A: Write + Drop, E: Write>(
     asked: RunOptions<'_>,
     status: u8,
-    out: Output<O>,
-    has_failed: bool,
+    out: Printer<Output<O>, A>,
     beside: Beside<Output<RecordFile>, A>,
     err: &mut StandardError<E>,
 ) -> JobResult<O>
     requires { status ≤ 1 }
     ensures most { result.status ≤ 1 }
-    ensures closes { ClosesOutput (is_some asked.entry.displays.now) (buffered_of O.contents out).taken has_failed beside.record
+    ensures closes { ClosesOutput (is_some asked.entry.displays.now) out.taken out.has_failed beside.record
         (told_of E.contents err.old) (told_of E.contents err.new) status (option_map (λ left. O.contents left) result.out) result.status }
 {
-    let closed = give_back(out.into_inner(), has_failed, err);
-    let written = write_status(closed.has_failed);
+    let failed_before = out.has_failed();
+    let closed = give_back(out.into_inner().into_inner(), failed_before, err);
+    let written = write_status(failed_before, closed.has_failed);
     let recorded = recorder::status_of(&beside.record);
     let shown = display_status(asked, &beside.displays);
     let with_output = status.max(written);
@@ -213,12 +214,12 @@ fn end_run<O: Write + Drop, A: Write + Drop, E: Write>(
     }
 }
 
-// The status of an output: 1 if a write of it failed.
-fn write_status(has_failed: bool) -> u8
-    ensures value { result ≡ fault_status has_failed }
+// The status of an output: 1 if a table failed, or the last write.
+fn write_status(failed_before: bool, has_failed: bool) -> u8
+    ensures value { result ≡ fault_status (failed_before || has_failed) }
     ensures most { result ≤ 1 }
 {
-    if has_failed { 1 } else { 0 }
+    if failed_before || has_failed { 1 } else { 0 }
 }
 
 // The status of the tables for displays: 1 if a write of them failed. It is 0 where none are asked for.

@@ -1,5 +1,5 @@
 //! The output of a job, out of its buffer.
-ghost use Rattle.std.specs.Prelude.{◌≡◌, ◌||◌, None, true};
+ghost use Rattle.std.specs.Prelude.{◌≡◌, ◌||◌, None, false, true};
 ghost use Rattle.std.specs.Io.Buffered.{writer_contents};
 ghost use Rattle.station_run.specs.Output.{GivesBack};
 ghost use Rattle.messages.specs.Telling.{Tells, fault_line, output_lines, told_of};
@@ -43,6 +43,7 @@ pub fn give_back<O: Write + Drop, E: Write>(
     failed_before: bool,
     err: &mut StandardError<E>,
 ) -> ClosedOutput<O>
+    ensures once { failed_before ≡ true → result.has_failed ≡ false }
     ensures bytes { GivesBack (writer_contents O.contents out) (O.contents result.out) (failed_before || result.has_failed) }
     ensures told { Tells (told_of E.contents err.old) (told_of E.contents err.new) (output_lines result.has_failed) }
 {

@@ -4,10 +4,9 @@ ghost use Rattle.std.specs.String.{string_bytes};
 ghost use Rattle.station_journal.specs.Resume.{IsSound};
 ghost use Rattle.station_portions.specs.Giving.{state_of};
 ghost use Rattle.station_run.specs.Limits.{program_limits};
-ghost use Rattle.station_run.specs.Output.{buffered_of};
 ghost use Rattle.station_paths.specs.Faults.{IsEarly};
-ghost use Rattle.station_run.specs.Stations.{AreRead, CannotStart, IsBlank, IsFirst, Leaves, RunsAsked, RunsFrom, Station, begun_of, no_start, plan_of, start_of, streams_of};
-ghost use Rattle.messages.specs.Telling.{told_of};
+ghost use Rattle.station_run.specs.Stations.{AreRead, CannotStart, IsBlank, IsFirst, Leaves, RunsAsked, RunsFrom, Station, begun_of, new_output, no_start, plan_of, start_of, streams_of};
+ghost use Rattle.messages.specs.Telling.{alarmed_by, told_of};
 
 use crate::limits::TABLE_ROOM;
 use crate::next_station::{Carried, Next, begin_round, next_stage};
@@ -18,7 +17,9 @@ use crate::stopping::begin_stop;
 use crate::threads::Output;
 use messages::{Alarms, Fault, StandardError};
 use station_paths::{Host, Opened, PathSystem, System};
-use station_reporter::{Beside, Displays, Kept, LimitAlarm, RecordFile, Recorder, record_to};
+use station_reporter::{
+    Beside, Displays, Kept, LimitAlarm, Printer, RecordFile, Recorder, record_to,
+};
 use std::alloc::Global;
 use std::fs::File;
 use std::io::{BufWriter, Write};
@@ -35,9 +36,9 @@ use streams::ToWrite;
 ///
 /// Each station goes on from the last 70,000 ms of the one before. A fault ends the run after its round. What is printed is
 /// recorded, and each table is put where displays find it, if that is asked. A failed write of either is reported at once,
-/// ends the record or the displays alone, and the status is 1. Where a pipe is given for it, the run is ended by that, as if all
-/// paths had ended between two lines. Answers the output, unless a station couldn't begin or be
-/// closed.
+/// ends the record or the displays alone, and the status is 1. Where a record or displays are asked for the same holds of a
+/// failed write of the output. Else that ends the run. Where a pipe is given for it, the run is ended by that, as if all paths had
+/// ended between two lines. Answers the output, unless a station couldn't begin or be closed.
 pub fn run<R: System, W: PathSystem, O: Write + Send + Drop, A: Write + Send + Drop, E: Write>(
     host: &Host<'_, R, W>,
     asked: RunOptions<'_>,
@@ -48,7 +49,7 @@ pub fn run<R: System, W: PathSystem, O: Write + Send + Drop, A: Write + Send + D
     requires rounds { 1 ≤ asked.rounds }
     requires paths { length asked.paths.now.items ≤ 8 }
     ensures most { result.status ≤ 1 }
-    ensures runs { RunsAsked (plan_of asked.entry) (O.contents out) (option_map (λ left. O.contents left) result.out) (A.contents alarms.record)
+    ensures runs { RunsAsked (plan_of asked.entry) (O.contents out) (option_map (λ left. O.contents left) result.out) (alarmed_by A.contents alarms)
         (told_of E.contents err.old) (told_of E.contents err.new) result.status }
 {
     match first_stage(host, asked, out, alarms) {
@@ -77,7 +78,7 @@ fn run_stations<
     requires read { AreRead (map string_bytes asked.paths.now.items) stage.paths.threads.items (map state_of stage.inputs.items) stage.answers.items }
     ensures most { result.status ≤ 1 }
     ensures runs { (stations : List Station) × Leaves (is_some asked.entry.displays.now)
-        (RunsFrom (plan_of asked.entry) (begun_of stage.entry) (streams_of O.contents stage.entry.out stage.entry.beside.record (told_of E.contents err.old)) stations)
+        (RunsFrom (plan_of asked.entry) (begun_of stage.entry) (streams_of stage.entry.out stage.entry.beside.record (told_of E.contents err.old)) stations)
         (option_map (λ left. O.contents left) result.out) (told_of E.contents err.new) result.status }
 {
     let mut stage = stage;
@@ -108,11 +109,18 @@ fn first_stage<'a, 'p, R: System, W: PathSystem, O: Write + Drop, A: Write + Dro
     ensures given { IfOk result (λ stage. (begun_of stage).given ≡ no_start asked.entry.site) }
     ensures rounds_left { IfOk result (λ stage. stage.rounds_left ≡ asked.entry.rounds - 1) }
     ensures read { IfOk result (λ stage. AreRead (map string_bytes asked.entry.paths.now.items) stage.paths.threads.items (map state_of stage.inputs.items) stage.answers.items) }
-    ensures out { IfOk result (λ stage. (buffered_of O.contents stage.out).taken ≡ O.contents out) }
+    ensures out { IfOk result (λ stage. stage.out ≡ new_output (plan_of asked.entry) (O.contents out) (A.contents alarms.output)) }
     ensures record { IfOk result (λ stage. IsBlank (option_map string_bytes asked.entry.record.now) (A.contents alarms.record) stage.beside.record) }
 {
     let stop = begin_stop(host, asked)?;
-    let beside = begin_beside(host.rt, host.alloc, asked, alarms)?;
+    let Alarms {
+        output,
+        record,
+        displays,
+        limits,
+    } = alarms;
+    let beside = begin_beside(host.rt, host.alloc, asked, displays, record, limits)?;
+    let goes_on = asked.record.is_some() || asked.displays.is_some();
     let Ok(buffered) = BufWriter::with_capacity(host.alloc, TABLE_ROOM, out) else {
         return Err(Fault::NoMemory);
     };
@@ -121,7 +129,7 @@ fn first_stage<'a, 'p, R: System, W: PathSystem, O: Write + Drop, A: Write + Dro
         rounds_left: asked.rounds - 1,
         kept: Kept::nothing(host.alloc, asked.site),
         stop,
-        out: ToWrite::new(buffered),
+        out: Printer::new(ToWrite::new(buffered), goes_on, StandardError::new(output)),
         beside,
     };
     begin_round(host, asked, carried)
@@ -132,17 +140,19 @@ fn begin_beside<'p, R: Files<File = File>, A: Write + Drop>(
     rt: &R,
     alloc: Global,
     asked: RunOptions<'p>,
-    alarms: Alarms<A>,
+    display_alarm: A,
+    record_alarm: A,
+    limit_alarm: A,
 ) -> Result<Beside<Output<RecordFile>, A>, Fault<'p>>
     ensures refused { IfErr result (CannotStart (plan_of asked.entry)) }
-    ensures record { IfOk result (λ beside. IsBlank (option_map string_bytes asked.entry.record.now) (A.contents alarms.record) beside.record) }
+    ensures record { IfOk result (λ beside. IsBlank (option_map string_bytes asked.entry.record.now) (A.contents record_alarm) beside.record) }
 {
-    let displays = begin_displays(rt, alloc, asked, alarms.displays)?;
-    let record = begin_record(rt, alloc, asked, alarms.record)?;
+    let displays = begin_displays(rt, alloc, asked, display_alarm)?;
+    let record = begin_record(rt, alloc, asked, record_alarm)?;
     Ok(Beside {
         record,
         displays,
-        limits: LimitAlarm::new(alarms.limits),
+        limits: LimitAlarm::new(limit_alarm),
     })
 }
 

@@ -20,7 +20,7 @@ use messages::{Answer, Fault};
 use station_journal::Journal;
 use station_paths::{Input, Paths, System};
 use station_portions::PathEnd;
-use station_reporter::{Beside, Due, Duties, Kept, RecordFile, Reporter};
+use station_reporter::{Beside, Due, Duties, Kept, Printer, RecordFile, Reporter};
 use station_shared::{Places, PumpFault, StationName};
 use std::alloc::Global;
 use std::io::{Read, Write};
@@ -45,7 +45,7 @@ pub struct Stage<'a, 'p, R, I: Read + Drop, O: Write + Drop, A: Write + Drop> {
     pub inputs: Vec<Input<'a, R>>,
     /// What the stations before it in its round counted, by input.
     pub answers: Vec<Answer>,
-    pub out: Output<O>,
+    pub out: Printer<Output<O>, A>,
     pub beside: Beside<Output<RecordFile>, A>,
 }
 
@@ -64,9 +64,7 @@ pub struct StationEnd<'a, 'p, R, I: Read + Drop, O: Write + Drop, A: Write + Dro
     pub inputs: Vec<Input<'a, R>>,
     /// What all stations of the round so far counted, by input.
     pub answers: Vec<Answer>,
-    pub out: Output<O>,
-    /// Whether a write of the output failed.
-    pub has_failed: bool,
+    pub out: Printer<Output<O>, A>,
     pub beside: Beside<Output<RecordFile>, A>,
 }
 
@@ -88,7 +86,7 @@ pub fn run_station<
     requires many { length stage.answers.items ≡ length stage.inputs.items }
     requires sound { IsSound (program_limits stage.kept.site) stage.kept.recent.base (reverse stage.kept.recent.entries.items) }
     ensures unstarted { IfErr result IsUnstarted }
-    ensures ran { IfOk result (λ closed. RanTo O.contents stage.entry closed) }
+    ensures ran { IfOk result (λ closed. RanTo stage.entry closed) }
 {
     let Ok(places) = Places::new(rt, alloc, stage.kept.recent.base, 1) else {
         return Err(Fault::NoMemory);
@@ -118,7 +116,7 @@ fn run_named<
     requires ledger { (blank.name ≡ L.name) × (blank.parts ≡ L.parts) }
     requires may { MayBegin L.start L.parts L.seats places (start_of stage.kept) (length stage.inputs.items) }
     ensures unstarted { IfErr result IsUnstarted }
-    ensures ran { IfOk result (λ closed. RanTo O.contents stage.entry closed) }
+    ensures ran { IfOk result (λ closed. RanTo stage.entry closed) }
 {
     let (paths, duties) = (stage.paths, stage.duties);
     let Crew {
@@ -166,7 +164,6 @@ fn run_named<
         inputs: leaving.inputs,
         answers: leaving.answers,
         out: report.out,
-        has_failed: report.has_failed,
         beside: report.beside,
     })
 }

@@ -6,7 +6,9 @@ ghost use Rattle.station_run.specs.Run.{HaveWorked};
 use crate::limits::{AIRCRAFT, TURNS};
 use station_paths::{Input, System};
 use station_portions::Portions;
-use station_reporter::{Bell, Beside, Reporter, ReporterResult, ReportsFrom, Requests, report};
+use station_reporter::{
+    Bell, Beside, Printer, Reporter, ReporterResult, ReportsFrom, Requests, report,
+};
 use station_shared::{Seat, Station, StationName, Worker, run_receivers};
 use std::io::{BufWriter, Write};
 use std::snapshot::Snapshot;
@@ -52,20 +54,20 @@ pub fn run_threads<
     requests: &Requests,
     start: Option<Instant>,
     receivers: Vec<Receiver<'a, R, L>>,
-    reporter: Reporter<Seat<AIRCRAFT, L>, S, Beside<T, A>>,
-) -> Option<Left<'a, L, R, S, Beside<T, A>>>
+    reporter: Reporter<Seat<AIRCRAFT, L>, Printer<S, A>, Beside<T, A>>,
+) -> Option<Left<'a, L, R, Printer<S, A>, Beside<T, A>>>
     ensures receivers { IfSome result (λ left. HaveWorked L.start (λ r. r.seat) (λ r. r.source) (λ r. r.answer)
         receivers.entry.items left.receivers.items) }
-    ensures reporter { IfSome result (λ left. HasReported S.state (λ b. b.record) L.start reporter left.report) }
+    ensures reporter { IfSome result (λ left. HasReported (λ b. b.record) L.start reporter left.report) }
 {
     let ended = &Bell::new();
     thread::scope(
         thread::scope_env(),
         rt,
-        move |scope| -> Option<Left<'_, L, R, S, Beside<T, A>>>
+        move |scope| -> Option<Left<'_, L, R, Printer<S, A>, Beside<T, A>>>
             ensures receivers { IfSome result (λ left. HaveWorked L.start (λ r. r.seat) (λ r. r.source) (λ r. r.answer)
                 receivers.entry.items left.receivers.items) }
-            ensures reporter { IfSome result (λ left. HasReported S.state (λ b. b.record) L.start reporter left.report) }
+            ensures reporter { IfSome result (λ left. HasReported (λ b. b.record) L.start reporter left.report) }
         {
             let given = ReportsFrom(Snapshot::of(&reporter));
             let job = move || report(rt, station, ended, requests, start, reporter);

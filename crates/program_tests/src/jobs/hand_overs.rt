@@ -19,10 +19,10 @@ use std::time::Duration;
 // How many entries make a station hand over.
 const LIMIT: u64 = 20;
 
-// How many frames the first path gets before each hand-over, and how often.
-const FRAMES: u16 = 30;
+/// How many frames the first path gets before each hand-over, and how often.
+pub const FRAMES: u16 = 30;
 
-const TIMES: u16 = 4;
+pub const TIMES: u16 = 4;
 
 // The bytes of a frame that come after a hand-over.
 const LATE: usize = 7;
@@ -53,8 +53,8 @@ fn await_hand_overs<R: Clock + Files + AllocGlobal>(
     Ok(false)
 }
 
-// Feeds a path part by part, each up to a hand-over. The last line of a part ends after it.
-fn feed<R: Clock + Files + AllocGlobal>(
+/// Feeds a path part by part, each up to a hand-over. The last line of a part ends after it.
+pub fn feed<R: Clock + Files + AllocGlobal>(
     rt: &R,
     mut lines: PipeWriter,
     text: &str,
@@ -150,8 +150,8 @@ fn a_hand_over_that_freed_little_is_followed_by_a_pause(rt: HostRuntime) -> Resu
     Ok(())
 }
 
-// Times that are 71 seconds apart: what was heard before a hand-over is not recent after it.
-fn late_moments(alloc: Global) -> Result<Vec<u64>, AllocError> {
+/// Times that are 71 seconds apart: what was heard before a hand-over is not recent after it.
+pub fn late_moments(alloc: Global) -> Result<Vec<u64>, AllocError> {
     let mut moments = Vec::new(alloc);
     for i in 0..10_000u64 {
         moments.push(1_000_000 + 71_000 * i)?;
@@ -167,12 +167,26 @@ impl<R: System, W: Own> Trials<'_, R, W> {
         first: String,
         second: String,
     ) -> Result<Ran, AllocError> {
+        let mut out = Vec::new(self.alloc);
+        let ran = self.run_by_hand_overs_to(3_600_000, record, first, second, &mut out)?;
+        Ok(Ran { out, ..ran })
+    }
+
+    /// The same to an output of its own, with a table each `every` milliseconds.
+    pub fn run_by_hand_overs_to(
+        &self,
+        every: u32,
+        record: String,
+        first: String,
+        second: String,
+        out: impl Write + Send + Drop,
+    ) -> Result<Ran, AllocError> {
         let (rt, own, alloc) = (self.rt, self.own, self.alloc);
         let host = station_main::Host { rt, own, alloc };
         let record = Some(record);
         let paths = vec![in alloc; first, second]?;
         let options = RunOptions {
-            tables: tables_each(3_600_000),
+            tables: tables_each(every),
             rounds: 1,
             reopens: false,
             stop: &None,
@@ -183,21 +197,16 @@ impl<R: System, W: Own> Trials<'_, R, W> {
             hand_over_at: LIMIT,
             site: None,
         };
-        let (mut ran, mut out, mut err) = (Ran::nothing(alloc), Vec::new(alloc), Vec::new(alloc));
+        let (mut ran, mut err) = (Ran::nothing(alloc), Vec::new(alloc));
         let alarms = Alarms {
+            output: &mut ran.output_alarm,
             record: &mut ran.record_alarm,
             displays: &mut ran.display_alarm,
             limits: &mut ran.limit_alarm,
         };
         let mut told = StandardError::new(&mut err);
-        let run = run(&host, options, &mut out, alarms, &mut told);
-        let status = run.status;
-        Ok(Ran {
-            status,
-            out,
-            err,
-            ..ran
-        })
+        let status = run(&host, options, out, alarms, &mut told).status;
+        Ok(Ran { status, err, ..ran })
     }
 }
 

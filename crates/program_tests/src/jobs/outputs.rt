@@ -9,12 +9,23 @@ use std::io::{self, ErrorKind, Write};
 use std::sync::atomic::{AtomicBool, Ordering};
 use std::test::*;
 
-// Fails at its second write alone.
+/// Fails at its second write alone.
 #[derive(Drop)]
-struct FailsOnce<'a> {
+pub struct FailsOnce<'a> {
     taken: &'a mut Vec<u8>,
     writes: usize,
     has_failed: &'a AtomicBool,
+}
+
+impl<'a> FailsOnce<'a> {
+    /// It keeps what it takes, and sets a flag once it has failed.
+    pub fn new(taken: &'a mut Vec<u8>, has_failed: &'a AtomicBool) -> FailsOnce<'a> {
+        FailsOnce {
+            taken,
+            writes: 0,
+            has_failed,
+        }
+    }
 }
 
 impl<'a> Write for FailsOnce<'a> {
@@ -99,11 +110,7 @@ impl<R: Host, W: Own> Trials<'_, R, W> {
         let lines: &[u8] = b"?\n*8D4840D6202CC371C32CE0576098;\n?\n?\n*0000;\n?\n";
         let has_failed = AtomicBool::new(false);
         let mut taken = Vec::new(self.alloc);
-        let out = FailsOnce {
-            taken: &mut taken,
-            writes: 0,
-            has_failed: &has_failed,
-        };
+        let out = FailsOnce::new(&mut taken, &has_failed);
         let ran = self.run_to("replay", [].as_slice(), lines, out)?;
         same(self.rt, text(&taken), TABLE_OF_NOBODY);
         let told = concat!(
@@ -120,11 +127,7 @@ impl<R: Host, W: Own> Trials<'_, R, W> {
         let has_failed = AtomicBool::new(false);
         let staged = Staged::new(self.rt, moments.as_slice());
         let mut taken = Vec::new(self.alloc);
-        let out = FailsOnce {
-            taken: &mut taken,
-            writes: 0,
-            has_failed: &has_failed,
-        };
+        let out = FailsOnce::new(&mut taken, &has_failed);
         let feed = Feed::at(&has_failed, b"*8D4840D6202CC371C32CE0576098;\n");
         let (ran, _) = self.run_lasting(&staged, "run --every 100", out, feed)?;
         same(self.rt, text(&taken), tables!("now 100 aircraft 0" => []));

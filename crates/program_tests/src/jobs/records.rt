@@ -1,7 +1,7 @@
 //! The job `run` with a record.
 use super::bounds::*;
 use super::run::{IDENTIFICATION, ONE_FRAME_EACH, TABLE_OF_BOTH, TwoFiles, VELOCITY};
-use super::{Closed, EVERY_HOUR, NO_LINES, Ran, Trials, text};
+use super::{Closed, EVERY_HOUR, NO_LINES, Ran, Trials, WRITE_FAILED, text};
 use crate::comparing::{holds, same};
 use std::fs;
 use std::io::Write;
@@ -108,16 +108,18 @@ impl<R: Host, W: Own> Trials<'_, R, W> {
         self.remove(&files.folder)
     }
 
-    // A table that couldn't be written is recorded.
-    fn a_record_has_the_table_that_failed(self) -> Result<(), Fail> {
+    // A table that couldn't be written is recorded, and so is the one of the next round.
+    fn a_record_goes_on_where_no_table_can_be_written(self) -> Result<(), Fail> {
         let rt = self.rt;
         let files = self.two_files(IDENTIFICATION, VELOCITY)?;
         let record = format!(in self.alloc; "{}/record", files.folder.as_str())?;
-        let ran = self.run_recorded_to(&files, "", record.as_str(), Closed)?;
+        let ran = self.run_recorded_to(&files, "--rounds=2", record.as_str(), Closed)?;
         let (_, shown) = self.shown_again(record.as_str())?;
-        same(rt, text(&shown), TABLE_OF_BOTH);
-        let fault = text(&ran.err).strip_prefix(ONE_FRAME_EACH);
-        same(rt, fault, Some("groundstation: write failed\n"));
+        let second_table = text(&shown).strip_prefix(TABLE_OF_BOTH);
+        same(rt, second_table, Some(TABLE_OF_BOTH));
+        same(rt, text(&ran.output_alarm), WRITE_FAILED);
+        holds(rt, text(&ran.err).starts_with(ONE_FRAME_EACH));
+        holds(rt, !text(&ran.err).contains("groundstation"));
         holds(rt, ran.record_alarm.is_empty() && ran.status == 1);
         self.remove(&files.folder)
     }
@@ -166,8 +168,8 @@ fn a_record_that_fails_leaves_the_tables(rt: HostRuntime) -> Result<(), Fail> {
 }
 
 #[test]
-fn a_record_has_the_table_that_failed(rt: HostRuntime) -> Result<(), Fail> {
-    Trials::on(&rt).a_record_has_the_table_that_failed()
+fn a_record_goes_on_where_no_table_can_be_written(rt: HostRuntime) -> Result<(), Fail> {
+    Trials::on(&rt).a_record_goes_on_where_no_table_can_be_written()
 }
 
 #[test]

@@ -5,6 +5,7 @@ ghost use Rattle.station_history.specs.Start.{log_of};
 ghost use Rattle.station_run.specs.Run.{CanClose, IsClosed, PrintsLast};
 ghost use Rattle.station_paths.specs.Faults.{IsUnstarted};
 ghost use Rattle.messages.specs.Sums.{AddsAll};
+ghost use Rattle.station_reporter.specs.Tables.{is_broken};
 
 use crate::limits::AIRCRAFT;
 use crate::threads::Receiver;
@@ -12,7 +13,7 @@ use messages::{Answer, Fault, added};
 use station_journal::{Journal, NoMemory};
 use station_paths::Input;
 use station_report::Format;
-use station_reporter::{Beside, ReporterResult, print_and_record};
+use station_reporter::{Beside, Printer, ReporterResult, print_and_record};
 use station_shared::{Missing, Seat, Station, StationName, Worker};
 use std::alloc::Global;
 use std::fs::File;
@@ -30,18 +31,18 @@ pub(super) struct Leaving<'a, R> {
     pub answers: Vec<Answer>,
 }
 
-/// Prints the last table, records it and puts it where displays find it, unless the station hands over or a write of the
-/// output failed before.
+/// Prints the last table, records it and puts it where displays find it, unless the station hands over or the output was
+/// broken before.
 pub(super) fn print_last<L: StationName, R: Wait + Files<File = File>, S: Sink, T: Sink, A: Write>(
     rt: &R,
     station: &Station<AIRCRAFT, L>,
     format: Format,
     hands_over: bool,
-    report: ReporterResult<Seat<AIRCRAFT, L>, S, Beside<T, A>>,
-) -> ReporterResult<Seat<AIRCRAFT, L>, S, Beside<T, A>>
-    ensures { PrintsLast S.state (λ b. b.record) format L.start (hands_over || report.has_failed) report result }
+    report: ReporterResult<Seat<AIRCRAFT, L>, Printer<S, A>, Beside<T, A>>,
+) -> ReporterResult<Seat<AIRCRAFT, L>, Printer<S, A>, Beside<T, A>>
+    ensures { PrintsLast (λ b. b.record) format L.start (hands_over || is_broken report.out) report result }
 {
-    if hands_over || report.has_failed {
+    if hands_over || report.out.is_broken() {
         return report;
     }
     let ReporterResult {
@@ -50,14 +51,12 @@ pub(super) fn print_last<L: StationName, R: Wait + Files<File = File>, S: Sink, 
         mut beside,
         due,
         asked_at,
-        ..
     } = report;
-    let (seat, written) = print_and_record(rt, station, seat, format, &mut out, &mut beside);
+    let seat = print_and_record(rt, station, seat, format, &mut out, &mut beside);
     ReporterResult {
         seat,
         out,
         beside,
-        has_failed: written.is_err(),
         due,
         asked_at,
     }

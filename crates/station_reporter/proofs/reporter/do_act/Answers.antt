@@ -1,8 +1,8 @@
-use Rattle.std.proofs.Common.{rules, refl}
+use Rattle.std.proofs.Common.{refl}
 use Rattle.station_reporter.proofs.ReportLemmas.{ticks_of}
 use Rattle.station_reporter.proofs.reporter.do_act.Goals as goal
 
 pub returns-in-Print : goal.returns-in-Print
 returns-in-Print g c =
     let ticks = ticks_of g.L.StationName.start c.args.reported.seat c.tick-in-Print.new.seat c.in-Print.at (λ k. k.name) g.L.StationName.start.history c.tick-in-Print.result c.tick-in-Print.ensures.accepted c.tick-in-Print.ensures.refused in
-    rw c.in-Print.is (c.tick-in-Print.new.seat, c.print_and_record-seat.result.1, ticks, c.print_and_record-seat.ensures, refl, search rules, refl)
+    rw c.in-Print.is (c.tick-in-Print.new.seat, ticks, c.print_and_record.ensures, refl, refl)

@@ -1,5 +1,5 @@
-use Rattle.std.proofs.Common.{refl}
+use Rattle.std.proofs.Common.{◌∙◌, refl, sym}
 use Rattle.station_run.proofs.stage.ending.print_last.Goals as goal
 
 pub returns : goal.returns
-returns g c = rw (c.if-hands_over.false, c.if-report.false) (c.print_and_record-seat.result.1, c.print_and_record-seat.ensures, c.is_err.ensures.value, refl, refl)
+returns g c = rw (c.if-hands_over.false, sym c.is_broken.ensures ∙ c.if-is_broken.false) (c.print_and_record-seat.ensures, refl, refl)
