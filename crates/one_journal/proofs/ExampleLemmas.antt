@@ -1,5 +1,5 @@
 -- The example of a merge, and what isn't one.
-use Rattle.std.proofs.Common.{◌≡◌, ◌∙◌, ℕ, zero, suc, List, [], ◌∷◌, ◌++◌, Some, Ok, Err, append-nil, drop, refl, sym, ap, subst, arith, Bool, cond, true, false, eqb, ◌≢◌, ◌⊎◌, ⊎_elim}
+use Rattle.std.proofs.Common.{◌≡◌, ◌∙◌, ℕ, zero, suc, List, [], ◌∷◌, ◌++◌, Some, Ok, Err, append-nil, drop, refl, sym, ap, subst, arith, Bool, cond, true, false, eqb, ◌≢◌, ⊎_elim}
 use Rattle.std.proofs.lemmas.Bool.Decides.{eqb_tells}
 use Rattle.station_journal.specs.declared.entry.Entry.{Entry}
 use Rattle.station_journal.specs.declared.entry.Entry.TheVariants.{Tick, Heard}

@@ -1,6 +1,6 @@
-mod ClosedLemmas
+pub mod ClosedLemmas
 mod ExampleLemmas
 mod MergeLemmas
-mod SeatLemmas
-mod StepLemmas
-mod WalkLemmas
+pub mod SeatLemmas
+pub mod StepLemmas
+pub mod WalkLemmas

@@ -86,19 +86,22 @@ module _ (start : Start) (entries journal : List Entry) (n : ℕ) (seats : List 
       let more = longer first.0.seen seen (All-contains (λ (s : Seated). IsPrefix s.seen seen) seats first.0 told first.1) in
       seen-whole start seen journal (omega (arith, resumed, least, more)) part (λ (k : ℕ). each-seen seen told k (dec_lt k n))
 
+-- the calls of a receiver, with the lines that its pump took
+abbrev pub receiver-calls : (start : Start) (old new : Seated) (source_old source_new : SourceState) (turns : ℕ) (result : Result Tally PumpFault) (works : Works start old new source_old source_new turns result)
+    → IsReceiver old.number source_old source_new turns result (feeds old.number (frames_of works.pumps.lines) works.pumps.answers)
+receiver-calls start old new source_old source_new turns result works =
+    let pumps = works.pumps in record {
+      lines = pumps.lines;
+      draws = pumps.draws;
+      answers = pumps.answers;
+      each = (fed start old new (frames_of pumps.lines) pumps.answers pumps.feeds).1;
+      calls = refl;
+      wants = pumps.wants;
+      counts = pumps.counts;
+      accepted = pumps.accepted;
+    }
+
 pub receiver-did : (start : Start) (old new : Seated) (source_old source_new : SourceState) (turns : ℕ) (result : Result Tally PumpFault) (works : Works start old new source_old source_new turns result)
     → IsReceiver old.number source_old source_new turns result (feeds old.number (frames_of works.pumps.lines) works.pumps.answers) × Did start old (feeds old.number (frames_of works.pumps.lines) works.pumps.answers) new
 receiver-did start old new source_old source_new turns result works =
-    let pumps = works.pumps in (
-      record {
-        lines = pumps.lines;
-        draws = pumps.draws;
-        answers = pumps.answers;
-        each = (fed start old new (frames_of pumps.lines) pumps.answers pumps.feeds).1;
-        calls = refl;
-        wants = pumps.wants;
-        counts = pumps.counts;
-        accepted = pumps.accepted;
-      },
-      fed-did start old new (frames_of pumps.lines) pumps.answers pumps.feeds,
-    )
+    (receiver-calls start old new source_old source_new turns result works, fed-did start old new (frames_of works.pumps.lines) works.pumps.answers works.pumps.feeds)

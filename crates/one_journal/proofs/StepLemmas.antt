@@ -1,14 +1,14 @@
 -- What the steps of a seat, one after another, make of its deeds.
-use Rattle.std.proofs.Common.{◌≡◌, ◌∙◌, ℕ, ◌+◌, List, [], ◌∷◌, ◌++◌, Result, Ok, Err, length, length-append, refl, sym, ap, subst, append-nil, arith}
+use Rattle.std.proofs.Common.{◌≡◌, ◌∙◌, inl, inr, ℕ, ◌+◌, List, [], ◌∷◌, ◌++◌, Result, Ok, Err, length, length-append, refl, sym, ap, subst, append-nil, arith}
 use Rattle.station_journal.specs.declared.entry.Entry.{Entry}
 use Rattle.station_journal.specs.declared.entry.Entry.TheVariants.{Heard}
 use Rattle.station_journal.specs.declared.refusal.Refusal.{Refusal}
 use Rattle.station_history.specs.History.{Known}
 use Rattle.station_history.specs.Start.{Start}
 use Rattle.station_lines.specs.Feeds.{Feeds}
-use Rattle.station_shared.specs.Seats.{Accepted, Looks, Refused, Seated, seat_of}
+use Rattle.station_shared.specs.Seats.{Accepted, Refused, Seated, seat_of}
 use Rattle.station_shared.specs.Workers.{SeatSteps}
-use Rattle.one_journal.specs.Merge.{Deed, Called, Did, Saw, accepted_in}
+use Rattle.one_journal.specs.Merge.{Deed, Called, Did, Saw, Sees, accepted_in}
 use Rattle.one_journal.specs.Receiver.{feeds}
 use Rattle.one_journal.proofs.WalkLemmas.{Walks, accepted-append, walks-then}
 
@@ -48,11 +48,16 @@ called-refused start old new entry refusal mine r = record {
   number = r.number;
 }
 
-pub saw : (start : Start) (old new : Seated) → Looks start old new → Stepped start old (Saw new.seen ∷ []) new
-saw start old new looks = record {
+pub saw : (start : Start) (old new : Seated) → Sees start old new → Stepped start old (Saw new.seen ∷ []) new
+saw start old new (inl looks) = record {
   walks = (looks.later, ([], append-nil new.seen));
   accepted = omega (arith, looks.accepted);
   number = looks.number;
+}
+saw start old new (inr (list, learned)) = record {
+  walks = (learned.later, ([], append-nil new.seen));
+  accepted = omega (arith, learned.accepted);
+  number = learned.number;
 }
 
 -- ---- a receiver

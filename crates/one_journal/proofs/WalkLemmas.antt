@@ -28,13 +28,13 @@ same-length a b p few = sym p.1 ∙ ap (λ (es : List Entry). a ++ es) (none p.0
     none [] short = refl
     none (e ∷ es) short = absurd (omega (arith, short))
 
-dropped-prefix : (k : ℕ) (xs ys : List Entry) → IsPrefix xs ys → IsPrefix (drop k xs) (drop k ys)
+pub dropped-prefix : (k : ℕ) (xs ys : List Entry) → IsPrefix xs ys → IsPrefix (drop k xs) (drop k ys)
 dropped-prefix zero xs ys p = p
 dropped-prefix (suc k) [] ys p = (drop (suc k) ys, refl)
 dropped-prefix (suc k) (x ∷ xs) [] p = absurd (cc (p.1))
 dropped-prefix (suc k) (x ∷ xs) (y ∷ ys) p = dropped-prefix k xs ys (p.0, cc (p.1))
 
-dropped-append : (k : ℕ) (xs ys : List Entry) → k ≤ length xs → drop k (xs ++ ys) ≡ drop k xs ++ ys
+pub dropped-append : (k : ℕ) (xs ys : List Entry) → k ≤ length xs → drop k (xs ++ ys) ≡ drop k xs ++ ys
 dropped-append zero xs ys few = refl
 dropped-append (suc k) [] ys few = absurd (omega (arith, few))
 dropped-append (suc k) (x ∷ xs) ys few = dropped-append k xs ys (omega (arith, few))

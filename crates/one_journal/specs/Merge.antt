@@ -1,5 +1,5 @@
 -- One history of a station as a merge of what its seats did.
-use Rattle.std.specs.Prelude.{◌≡◌, ℕ, eqb, List, [], ◌∷◌, ◌++◌, Option, None, Result, Ok, Err}
+use Rattle.std.specs.Prelude.{◌≡◌, ◌⊎◌, ℕ, eqb, List, [], ◌∷◌, ◌++◌, Option, None, Result, Ok, Err}
 use Rattle.std.specs.List.{filter}
 use mathlib.Core.List.{IsPrefix}
 use Rattle.station_journal.specs.declared.entry.Entry.{Entry}
@@ -7,17 +7,21 @@ use Rattle.station_journal.specs.declared.refusal.Refusal.{Refusal}
 use Rattle.station_journal.specs.Log.{IsLegal, refusal_of, verdict_behind}
 use Rattle.station_history.specs.Start.{Start, log_of}
 use Rattle.station_history.specs.History.{Known}
-use Rattle.station_shared.specs.Seats.{Accepted, Looks, Refused, Seated, own_entries, seat_of}
+use Rattle.station_shared.specs.Seats.{Accepted, HasLearned, Looks, Refused, Seated, own_entries, seat_of}
 
--- what a seat did: a call, by the entry that it asks for, with its answer; or a look, by the entries that it saw
+-- what a seat did: a call, by the entry that it asks for, with its answer; or it saw the journal up to some entry, by these entries
 pub data Deed : Type 0 where
   Called : Entry → Result (Unit {0}) Refusal → Deed
   Saw : List Entry → Deed
 
--- a seat did this by its calls and looks, one after another
+-- a seat sees what it had seen or more: it looks, or it learns what another seat has seen
+abbrev pub Sees : Start → Seated → Seated → Type 0
+Sees start old new = Looks start old new ⊎ ((list : List Entry) × HasLearned old new list)
+
+-- a seat did this, one after another
 abbrev pub Did : Start → Seated → List Deed → Seated → Type 0
 Did start old [] new = new ≡ old
-Did start old (Saw seen ∷ deeds) new = (mid : Seated) × Looks start old mid × (mid.seen ≡ seen) × Did start mid deeds new
+Did start old (Saw seen ∷ deeds) new = (mid : Seated) × Sees start old mid × (mid.seen ≡ seen) × Did start mid deeds new
 Did start old (Called entry (Ok taken) ∷ deeds) new =
     (mid : Seated) × (receipt : Known) × Accepted start old mid entry receipt × (seat_of entry ≡ old.number) × Did start mid deeds new
 Did start old (Called entry (Err refusal) ∷ deeds) new =
@@ -49,7 +53,7 @@ pub record IsReached (start : Start) (history : List Entry) (seat : ℕ) (before
   pub later : IsPrefix seen at
   pub its_own : entries_of_seat seat (own_entries start at) ≡ before
 
--- what a seat did, in its order: it looked at such a beginning, or the plain search there decided its call. An accepted
+-- what a seat did, in its order: it saw such a beginning, or the plain search there decided its call. An accepted
 -- call's entry is the next in the history
 abbrev pub DoesIn : Start → (history : List Entry) → (seat : ℕ) → (before seen : List Entry) → List Deed → Type 0
 DoesIn start history seat before seen [] = IsPrefix seen history

@@ -48,7 +48,7 @@ pub fn an_example_of_a_merge()
 {}
 
 /// However the threads of a station interleaved, its journal at the close is a merge of what its seats did: of the calls of
-/// each, in their order, and of its looks.
+/// each, in their order, and of what it saw: by its looks, or as it learned from another seat.
 ///
 /// Each accepted call is in it once, after all that its seat had seen. Each refusal is that of the plain search at a beginning
 /// of the journal. That has all that the seat had seen, and of its calls just the accepted ones before.

@@ -1,6 +1,6 @@
 pub mod Common
-mod KeptEndLemmas
-mod LookLemmas
+pub mod KeptEndLemmas
+pub mod LookLemmas
 mod ReadBackLemmas
 mod ReplayedLemmas
 mod SaidLemmas

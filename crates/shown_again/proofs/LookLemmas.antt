@@ -1,18 +1,18 @@
 -- What the looks of a station have seen: each list begins with the one before it.
-use Rattle.std.proofs.Common.{◌≡◌, inl, inr, ℕ, Bool, true, false, List, [], ◌∷◌, ◌++◌, Option, Some, None, refl, sym, ap, subst, IfSome, unwrap_or, All, flat_map}
+use Rattle.std.proofs.Common.{◌≡◌, inl, inr, ℕ, Bool, true, false, List, [], ◌∷◌, ◌++◌, ◌||◌, Option, Some, None, length, refl, sym, ap, subst, IfSome, unwrap_or, All, flat_map}
 use mathlib.Core.List.{IsPrefix}
 use Rattle.std.proofs.lemmas.List.Elements.{All-cons, All-head, All-nil, All-tail}
 use Rattle.station_journal.specs.declared.entry.Entry.{Entry}
 use Rattle.station_journal.specs.Log.{IsLegal}
 use Rattle.station_report.specs.declared.formats.Format.TheVariants.{Text}
 use Rattle.station_history.specs.Start.{Start, log_of}
-use Rattle.station_shared.specs.Seats.{Seated, Looks}
+use Rattle.station_shared.specs.Seats.{Seated, Looks, newcomer}
 use Rattle.station_record.specs.Record.{Grows, last_after}
 use Rattle.station_reporter.proofs.PrefixLemmas.{begins-same, begins-trans}
 use Rattle.station_reporter.proofs.Common.{seen_by, IsLater, MayHandOver, Showing, Showings, Ticks, looks_of, seat_after, text_of, texts}
 use Rattle.station_reporter.specs.declared.duties.Duties.{Duties}
 use Rattle.station_reporter.specs.declared.schedule.Due.{Due}
-use Rattle.station_run.proofs.Common.{LastLook}
+use Rattle.station_run.proofs.Common.{LastLook, LearnsFrom, Shows, Station}
 
 -- ---- prefixes
 
@@ -45,7 +45,7 @@ ticked start old at new (inl accepted) =
     begins-trans old.seen is.mid new.seen is.later (_, sym is.seen)
 ticked start old at new (inr refused) = refused.1.later
 
-pub last-grown : (start : Start) (mid closing : Seated) (failed : Bool) (looks : List (Option Seated)) → LastLook start mid closing failed looks → Grown start mid.seen closing.seen (seen_by looks)
+last-grown : (start : Start) (mid closing : Seated) (failed : Bool) (looks : List (Option Seated)) → LastLook start mid closing failed looks → Grown start mid.seen closing.seen (seen_by looks)
 last-grown start mid closing true looks is =
     subst (λ (ls : List (Option Seated)). Grown start mid.seen closing.seen (seen_by ls)) (sym is.0)
     (record { grows = tt; last = begins-same mid.seen closing.seen (ap (λ (s : Seated). s.seen) (sym is.1)); legal = All-nil (Legal start) })
@@ -72,21 +72,37 @@ more-grown start old mid end (Some l) looks ticks looked rest = record {
   legal = All-cons (Legal start) l.seen (seen_by looks) looked.legal rest.legal;
 }
 
-pub later-prefix : (start : Start) (old new : Seated) → IsLater start old new → IsPrefix old.seen new.seen
+later-prefix : (start : Start) (old new : Seated) → IsLater start old new → IsPrefix old.seen new.seen
 later-prefix start old new (inl same) = begins-same old.seen new.seen (ap (λ (s : Seated). s.seen) (sym same))
 later-prefix start old new (inr looks) = looks.later
 
-pub hand-over-prefix : (start : Start) (duties : Duties) (asked_at : Option ℕ) (due next : Due) (old new : Seated) (broken : Bool) → MayHandOver start duties asked_at due next old new broken → IsPrefix old.seen new.seen
-hand-over-prefix start duties None due next old new broken is = begins-same old.seen new.seen (ap (λ (s : Seated). s.seen) (sym is.0))
-hand-over-prefix start duties (Some at) due next old new broken is = ticked start old at new is.ticks
+hand-over-prefix : (start : Start) (duties : Duties) (asked_at : Option ℕ) (due next : Due) (old new : Seated) (failed : Bool) → MayHandOver start duties asked_at due next old new failed → IsPrefix old.seen new.seen
+hand-over-prefix start duties None due next old new failed is = begins-same old.seen new.seen (ap (λ (s : Seated). s.seen) (sym is.0))
+hand-over-prefix start duties (Some at) due next old new failed is = ticked start old at new is.ticks
+
+pub learned-prefix : (old : Seated) (seats : List Seated) (new : Seated) → LearnsFrom old seats new → IsPrefix old.seen new.seen
+learned-prefix old [] new same = begins-same old.seen new.seen (ap (λ (s : Seated). s.seen) (sym same))
+learned-prefix old (seat ∷ seats) new (mid, learned, rest) = begins-trans old.seen mid.seen new.seen learned.later (learned-prefix mid seats new rest)
 
 -- the showings, and looks after them from a seat that has seen as much or more
-pub grown : (start : Start) (old : Seated) (showings : List Showing) (shown mid : Seated) (end : List Entry) (last : List (Option Seated)) → Showings start old showings shown → IsPrefix shown.seen mid.seen
+grown : (start : Start) (old : Seated) (showings : List Showing) (shown mid : Seated) (end : List Entry) (last : List (Option Seated)) → Showings start old showings shown → IsPrefix shown.seen mid.seen
     → Grown start mid.seen end (seen_by last) → Grown start old.seen end (seen_by (looks_of showings ++ last))
 grown start old [] shown mid end last walk to is = subst (λ (s : Seated). Grown start s.seen end (seen_by last)) walk (more-grown start shown mid end None last to tt is)
 grown start old (s ∷ rest) shown mid end last walk to is =
     more-grown start old s.ticked end s.look (looks_of rest ++ last) (ticked start old s.acting.at s.ticked walk.0.ticks) walk.0.looks
     (grown start (seat_after s) rest shown mid end last walk.1 to is)
+
+-- the tables of a station
+pub tables-grow : (station : Station) (shows : Shows station) → Grown station.left.start station.begun.given.entries station.left.closing.reporter.seen (seen_by (looks_of shows.showings ++ shows.last))
+tables-grow station shows =
+    let start = station.left.start in
+    let none = station.left.hands_over || shows.broken_before in
+    let first = newcomer station.begun.given.entries (length station.begun.sources) in
+    let to_ended = begins-trans shows.shown.seen shows.looked.seen shows.ended.seen (later-prefix start shows.shown shows.looked shows.later)
+    (hand-over-prefix start station.begun.duties shows.asked_at _ station.left.due shows.looked shows.ended shows.broken_before shows.asks) in
+    let to = begins-trans shows.shown.seen shows.ended.seen shows.mid.seen to_ended (learned-prefix shows.ended station.left.closing.receivers shows.mid shows.learns) in
+    grown start first shows.showings shows.shown shows.mid station.left.closing.reporter.seen shows.last shows.keeps.walk to
+    (last-grown start shows.mid station.left.closing.reporter none shows.last shows.looks)
 
 -- what holds of each list between the first and the last
 module _ (start : Start) (least end : List Entry) (P : List Entry → Type 0) (holds : (seen : List Entry) → IsPrefix least seen → IsPrefix seen end → Legal start seen → P seen) where

@@ -6,13 +6,12 @@ use Rattle.station_report.specs.declared.formats.Format.{Format}
 use Rattle.station_report.specs.declared.formats.Format.TheVariants.{Text}
 use Rattle.std.proofs.KnownBytes.{Appends-kept}
 use Rattle.station_history.specs.Start.{Start}
-use Rattle.station_shared.specs.Seats.{Seated, newcomer}
+use Rattle.station_shared.specs.Seats.{Seated}
 use Rattle.station_record.specs.Record.{recorded_after, shows_after}
 use Rattle.messages.proofs.Common.{fault_status}
 use Rattle.station_reporter.proofs.Common.{AreRecordable, IfRecording, Recording, Records, TakesText, TakesBy, seen_by, looks_of, Printing, TakesTexts, TakesTextsBy, texts}
 use Rattle.station_run.proofs.Common.{GivesBack, RoundStart, RunsStation, Station}
-use Rattle.shown_again.proofs.LookLemmas.{Grown, grown, hand-over-prefix, last-grown, later-prefix, text_table, texts-seen}
-use Rattle.station_reporter.proofs.PrefixLemmas.{begins-trans}
+use Rattle.shown_again.proofs.LookLemmas.{Grown, tables-grow, text_table, texts-seen}
 use Rattle.station_reporter.proofs.RecordedLemmas.{unfailed}
 
 -- nothing is appended to what was taken
@@ -59,16 +58,11 @@ station-says station was is runs is_text was_is is_is well_written well =
     let shows = runs.shows in
     let start = station.left.start in
     let looks = looks_of shows.showings ++ shows.last in
-    let none = station.left.hands_over || shows.broken_before in
-    let first = newcomer station.begun.given.entries (length station.begun.sources) in
     let records : Records (seen_by looks) was is =
     subst (λ (o : Option Recording). IfRecording (Records (seen_by looks)) (Some was) o) is_is (subst (λ (o : Option Recording). IfRecording (Records (seen_by looks)) o station.new.recording) was_is shows.records) in
-    let to = begins-trans shows.shown.seen shows.looked.seen shows.mid.seen (later-prefix start shows.shown shows.looked shows.later)
-    (hand-over-prefix start station.begun.duties shows.asked_at _ station.left.due shows.looked shows.mid shows.broken_before shows.asks) in
     record {
       lists = seen_by looks;
-      grown = grown start first shows.showings shows.shown shows.mid station.left.closing.reporter.seen shows.last shows.keeps.walk to
-          (last-grown start shows.mid station.left.closing.reporter none shows.last shows.looks);
+      grown = tables-grow station shows;
       prints = subst (Appends station.old.out.taken station.new.out.taken) (ap (λ (format : Format). texts format start looks) is_text ∙ texts-seen start looks)
           (whole-texts station.begun.duties.tables.format start looks station.old.out station.new.out well_written shows.takes);
       records = took was is (shows_after was.recorded (seen_by looks)) records.takes well;

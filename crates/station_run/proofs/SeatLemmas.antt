@@ -1,6 +1,6 @@
 -- The seats of a station as it begins, and when it can't go on from what was kept.
-use Rattle.std.proofs.Common.{◌≡◌, ◌∙◌, ℕ, ◌+◌, ◌-◌, ◌≤◌, List, [], ◌∷◌, ◌++◌, length, length-append, refl, sym, ap, take, reverse, arith, rules}
-use Rattle.std.proofs.lemmas.List.{length-reverse, length-take-le}
+use Rattle.std.proofs.Common.{◌≡◌, ◌∙◌, ℕ, ◌+◌, ◌-◌, ◌<◌, ◌≤◌, List, [], ◌∷◌, ◌++◌, get_or, length, length-append, map, refl, subst, sym, ap, take, reverse, arith, rules}
+use Rattle.std.proofs.lemmas.List.{length-reverse, length-take-le, map_more, take_all}
 use Rattle.station_journal.specs.declared.entry.Entry.{Entry}
 use Rattle.station_journal.specs.declared.limits.Limits.{Limits}
 use Rattle.station_journal.specs.declared.recent.ResumeFault.{ResumeFault}
@@ -9,8 +9,9 @@ use Rattle.station_journal.proofs.Common.{IsSound, Refuses}
 use Rattle.station_journal.proofs.SoundLemmas.{sound_by_fits}
 use Rattle.station_journal.proofs.StandsLemmas.{length_sound}
 use Rattle.station_desk.proofs.StartLemmas.{sound_at, sound_front}
-use Rattle.station_shared.specs.Seats.{Seated, new_seats, newcomer, newcomers}
+use Rattle.station_shared.specs.Seats.{HasLearned, Seated, new_seats, newcomer, newcomers}
 use Rattle.station_shared.proofs.NewcomerLemmas.{one_place}
+use Rattle.station_run.proofs.Common.{LearnsFrom}
 
 -- ---- a sound list is refused only if out of memory
 
@@ -52,3 +53,19 @@ reporter_seat entries count inputs seats others last split made many =
 pub receiver_seats : (entries : List Entry) (count inputs : ℕ) (seats others : List Seated) (last : Seated) → seats ≡ others ++ last ∷ [] → seats ≡ newcomers entries count ++ newcomer entries count ∷ [] → count ≡ inputs → others ≡ newcomers entries inputs
 receiver_seats entries count inputs seats others last split made many =
     snoc_front others (newcomers entries count) last (newcomer entries count) (sym split ∙ made) ∙ ap (λ n. newcomers entries n) many
+
+-- ---- what a seat learned
+
+-- a seat that learned from some, and then from one more
+learns-more : (old mid new : Seated) (seats : List Seated) (seat : Seated) → LearnsFrom old seats mid → HasLearned mid new seat.seen → LearnsFrom old (seats ++ seat ∷ []) new
+learns-more old mid new [] seat same learned = (new, subst (λ (s : Seated). HasLearned s new seat.seen) same learned, refl)
+learns-more old mid new (first ∷ seats) seat (next, one, rest) learned = (next, one, learns-more next mid new seats seat rest learned)
+
+pub learns-next : {W : Type 0} (seat : W → Seated) (ws : List W) (i : ℕ) (w : W) (old mid new : Seated) → i < length ws → w ≡ get_or ws i w → LearnsFrom old (map seat (take i ws)) mid → HasLearned mid new (seat w).seen
+    → LearnsFrom old (map seat (take (i + 1) ws)) new
+learns-next {W} seat ws i w old mid new inside at learned one =
+    subst (λ (ss : List Seated). LearnsFrom old ss new) (sym (map_more seat ws i w inside ∙ ap (λ (r : W). map seat (take i ws) ++ seat r ∷ []) (sym at)))
+    (learns-more old mid new (map seat (take i ws)) (seat w) learned one)
+
+pub learns-all : {W : Type 0} (seat : W → Seated) (ws : List W) (i : ℕ) (old new : Seated) → length ws ≤ i → LearnsFrom old (map seat (take i ws)) new → LearnsFrom old (map seat ws) new
+learns-all {W} seat ws i old new over learned = subst (λ (rs : List W). LearnsFrom old (map seat rs) new) (take_all i ws over) learned

@@ -1,5 +1,5 @@
 -- The numbers of a round's seats: the reporter's seat keeps its own, and the numbers of all are their places.
-use Rattle.std.proofs.Common.{zero, suc, ◌≡◌, ◌∙◌, ℕ, ◌+◌, ◌<◌, ◌≤◌, ◌≢◌, Bool, true, false, cond, eqb, ◌⊎◌, inl, inr, ⊎_elim, List, [], ◌∷◌, Option, Some, None, length, get_or, refl, ap, arith, IfSome, count_by, unwrap_or}
+use Rattle.std.proofs.Common.{zero, suc, ◌≡◌, ◌∙◌, ℕ, ◌+◌, ◌<◌, ◌≤◌, ◌≢◌, Bool, true, false, cond, eqb, ◌⊎◌, inl, inr, ⊎_elim, List, [], ◌∷◌, Option, Some, None, length, get_or, refl, ap, arith, IfSome, count_by, unwrap_or, Result}
 use Rattle.std.specs.List.{AllByRecursion}
 use Rattle.std.proofs.lemmas.Bool.Decides.{eqb_tells}
 use Rattle.std.proofs.lemmas.List.Sums.{sum_by-cons}
@@ -11,7 +11,7 @@ use Rattle.station_reporter.proofs.Common.{PrintsAndRecords, Printing, Recording
 use Rattle.station_reporter.specs.declared.duties.Duties.{Duties}
 use Rattle.station_reporter.specs.declared.schedule.Due.{Due}
 use Rattle.station_reporter.specs.declared.reporter.ReporterResult.{ReporterResult}
-use Rattle.station_run.proofs.Common.{AreNumbered, PrintsLast}
+use Rattle.station_run.proofs.Common.{AreNumbered, LearnsFrom, PrintsLast}
 
 -- ---- the reporter's seat keeps its number
 
@@ -44,6 +44,10 @@ reporter_numbered start duties next asked_at old new before after was is by_cloc
     hand_over_number start duties asked_at by_clock.due next by_clock.mid new (is_broken after) by_clock.hands_over
     ∙ later_number start by_clock.reports.shown by_clock.mid by_clock.reports.later
     ∙ showings_number start old by_clock.reports.shown by_clock.reports.showings by_clock.reports.keeps.walk
+
+pub learned_number : (old : Seated) (seats : List Seated) (new : Seated) → LearnsFrom old seats new → new.number ≡ old.number
+learned_number old [] new same = ap (λ (s : Seated). s.number) same
+learned_number old (seat ∷ seats) new (mid, learned, rest) = learned_number mid seats new rest ∙ learned.number
 
 pub last_numbered : {K : Type 0} (record_of : K → Option Recording) (format : Format) (start : Start) (none : Bool) (old new : ReporterResult Seated Printing K) → PrintsLast record_of format start none old new → new.seat.number ≡ old.seat.number
 last_numbered record_of format start true old new same = ap (λ (r : ReporterResult Seated Printing _). r.seat.number) same

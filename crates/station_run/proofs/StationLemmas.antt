@@ -1,5 +1,5 @@
 -- Stations of the job `run`: what a reporter has shown, and how one follows another.
-use Rattle.std.proofs.Common.{rules, ◌≡◌, ◌∙◌, ◌⊎◌, inl, inr, ℕ, ◌&&◌, ◌||◌, Bool, true, false, List, [], ◌∷◌, ◌++◌, Option, Some, None, Result, flat_map, fold, is_some, length, map, max, string_bytes, append-nil, refl, sym, ap, subst, reverse, arith}
+use Rattle.std.proofs.Common.{rules, ◌≡◌, ◌∙◌, ◌⊎◌, inl, inr, ℕ, ◌&&◌, ◌||◌, Bool, true, false, List, [], ◌∷◌, ◌++◌, Option, Some, None, Result, flat_map, fold, is_some, length, map, max, string_bytes, append-nil, refl, sym, ap, subst, reverse, arith, zero, suc, ◌+◌, ◌<◌, is_err}
 use Rattle.streams.specs.Source.{SourceState}
 use Rattle.station_journal.specs.declared.entry.Entry.{Entry}
 use Rattle.station_journal.specs.declared.limits.Limits.{Limits}
@@ -24,7 +24,7 @@ use Rattle.station_reporter.specs.declared.duties.Duties.{Duties}
 use Rattle.station_reporter.specs.declared.schedule.Due.{Due}
 use Rattle.station_reporter.specs.declared.reporter.ReporterResult.{ReporterResult}
 use Rattle.station_paths.proofs.Common.{AllTakeFrom, GaveAllBut, unfinished_status}
-use Rattle.station_run.proofs.Common.{AreRead, Begun, BeginsRound, EndsEarly, EndsRound, EndsRun, Leaves, HandsOver, Follows, GoesOn, IsLost, KeepsRecent, LastLook, Left, PrintsLast, RoundStart, RunEnd, RunPlan, RunsFrom, RunsStation, Shows, Station, Streams, may_go_on, program_limits}
+use Rattle.station_run.proofs.Common.{AreRead, Begun, BeginsRound, Closing, EndsEarly, EndsRound, EndsRun, Leaves, HandsOver, Follows, GoesOn, IsLost, KeepsRecent, LastLook, LearnsFrom, Left, PrintsLast, RoundStart, RunEnd, RunPlan, RunsFrom, RunsOn, RunsStation, Shows, Station, Streams, may_go_on, program_limits}
 
 -- ---- what is kept of a station
 
@@ -86,11 +86,12 @@ module _ {K : Type 0} (record_of : K → Option Recording) (begun : Begun) (star
     new = record { out = report.out; recording = record_of report.beside; err = err };
   }
 
-  abbrev HasShown : ReporterResult Seated Printing K → Type 0
-  HasShown report = ReportsByAClock start begun.duties report.due report.asked_at (newcomer begun.given.entries (length begun.sources)) report.seat before report.out was (record_of report.beside)
+  -- the reporter's clock has ended at this seat, which has learned from the receivers' since
+  abbrev HasShown : Seated → ReporterResult Seated Printing K → Type 0
+  HasShown ended report = LearnsFrom ended receivers report.seat × ReportsByAClock start begun.duties report.due report.asked_at (newcomer begun.given.entries (length begun.sources)) ended before report.out was (record_of report.beside)
 
-  shows-none : (report : ReporterResult Seated Printing K) → true ≡ (hands_over || is_broken report.out) → hands_over ≡ (is_some report.asked_at && may_go_on sources counted) → HasShown report → Shows (reported report)
-  shows-none report none hands by_clock =
+  shows-none : (ended : Seated) (report : ReporterResult Seated Printing K) → true ≡ (hands_over || is_broken report.out) → hands_over ≡ (is_some report.asked_at && may_go_on sources counted) → HasShown ended report → Shows (reported report)
+  shows-none ended report none hands (learns, by_clock) =
       let reports = by_clock.reports in
       let looks = looks_of reports.showings in
       record {
@@ -102,8 +103,10 @@ module _ {K : Type 0} (record_of : K → Option Recording) (begun : Begun) (star
         later = reports.later;
         asked_at = report.asked_at;
         broken_before = is_broken report.out;
+        ended = ended;
+        asks = subst (λ due. MayHandOver start begun.duties report.asked_at due report.due by_clock.mid ended (is_broken report.out)) reports.next_is by_clock.hands_over;
         mid = report.seat;
-        asks = subst (λ due. MayHandOver start begun.duties report.asked_at due report.due by_clock.mid report.seat (is_broken report.out)) reports.next_is by_clock.hands_over;
+        learns = learns;
         hands_over = hands;
         last = [];
         looks = subst (λ (b : Bool). LastLook start report.seat report.seat b []) none (refl, refl);
@@ -113,14 +116,14 @@ module _ {K : Type 0} (record_of : K → Option Recording) (begun : Begun) (star
         records = subst (λ (ls : List (Option Seated)). IfRecording (Records (seen_by ls)) was (record_of report.beside)) (sym (append-nil looks)) reports.records;
       }
 
-  shows-last : (report last : ReporterResult Seated Printing K) → false ≡ (hands_over || is_broken report.out) → hands_over ≡ (is_some report.asked_at && may_go_on sources counted) → HasShown report
+  shows-last : (ended : Seated) (report last : ReporterResult Seated Printing K) → false ≡ (hands_over || is_broken report.out) → hands_over ≡ (is_some report.asked_at && may_go_on sources counted) → HasShown ended report
       → PrintsLast record_of begun.duties.tables.format start false report last → Shows (reported last)
-  shows-last report last none hands by_clock (prints, due_is, asked_is) =
+  shows-last ended report last none hands (learns, by_clock) (prints, due_is, asked_is) =
       let well : is_broken report.out ≡ false = none_broken hands_over (is_broken report.out) none in
       let reports = by_clock.reports in
       let looks = looks_of reports.showings in
       let p = printed_at_most begun.duties.tables.format start looks report.seat last.seat before report.out last.out (record_of report.beside) (record_of last.beside) reports.takes well prints in
-      let asks = subst (λ (b : Bool). MayHandOver start begun.duties report.asked_at by_clock.due report.due by_clock.mid report.seat b) well by_clock.hands_over in
+      let asks = subst (λ (b : Bool). MayHandOver start begun.duties report.asked_at by_clock.due report.due by_clock.mid ended b) well by_clock.hands_over in
       record {
         moments = by_clock.moments;
         showings = reports.showings;
@@ -130,9 +133,11 @@ module _ {K : Type 0} (record_of : K → Option Recording) (begun : Begun) (star
         later = reports.later;
         asked_at = report.asked_at;
         broken_before = false;
+        ended = ended;
+        asks = subst (λ due. MayHandOver start begun.duties report.asked_at due last.due by_clock.mid ended false) reports.next_is
+            (subst (λ due. MayHandOver start begun.duties report.asked_at by_clock.due due by_clock.mid ended false) (sym due_is) asks);
         mid = report.seat;
-        asks = subst (λ due. MayHandOver start begun.duties report.asked_at due last.due by_clock.mid report.seat false) reports.next_is
-            (subst (λ due. MayHandOver start begun.duties report.asked_at by_clock.due due by_clock.mid report.seat false) (sym due_is) asks);
+        learns = learns;
         hands_over = hands;
         last = p.look ∷ [];
         looks = subst (λ (b : Bool). LastLook start report.seat last.seat b (p.look ∷ [])) (none ∙ ap (λ (b : Bool). hands_over || b) well) (one_look start report.seat last.seat p.look p.looked);
@@ -142,10 +147,10 @@ module _ {K : Type 0} (record_of : K → Option Recording) (begun : Begun) (star
         records = one-more-look looks p.look was (record_of report.beside) (record_of last.beside) reports.records p.records;
       }
 
-  pub shows : (report last : ReporterResult Seated Printing K) (none : Bool) → none ≡ (hands_over || is_broken report.out) → hands_over ≡ (is_some report.asked_at && may_go_on sources counted) → HasShown report
+  pub shows : (ended : Seated) (report last : ReporterResult Seated Printing K) (none : Bool) → none ≡ (hands_over || is_broken report.out) → hands_over ≡ (is_some report.asked_at && may_go_on sources counted) → HasShown ended report
       → PrintsLast record_of begun.duties.tables.format start none report last → Shows (reported last)
-  shows report last true none hands by_clock prints = subst (λ r. Shows (reported r)) (sym prints) (shows-none report none hands by_clock)
-  shows report last false none hands by_clock prints = shows-last report last none hands by_clock prints
+  shows ended report last true none hands by_clock prints = subst (λ r. Shows (reported r)) (sym prints) (shows-none ended report none hands by_clock)
+  shows ended report last false none hands by_clock prints = shows-last ended report last none hands by_clock prints
 
 -- the same of a seat that equals the one that it began with
 pub reports_from : (start : Start) (duties : Duties) (due : Due) (asked_at : Option ℕ) (old first new : Seated) (before after : Printing) (was is : Option Recording) → old ≡ first

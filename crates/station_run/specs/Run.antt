@@ -1,6 +1,12 @@
 -- What the threads of a station of the job `run` leave, and how it is closed.
-use Rattle.std.specs.Prelude.{◌≡◌, ◌⊎◌, ℕ, ◌+◌, ◌<◌, ◌&&◌, Bool, true, false, not, List, [], ◌∷◌, All, Option, IfSome, Result, Ok, Err, length, map, slice_index_or, is_some, unwrap_or, Contains, ⊤}
-use Rattle.std.specs.List.{list_any}
+use Rattle.station_reporter.specs.declared.schedule.Due.{Due}
+use Rattle.station_reporter.specs.declared.duties.Duties.{Duties}
+use Rattle.messages.specs.Telling.{Tells, Told, fault_line, output_lines, pump_lines}
+use Rattle.messages.specs.Status.{fault_status, status_of}
+use Rattle.station_reporter.specs.Reporter.{IsLater, KeepsTime, MayHandOver, Showing, due_after, looks_of}
+use Rattle.station_run.specs.Output.{GivesBack}
+use Rattle.std.specs.Prelude.{◌≡◌, ◌⊎◌, ℕ, ◌+◌, ◌<◌, ◌&&◌, Bool, true, false, not, List, [], ◌∷◌, All, Option, IfSome, Result, Ok, Err, length, map, slice_index_or, is_some, unwrap_or, Contains, ⊤, ◌++◌, is_err, fold, max}
+use Rattle.std.specs.List.{list_any, flat_map}
 use Rattle.std.specs.Option.{option_map_or}
 use Rattle.streams.specs.Source.{SourceState}
 use Rattle.clap.specs.Words.{Text}
@@ -9,7 +15,7 @@ use Rattle.station_report.specs.declared.formats.Format.{Format}
 use Rattle.station_portions.specs.Giving.{state_of}
 use Rattle.station_portions.specs.declared.portions.Portions.{Portions}
 use Rattle.station_history.specs.Start.{Start}
-use Rattle.station_shared.specs.Seats.{Seated, Looks, new_seat}
+use Rattle.station_shared.specs.Seats.{HasLearned, Seated, Looks, new_seat}
 use Rattle.station_shared.specs.Closing.{Closes, EachOnce}
 use Rattle.station_shared.specs.Workers.{Worked, Works}
 use Rattle.station_lines.specs.declared.pumping.PumpFault.{PumpFault}
@@ -17,8 +23,8 @@ use Rattle.station_lines.specs.declared.pumping.PumpFault.TheVariants as pump
 use Rattle.station_lines.specs.declared.tally.Tally.{Tally}
 use Rattle.station_run.specs.Limits.{most_reads}
 use Rattle.station_reporter.specs.declared.reporter.ReporterResult.{ReporterResult}
-use Rattle.station_reporter.specs.Recorded.{PrintsAndRecords, Recording}
-use Rattle.station_reporter.specs.Tables.{Printing}
+use Rattle.station_reporter.specs.Recorded.{PrintsAndRecords, Recording, IfRecording, Records, seen_by}
+use Rattle.station_reporter.specs.Tables.{Printing, TakesTexts}
 use Rattle.messages.specs.declared.faults.Fault.{Fault}
 use Rattle.messages.specs.declared.faults.Fault.TheVariants as fault
 
@@ -90,6 +96,11 @@ pub record IsClosed (start : Start) (closing : Closing) : Type 0 where
   pub closes : Closes start (length closing.receivers + 1) closing.journal (closing.reporter ∷ closing.receivers)
 
 -- ---- the last table
+
+-- a seat that learned from these seats, one after another
+abbrev pub LearnsFrom : Seated → List Seated → Seated → Type 0
+LearnsFrom old [] new = new ≡ old
+LearnsFrom old (seat ∷ seats) new = (mid : Seated) × HasLearned old mid seat.seen × LearnsFrom mid seats new
 
 -- what a reporter leaves after the last table, as its seat sees it; or, where none is printed, as it was
 abbrev pub PrintsLast : {K : Type 0} → (K → Option Recording) → Format → Start → (none : Bool) → ReporterResult Seated Printing K → ReporterResult Seated Printing K → Type 0

@@ -1,4 +1,5 @@
 -- What the job `run` leaves: one station after another, each begun from the one before.
+use Rattle.station_portions.specs.declared.finished_path.WholePath.{WholePath}
 use Rattle.std.specs.Prelude.{◌≡◌, ◌≤◌, ◌<◌, ◌⊎◌, ◌&&◌, ◌||◌, ℕ, ◌+◌, ◌-◌, Bool, true, false, List, [], ◌∷◌, ◌++◌, All, fold, is_some, length, map, max, reverse, Option, Some, None, Result, Ok, Err, option_map}
 use Rattle.std.specs.List.{flat_map}
 use Rattle.std.specs.String.{string_bytes}
@@ -24,7 +25,7 @@ use Rattle.messages.specs.Status.{fault_status, status_of}
 use Rattle.station_run.specs.Output.{GivesBack}
 use Rattle.station_reporter.specs.Reporter.{IsLater, KeepsTime, MayHandOver, Showing, after_table, due_after, looks_of, not_before}
 use Rattle.station_reporter.specs.Tables.{Printing, TakesTexts, is_broken}
-use Rattle.station_run.specs.Run.{Closing, HavePumped, IsClosed, LastLook, may_go_on}
+use Rattle.station_run.specs.Run.{Closing, HavePumped, IsClosed, LastLook, LearnsFrom, may_go_on}
 use Rattle.station_paths.specs.Faults.{IsEarly}
 use Rattle.messages.specs.Sums.{AddsEach}
 use Rattle.messages.specs.Telling.{Alarmed, Tells, Told, fault_line, output_lines, pump_lines, unfinished_lines}
@@ -149,9 +150,12 @@ pub record Shows (station : Station) : Type 0 where
   -- a hand-over may be asked for, and is made just where a path goes on and no answer ends the run
   pub asked_at : Option ℕ
   pub broken_before : Bool
-  pub mid : Seated
+  pub ended : Seated
   pub asks : MayHandOver station.left.start station.begun.duties asked_at (due_after station.begun.duties.tables.pace station.begun.duties.due moments)
-      station.left.due looked mid broken_before
+      station.left.due looked ended broken_before
+  -- once the receivers have ended it learns all that their seats have seen, before the last look
+  pub mid : Seated
+  pub learns : LearnsFrom ended station.left.closing.receivers mid
   pub hands_over : station.left.hands_over ≡ (is_some asked_at && may_go_on station.left.sources station.left.counted)
   pub last : List (Option Seated)
   pub looks : LastLook station.left.start mid station.left.closing.reporter (station.left.hands_over || broken_before) last

@@ -1,12 +1,12 @@
 //! One station of a run: it is begun, its threads run to their ends, and it is closed with all its seats.
-ghost use Rattle.std.specs.Prelude.{◌≡◌, ◌≤◌, ◌&&◌, IfErr, IfOk, is_some, length, not, reverse, true};
+ghost use Rattle.std.specs.Prelude.{◌≡◌, ◌≤◌, ◌&&◌, IfErr, IfOk, is_some, length, map, not, reverse, true};
 ghost use Rattle.std.specs.List.{list_any};
 ghost use Rattle.std.specs.Option.{option_map_or};
 ghost use Rattle.station_journal.specs.Resume.{IsSound};
 ghost use Rattle.station_portions.specs.Giving.{left_of, state_of};
 ghost use Rattle.station_run.specs.Limits.{program_limits};
 ghost use Rattle.station_paths.specs.Faults.{IsUnstarted};
-ghost use Rattle.station_run.specs.Run.{ends_run, is_open, may_work_on};
+ghost use Rattle.station_run.specs.Run.{LearnsFrom, ends_run, is_open, may_work_on};
 ghost use Rattle.station_run.specs.Stations.{MayBegin, RanTo, start_of};
 
 mod ending;
@@ -15,13 +15,13 @@ mod opening;
 use crate::limits::AIRCRAFT;
 use crate::stage::ending::{Leaving, close, print_last};
 use crate::stage::opening::{Crew, begin};
-use crate::threads::{Output, Receiver, run_threads};
+use crate::threads::{Outcome, Output, Receiver, run_threads};
 use messages::{Answer, Fault};
 use station_journal::Journal;
 use station_paths::{Input, Paths, System};
 use station_portions::PathEnd;
 use station_reporter::{Beside, Due, Duties, Kept, Printer, RecordFile, Reporter};
-use station_shared::{Places, PumpFault, StationName};
+use station_shared::{Places, PumpFault, Seat, StationName};
 use std::alloc::Global;
 use std::io::{Read, Write};
 use std::marker::Brand;
@@ -138,21 +138,19 @@ fn run_named<
         receivers,
         reporter,
     );
-    let Some(mut left) = ran else {
+    let Some(left) = ran else {
         station.end(rt);
         return Err(Fault::ThreadNotStarted);
     };
-    left.report.beside.report_limits(station.limits_met());
-    let hands_over = hands_over(left.report.asked_at, &left.receivers);
-    let report = print_last(rt, &station, duties.tables.format, hands_over, left.report);
-    let leaving = close(
-        rt,
-        alloc,
-        station,
-        left.receivers,
-        report.seat,
-        stage.answers,
-    )?;
+    let Outcome {
+        receivers,
+        report: mut reported,
+    } = left;
+    reported.beside.report_limits(station.limits_met());
+    let hands_over = hands_over(reported.asked_at, &receivers);
+    learn_from_all(&mut reported.seat, &receivers);
+    let report = print_last(rt, &station, duties.tables.format, hands_over, reported);
+    let leaving = close(rt, alloc, station, receivers, report.seat, stage.answers)?;
     Ok(StationEnd {
         clock: stage.clock,
         rounds_left: stage.rounds_left,
@@ -166,6 +164,18 @@ fn run_named<
         out: report.out,
         beside: report.beside,
     })
+}
+
+// The seat learns from each receiver's: from now on it has seen each accepted call.
+fn learn_from_all<L: StationName, R: Wait>(
+    seat: &mut Seat<AIRCRAFT, L>,
+    receivers: &Vec<Receiver<'_, R, L>>,
+)
+    ensures { LearnsFrom seat.old (map (λ r. r.seat) receivers.now.items) seat.new }
+{
+    for receiver in receivers {
+        seat.learn_from(&receiver.seat);
+    }
 }
 
 // Whether a hand-over was asked for, and a further station has something to do.

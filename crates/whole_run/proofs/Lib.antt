@@ -1,0 +1,10 @@
+mod AccountedLemmas
+mod BeginningLemmas
+mod DeedLemmas
+mod HistoryLemmas
+mod LiftLemmas
+mod PortionLemmas
+mod ReporterLemmas
+mod RunLemmas
+mod StandLemmas
+mod WholeLemmas
