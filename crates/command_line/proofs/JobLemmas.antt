@@ -9,7 +9,7 @@ use Rattle.clap.specs.Lexer.{long_of, short_of}
 use Rattle.std.proofs.lemmas.Slice.Eq.{bytes_eq-Decides}
 use Rattle.clap.specs.Walk.{Held, Names, Outcome, Step, Waiting, Walk, after_flag, after_step, arg_by_index, arg_by_long, bundle, done, long_met, long_or_other, next, option, plain, plain_word, refused, short_or_plain, subcommand, subcommand_met, subcommand_or_other, to_positional, trailing, value, waits, walked, walked_from, word_met, Row, Rule, Text, answers_to, finished, settled, walk, walk_from, nothing_held}
 use Rattle.clap.specs.Words.{subcommand_of}
-use Rattle.command_line.specs.Command.{FormatNames, station}
+use Rattle.command_line.specs.Command.{WordNames, station}
 use Rattle.command_line.proofs.WalkedLemmas.{both_empty, not_none}
 use Rattle.command_line.proofs.FoundLemmas.{Among, among, none_some, some_same}
 use Rattle.command_line.proofs.RunLineLemmas.{replay_shape, run_shape, shapes_are}
@@ -115,14 +115,14 @@ not_help word unhelped helped =
 abbrev pub NamesJobOf : Text → Type 0
 NamesJobOf name = (name ≡ codes "replay") ⊎ (name ≡ codes "run")
 
-job_among : (names : FormatNames) (s : Shape) (word : Text) → Among s (replay_shape names ∷ run_shape names ∷ built_leaf help_shape ∷ []) → answers_to word (label_of s) ≡ true → bytes_eq word (codes "help") ≡ false → NamesJobOf s.name
+job_among : (names : WordNames) (s : Shape) (word : Text) → Among s (replay_shape names ∷ run_shape names ∷ built_leaf help_shape ∷ []) → answers_to word (label_of s) ≡ true → bytes_eq word (codes "help") ≡ false → NamesJobOf s.name
 job_among names s word (inl same) answers unhelped = inl (ap (λ (t : Shape). t.name) (sym same))
 job_among names s word (inr (inl same)) answers unhelped = inr (ap (λ (t : Shape). t.name) (sym same))
 job_among names s word (inr (inr (inl same))) answers unhelped =
     absurd (not_help word unhelped (either_false (bytes_eq (codes "help") word) (subst (λ t. answers_to word (label_of t) ≡ true) (sym same) answers)))
 job_among names s word (inr (inr (inr none))) answers unhelped = absurd none
 
-job_found : (names : FormatNames) (o : Option Shape) (p : Text × List Text) (name : Text) (rows : List Row) → find (λ s. answers_to p.0 (label_of s)) (built (station names)).subs ≡ o
+job_found : (names : WordNames) (o : Option Shape) (p : Text × List Text) (name : Text) (rows : List Row) → find (λ s. answers_to p.0 (label_of s)) (built (station names)).subs ≡ o
     → option_map (λ s. rows_at s p.1) o ≡ Some (name, rows) → bytes_eq p.0 (codes "help") ≡ false → NamesJobOf name
 job_found names None p name rows is e unhelped = absurd (none_some (name, rows) e)
 job_found names (Some s) p name rows is e unhelped =
@@ -130,11 +130,11 @@ job_found names (Some s) p name rows is e unhelped =
     let is_among = subst (Among s) (shapes_are names) (among (λ s. answers_to p.0 (label_of s)) (built (station names)).subs s is) in
     subst NamesJobOf (ap (λ q. q.0) same) (job_among names s p.0 is_among (found_true (λ s. answers_to p.0 (label_of s)) (built (station names)).subs s is) unhelped)
 
-job_entered : (names : FormatNames) (stop : Option (Text × List Text)) (name : Text) (rows : List Row) → entered (built (station names)) stop ≡ Some (name, rows) → NoHelp stop → NamesJobOf name
+job_entered : (names : WordNames) (stop : Option (Text × List Text)) (name : Text) (rows : List Row) → entered (built (station names)) stop ≡ Some (name, rows) → NoHelp stop → NamesJobOf name
 job_entered names None name rows e unhelped = absurd (none_some (name, rows) e)
 job_entered names (Some p) name rows e unhelped = job_found names (find (λ s. answers_to p.0 (label_of s)) (built (station names)).subs) p name rows refl e unhelped
 
-has_subcommand : (names : FormatNames) (b : Bool) (rows : List Row) → check_fault (built (station names)).top rows b ≡ [] → b ≡ true
+has_subcommand : (names : WordNames) (b : Bool) (rows : List Row) → check_fault (built (station names)).top rows b ≡ [] → b ≡ true
 has_subcommand names true rows e = refl
 has_subcommand names false rows e = absurd (not_none _ _ e)
 
@@ -142,7 +142,7 @@ some_of : {X : Type 0} (o : Option X) → is_some o ≡ true → (x : X) × (o �
 some_of None e = absurd (search rules)
 some_of (Some x) e = (x, refl)
 
-pub names_job : (names : FormatNames) (words : List Text) → fault_of (station names) words ≡ [] → (name : Text) × (rows : List Row) × (subcommand_of (station names) words ≡ Some (name, rows)) × NamesJobOf name
+pub names_job : (names : WordNames) (words : List Text) → fault_of (station names) words ≡ [] → (name : Text) × (rows : List Row) × (subcommand_of (station names) words ≡ Some (name, rows)) × NamesJobOf name
 names_job names words passes =
     let a = built (station names) in
     let given = argument_words (station names) words in

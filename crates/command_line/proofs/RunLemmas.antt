@@ -11,7 +11,7 @@ use Rattle.clap.specs.Walk.{one_of, row_text, Row, Text, has_row}
 use Rattle.clap.specs.Words.{subcommand_of}
 use Rattle.clap.specs.declared.builder.value_parser.Reading.TheVariants.{AsWritten}
 use Rattle.clap.specs.declared.builder.value_parser.ValueParser.TheVariants.{Signed}
-use Rattle.command_line.specs.Command.{FormatNames, IsFlagText, IsGiven, IsNumberUpTo, number_in, station}
+use Rattle.command_line.specs.Command.{WordNames, IsFlagText, IsGiven, IsNumberUpTo, number_in, station}
 use Rattle.command_line.proofs.RunRowLemmas.{Fine, Good, IsFlag, IsNumber, fine_found}
 use Rattle.command_line.proofs.RunLineLemmas.{HasAll, has_all, there}
 
@@ -57,35 +57,37 @@ by_id : {P : Type 0} (id : Text) (r : Row) → bytes_eq r.id id ≡ true
     → (IsFlag (codes "reopen") r → bytes_eq (codes "reopen") id ≡ true → P)
     → (r.id ≡ codes "at" → bytes_eq (codes "at") id ≡ true → P)
     → (r.id ≡ codes "stop" → bytes_eq (codes "stop") id ≡ true → P)
+    → (r.id ≡ codes "clock" → bytes_eq (codes "clock") id ≡ true → P)
     → Good r → P
-by_id id r e of_every _ _ _ _ _ _ _ _ _ (inl h) = of_every h (ap (λ t. bytes_eq t id) (sym h.0) ∙ e)
-by_id id r e _ of_tick _ _ _ _ _ _ _ _ (inr (inl h)) = of_tick h (ap (λ t. bytes_eq t id) (sym h.0) ∙ e)
-by_id id r e _ _ of_rounds _ _ _ _ _ _ _ (inr (inr (inl h))) = of_rounds h (ap (λ t. bytes_eq t id) (sym h.0) ∙ e)
-by_id id r e _ _ _ of_path _ _ _ _ _ _ (inr (inr (inr (inl h)))) = of_path h (ap (λ t. bytes_eq t id) (sym h.0) ∙ e)
-by_id id r e _ _ _ _ of_record _ _ _ _ _ (inr (inr (inr (inr (inl h))))) = of_record h (ap (λ t. bytes_eq t id) (sym h) ∙ e)
-by_id id r e _ _ _ _ _ of_format _ _ _ _ (inr (inr (inr (inr (inr (inl h)))))) = of_format h (ap (λ t. bytes_eq t id) (sym h) ∙ e)
-by_id id r e _ _ _ _ _ _ of_json _ _ _ (inr (inr (inr (inr (inr (inr (inl h))))))) = of_json h (ap (λ t. bytes_eq t id) (sym h) ∙ e)
-by_id id r e _ _ _ _ _ _ _ of_reopen _ _ (inr (inr (inr (inr (inr (inr (inr (inl h)))))))) = of_reopen h (ap (λ t. bytes_eq t id) (sym h.0) ∙ e)
-by_id id r e _ _ _ _ _ _ _ _ of_at _ (inr (inr (inr (inr (inr (inr (inr (inr (inl h))))))))) = of_at h (ap (λ t. bytes_eq t id) (sym h) ∙ e)
-by_id id r e _ _ _ _ _ _ _ _ _ of_stop (inr (inr (inr (inr (inr (inr (inr (inr (inr h))))))))) = of_stop h (ap (λ t. bytes_eq t id) (sym h) ∙ e)
+by_id id r e of_every _ _ _ _ _ _ _ _ _ _ (inl h) = of_every h (ap (λ t. bytes_eq t id) (sym h.0) ∙ e)
+by_id id r e _ of_tick _ _ _ _ _ _ _ _ _ (inr (inl h)) = of_tick h (ap (λ t. bytes_eq t id) (sym h.0) ∙ e)
+by_id id r e _ _ of_rounds _ _ _ _ _ _ _ _ (inr (inr (inl h))) = of_rounds h (ap (λ t. bytes_eq t id) (sym h.0) ∙ e)
+by_id id r e _ _ _ of_path _ _ _ _ _ _ _ (inr (inr (inr (inl h)))) = of_path h (ap (λ t. bytes_eq t id) (sym h.0) ∙ e)
+by_id id r e _ _ _ _ of_record _ _ _ _ _ _ (inr (inr (inr (inr (inl h))))) = of_record h (ap (λ t. bytes_eq t id) (sym h) ∙ e)
+by_id id r e _ _ _ _ _ of_format _ _ _ _ _ (inr (inr (inr (inr (inr (inl h)))))) = of_format h (ap (λ t. bytes_eq t id) (sym h) ∙ e)
+by_id id r e _ _ _ _ _ _ of_json _ _ _ _ (inr (inr (inr (inr (inr (inr (inl h))))))) = of_json h (ap (λ t. bytes_eq t id) (sym h) ∙ e)
+by_id id r e _ _ _ _ _ _ _ of_reopen _ _ _ (inr (inr (inr (inr (inr (inr (inr (inl h)))))))) = of_reopen h (ap (λ t. bytes_eq t id) (sym h.0) ∙ e)
+by_id id r e _ _ _ _ _ _ _ _ of_at _ _ (inr (inr (inr (inr (inr (inr (inr (inr (inl h))))))))) = of_at h (ap (λ t. bytes_eq t id) (sym h) ∙ e)
+by_id id r e _ _ _ _ _ _ _ _ _ of_stop _ (inr (inr (inr (inr (inr (inr (inr (inr (inr (inl h)))))))))) = of_stop h (ap (λ t. bytes_eq t id) (sym h) ∙ e)
+by_id id r e _ _ _ _ _ _ _ _ _ _ of_clock (inr (inr (inr (inr (inr (inr (inr (inr (inr (inr h)))))))))) = of_clock h (ap (λ t. bytes_eq t id) (sym h) ∙ e)
 
 other : {X P : Type 0} → X → false ≡ true → P
 other h e = cc
 
 every_row : (r : Row) → Good r → bytes_eq r.id (codes "every") ≡ true → IsNumber (codes "every") 3600000 r
-every_row r good e = by_id (codes "every") r e (λ h e. h) other other other other other other other other other good
+every_row r good e = by_id (codes "every") r e (λ h e. h) other other other other other other other other other other good
 
 tick_row : (r : Row) → Good r → bytes_eq r.id (codes "tick") ≡ true → IsNumber (codes "tick") 60000 r
-tick_row r good e = by_id (codes "tick") r e other (λ h e. h) other other other other other other other other good
+tick_row r good e = by_id (codes "tick") r e other (λ h e. h) other other other other other other other other other good
 
 rounds_row : (r : Row) → Good r → bytes_eq r.id (codes "rounds") ≡ true → IsNumber (codes "rounds") 1000 r
-rounds_row r good e = by_id (codes "rounds") r e other other (λ h e. h) other other other other other other other good
+rounds_row r good e = by_id (codes "rounds") r e other other (λ h e. h) other other other other other other other other good
 
 reopen_row : (r : Row) → Good r → bytes_eq r.id (codes "reopen") ≡ true → IsFlag (codes "reopen") r
-reopen_row r good e = by_id (codes "reopen") r e other other other other other other other (λ h e. h) other other good
+reopen_row r good e = by_id (codes "reopen") r e other other other other other other other (λ h e. h) other other other good
 
 path_values : (r : Row) → Good r → bytes_eq r.id (codes "path") ≡ true → (1 ≤ length r.values) × (length r.values ≤ 8)
-path_values r good e = by_id (codes "path") r e other other other (λ h e. (h.1, h.2)) other other other other other other good
+path_values r good e = by_id (codes "path") r e other other other (λ h e. (h.1, h.2)) other other other other other other other good
 
 abbrev GivesNumber : Text → ℕ → List Row → Type 0
 GivesNumber id most rows = (v : Text) × (one_of id rows ≡ Some v) × IsNumberUpTo most v
@@ -140,5 +142,5 @@ given_values rows h =
       few = counts.1;
     }
 
-pub run_given : (names : FormatNames) (words : List Text) (rows : List Row) → subcommand_of (station names) words ≡ Some (codes "run", rows) → fault_of (station names) words ≡ [] → IsGiven rows
+pub run_given : (names : WordNames) (words : List Text) (rows : List Row) → subcommand_of (station names) words ≡ Some (codes "run", rows) → fault_of (station names) words ≡ [] → IsGiven rows
 run_given names words rows named passes = given_values rows (has_all names words rows named passes)

@@ -13,7 +13,7 @@ use Rattle.clap.specs.Words.{subcommand_of}
 use Rattle.clap.specs.declared.builder.value_parser.Reading.TheVariants.{AsWritten}
 use Rattle.clap.specs.declared.parser.matches.ValueSource.TheVariants.{DefaultValue}
 use Rattle.clap.proofs.OnLiterals.{clap_on_literals}
-use Rattle.command_line.specs.Command.{FormatNames, at_place, format, json_folder, path, record_file, reopen, replay, rounds, run, station, stop_pipe, tick}
+use Rattle.command_line.specs.Command.{WordNames, at_place, clock, format, json_folder, path, record_file, reopen, replay, rounds, run, station, stop_pipe, tick}
 use Rattle.command_line.proofs.WalkedLemmas.{Keeps, both_empty, not_none, settles, walks}
 use Rattle.command_line.proofs.FoundLemmas.{Among, among, none_some, some_same}
 use Rattle.command_line.proofs.RunRowLemmas.{Fine, absent, fine_snoc, row_for}
@@ -21,10 +21,10 @@ use Rattle.command_line.proofs.RunUseLemmas.{help_flag, keeps_among, option, run
 
 -- ---- the command line of `run`
 
-abbrev pub run_shape : FormatNames → Shape
+abbrev pub run_shape : WordNames → Shape
 run_shape names = built_leaf (inherited (with_leaf_noted (marked_built (station names).top)) (run names).top)
 
-keeps_run : (names : FormatNames) → Keeps (run_shape names).rules (run_shape names).args_override_self Fine
+keeps_run : (names : WordNames) → Keeps (run_shape names).rules (run_shape names).args_override_self Fine
 keeps_run names a values rows found e f = keeps_among names a values rows (among found.0 (run_shape names).rules a found.1) e f
 
 either_way : (b : Bool) (rows : List Row) → (if b then rows else rows) ≡ rows
@@ -50,11 +50,12 @@ reopen_default false rows is f =
     let added = absent (codes "reopen") (more_values DefaultValue (codes "false" ∷ [])) (row ∷ []) rows is in
     (subst Fine (sym added) (fine_snoc rows row f (inr (inr (inr (inr (inr (inr (inr (inl (refl, refl, inr refl)))))))))), ap (has_row (codes "reopen")) added ∙ has_last (codes "reopen") rows row refl)
 
-finished_is : (names : FormatNames) (rows : List Row) → fold with_default rows (run_rules names) ≡ with_default rows (option reopen)
+finished_is : (names : WordNames) (rows : List Row) → fold with_default rows (run_rules names) ≡ with_default rows (option reopen)
 finished_is names rows =
     let after = with_default rows (option reopen) in
     let of_every = either_way (has_row (codes "every") rows) rows in
     let of_tick = either_way (has_row (codes "tick") rows) rows in
+    let of_clock = either_way (has_row (codes "clock") rows) rows in
     let of_format = either_way (has_row (codes "format") rows) rows in
     let of_json = either_way (has_row (codes "json") rows) rows in
     let of_rounds = either_way (has_row (codes "rounds") rows) rows in
@@ -63,8 +64,9 @@ finished_is names rows =
     let of_at = either_way (has_row (codes "at") after) after in
     let of_path = either_way (has_row (codes "path") after) after in
     let of_help = either_way (has_row (codes "help") after) after in
-    ap (λ t. fold with_default t ((option tick) ∷ option (format names) ∷ (option json_folder) ∷ (option rounds) ∷ (option reopen) ∷ (option stop_pipe) ∷ (option record_file) ∷ (option at_place) ∷ (option path) ∷ help_flag ∷ [])) of_every
-    ∙ ap (λ t. fold with_default t (option (format names) ∷ (option json_folder) ∷ (option rounds) ∷ (option reopen) ∷ (option stop_pipe) ∷ (option record_file) ∷ (option at_place) ∷ (option path) ∷ help_flag ∷ [])) of_tick
+    ap (λ t. fold with_default t ((option tick) ∷ option (clock names) ∷ option (format names) ∷ (option json_folder) ∷ (option rounds) ∷ (option reopen) ∷ (option stop_pipe) ∷ (option record_file) ∷ (option at_place) ∷ (option path) ∷ help_flag ∷ [])) of_every
+    ∙ ap (λ t. fold with_default t (option (clock names) ∷ option (format names) ∷ (option json_folder) ∷ (option rounds) ∷ (option reopen) ∷ (option stop_pipe) ∷ (option record_file) ∷ (option at_place) ∷ (option path) ∷ help_flag ∷ [])) of_tick
+    ∙ ap (λ t. fold with_default t (option (format names) ∷ (option json_folder) ∷ (option rounds) ∷ (option reopen) ∷ (option stop_pipe) ∷ (option record_file) ∷ (option at_place) ∷ (option path) ∷ help_flag ∷ [])) of_clock
     ∙ ap (λ t. fold with_default t ((option json_folder) ∷ (option rounds) ∷ (option reopen) ∷ (option stop_pipe) ∷ (option record_file) ∷ (option at_place) ∷ (option path) ∷ help_flag ∷ [])) of_format
     ∙ ap (λ t. fold with_default t ((option rounds) ∷ (option reopen) ∷ (option stop_pipe) ∷ (option record_file) ∷ (option at_place) ∷ (option path) ∷ help_flag ∷ [])) of_json
     ∙ ap (λ t. fold with_default t ((option reopen) ∷ (option stop_pipe) ∷ (option record_file) ∷ (option at_place) ∷ (option path) ∷ help_flag ∷ [])) of_rounds
@@ -85,7 +87,7 @@ there (Some r) e = (r, refl)
 abbrev pub HasAll : List Row → Type 0
 HasAll rows = Fine rows × (is_given (codes "every") rows ≡ true) × (has_row (codes "reopen") rows ≡ true) × (is_given (codes "path") rows ≡ true)
 
-run_level : (names : FormatNames) (words : List Text) → level_fault (run_shape names) [] nothing_held words false [] ≡ [] → HasAll (rows_after (run_shape names).rules [] words)
+run_level : (names : WordNames) (words : List Text) → level_fault (run_shape names) [] nothing_held words false [] ≡ [] → HasAll (rows_after (run_shape names).rules [] words)
 run_level names words e =
     let end = (walk (run_shape names).rules [] nothing_held words).held in
     let walked_on = both_empty (walk_fault (run_shape names) [] (walk_from nothing_held) words) (or_else (settle_fault (run_shape names).rules false end) (or_else (defaults_fault (settled (run_shape names).rules end).rows (run_shape names).rules) (check_fault (run_shape names) (finished (run_shape names).rules end) false))) e in
@@ -121,10 +123,10 @@ level_down : (a : App) (stop : Option (Text × List Text)) (name : Text) (rows :
 level_down a None name rows e f = absurd (none_some (name, rows) e)
 level_down a (Some p) name rows e f = level_found (find (λ s. answers_to p.0 (label_of s)) a.subs) _ a.subs p.1 name rows refl e f
 
-abbrev pub replay_shape : FormatNames → Shape
+abbrev pub replay_shape : WordNames → Shape
 replay_shape names = built_leaf (inherited (with_leaf_noted (marked_built (station names).top)) (replay names).top)
 
-run_among : (names : FormatNames) (s : Shape) (words : List Text) (rows : List Row) → Among s (replay_shape names ∷ run_shape names ∷ built_leaf help_shape ∷ []) → s.name ≡ codes "run"
+run_among : (names : WordNames) (s : Shape) (words : List Text) (rows : List Row) → Among s (replay_shape names ∷ run_shape names ∷ built_leaf help_shape ∷ []) → s.name ≡ codes "run"
     → level_fault s [] nothing_held words false [] ≡ [] → rows_after s.rules [] words ≡ rows → HasAll rows
 run_among names s words rows (inl same) name_is passes rows_are = let bad : 6 ≡ 3 = ap (λ (t : Text). length t) (ap (λ (t : Shape). t.name) same ∙ name_is) in absurd (omega (arith, bad))
 run_among names s words rows (inr (inl same)) name_is passes rows_are =
@@ -133,11 +135,11 @@ run_among names s words rows (inr (inl same)) name_is passes rows_are =
 run_among names s words rows (inr (inr (inl same))) name_is passes rows_are = let bad : 4 ≡ 3 = ap (λ (t : Text). length t) (ap (λ (t : Shape). t.name) same ∙ name_is) in absurd (omega (arith, bad))
 run_among names s words rows (inr (inr (inr none))) name_is passes rows_are = absurd none
 
-pub shapes_are : (names : FormatNames) → (built (station names)).subs ≡ replay_shape names ∷ run_shape names ∷ built_leaf help_shape ∷ []
+pub shapes_are : (names : WordNames) → (built (station names)).subs ≡ replay_shape names ∷ run_shape names ∷ built_leaf help_shape ∷ []
 unfolding clap_on_literals
 shapes_are names = refl
 
-pub has_all : (names : FormatNames) (words : List Text) (rows : List Row) → subcommand_of (station names) words ≡ Some (codes "run", rows) → fault_of (station names) words ≡ [] → HasAll rows
+pub has_all : (names : WordNames) (words : List Text) (rows : List Row) → subcommand_of (station names) words ≡ Some (codes "run", rows) → fault_of (station names) words ≡ [] → HasAll rows
 has_all names words rows named passes =
     let a = built (station names) in
     let stop = (walk a.top.rules (names_of a) nothing_held (argument_words (station names) words)).stopped in

@@ -10,14 +10,14 @@ use Rattle.clap.specs.Faults.{is_simple_and_free}
 use Rattle.command_line.proofs.JobLemmas.{NamesJobOf}
 use Rattle.clap.proofs.OnLiterals.{clap_on_literals}
 use Rattle.modes_cpr.specs.declared.points.Reference.{Reference}
-use Rattle.command_line.specs.Command.{FormatNames, GivesPlace, IsFlagText, IsNumberUpTo, is_set, misplaced_text, number_in, number_if_given, station}
+use Rattle.command_line.specs.Command.{WordNames, GivesPlace, IsFlagText, IsNumberUpTo, is_set, misplaced_text, number_in, number_if_given, station}
 use Rattle.command_line.specs.Places.{place_named}
 
-pub is_simple-station : (names : FormatNames) → is_simple (station names) ≡ true
+pub is_simple-station : (names : WordNames) → is_simple (station names) ≡ true
 unfolding clap_on_literals
 is_simple-station names = refl
 
-pub is_free-station : (names : FormatNames) → is_simple_and_free (station names) ≡ true
+pub is_free-station : (names : WordNames) → is_simple_and_free (station names) ≡ true
 unfolding clap_on_literals
 is_free-station names = refl
 

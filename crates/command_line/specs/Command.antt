@@ -15,6 +15,9 @@ use Rattle.station_report.specs.declared.formats.Format.{Format}
 use Rattle.station_report.specs.declared.formats.Format.TheVariants as Formats
 use Rattle.station_journal.specs.Past.{Site}
 use Rattle.command_line.specs.Places.{place_named}
+use Rattle.command_line.specs.declared.clock_origin.ClockOrigin.{ClockOrigin}
+use Rattle.command_line.specs.declared.clock_origin.ClockOrigin.TheVariants as begins
+pub use Rattle.command_line.specs.declared.commands.WordNames.{WordNames}
 use Rattle.command_line.specs.declared.words.Job.{Job}
 use Rattle.command_line.specs.declared.words.Job.TheVariants.{Replay, Run}
 use Rattle.command_line.specs.declared.words.RunArguments.{RunArguments}
@@ -79,19 +82,29 @@ at_place = record (new_rule (codes "at")) {
   value_names = 1;
 }
 
--- the words of `--format`, where the program keeps them
-abbrev pub FormatNames : Type 0
-FormatNames = Bor (List (Bor Text))
+-- the words of an option, as texts
+abbrev pub texts_of : Bor (List (Bor Text)) → List Text
+texts_of names = map (λ (name : Bor Text). name.now) names.now
 
-abbrev pub AreFormatNames : FormatNames → Type 0
-AreFormatNames names = map (λ (name : Bor Text). name.now) names.now ≡ codes "text" ∷ codes "json" ∷ []
+-- the words of `--format` and of `--clock`, wherever the program keeps them
+pub record AreWordNames (names : WordNames) : Type 0 where
+  pub formats : texts_of names.formats ≡ codes "text" ∷ codes "json" ∷ []
+  pub clocks : texts_of names.clocks ≡ codes "start" ∷ codes "unix" ∷ []
 
 -- `--format FORMAT`: one of these words, at most once, and not required
-abbrev pub format : FormatNames → Rule
+abbrev pub format : WordNames → Rule
 format names = record (new_rule (codes "format")) {
   long = Some (codes "format");
   value_names = 1;
-  parser = Some (Names names);
+  parser = Some (Names names.formats);
+}
+
+-- `--clock CLOCK`: one of these words, at most once, and not required
+abbrev pub clock : WordNames → Rule
+clock names = record (new_rule (codes "clock")) {
+  long = Some (codes "clock");
+  value_names = 1;
+  parser = Some (Names names.clocks);
 }
 
 -- `--json DIR`: any text but the empty one, at most once, and not required
@@ -111,23 +124,23 @@ path = record (new_rule (codes "path")) {
   required = true;
 }
 
-abbrev pub replay : FormatNames → App
+abbrev pub replay : WordNames → App
 replay names = with_rule (with_rule (new_app (codes "replay")) (format names)) at_place
 
--- `run` with its times, with the formats of its tables, with how it goes on and ends, with all its options, and then with PATH too
+-- `run` with its times, with its clock and the formats of its tables, with how it goes on and ends, with all its options, and then with PATH too
 abbrev pub run_times : App
 run_times = with_rule (with_rule (new_app (codes "run")) every) tick
 
-abbrev pub run_formats : FormatNames → App
-run_formats names = with_rule (with_rule run_times (format names)) json_folder
+abbrev pub run_formats : WordNames → App
+run_formats names = with_rule (with_rule (with_rule run_times (clock names)) (format names)) json_folder
 
-abbrev pub run_ends : FormatNames → App
+abbrev pub run_ends : WordNames → App
 run_ends names = with_rule (with_rule (with_rule (run_formats names) rounds) reopen) stop_pipe
 
-abbrev pub run_options : FormatNames → App
+abbrev pub run_options : WordNames → App
 run_options names = with_rule (with_rule (run_ends names) record_file) at_place
 
-abbrev pub run : FormatNames → App
+abbrev pub run : WordNames → App
 run names = with_rule (run_options names) path
 
 -- the whole command line needs a subcommand, and has `--version`
@@ -135,12 +148,12 @@ abbrev pub with_version : App → App
 with_version a = record a { top = record a.top { has_version = true; subcommand_required = true } }
 
 -- the whole command line: one of the two subcommands
-abbrev pub station : FormatNames → App
+abbrev pub station : WordNames → App
 station names = with_subcommand (with_subcommand (with_version (new_app (codes "groundstation"))) (replay names).top) (run names).top
 
--- this is the whole command line, wherever the words of `--format` are kept
+-- this is the whole command line, wherever its words are kept
 abbrev pub IsStation : App → Type 0
-IsStation app = (names : FormatNames) × AreFormatNames names × (app ≡ station names)
+IsStation app = (names : WordNames) × AreWordNames names × (app ≡ station names)
 
 -- the argument has this rule, and is not global
 abbrev pub IsArg : Rule → Arg → Type 0
@@ -163,6 +176,11 @@ format_named (Some text) = if bytes_eq text (codes "json") then form.Json else f
 abbrev pub format_since : TableFormat → ℕ → Format
 format_since form.Text origin = Formats.Text
 format_since form.Json origin = Formats.Json origin
+
+-- the beginning of the clock that a text names, and the start of the run where there is none
+abbrev pub clock_named : Option Text → ClockOrigin
+clock_named None = begins.Start
+clock_named (Some text) = if bytes_eq text (codes "unix") then begins.Unix else begins.Start
 
 -- the number of each text of an option that may be missing
 abbrev pub number_if_given : Option Text → Option ℕ
@@ -228,6 +246,7 @@ pub record GivesRun (rows : List Row) (arguments : RunArguments) : Type 0 where
   pub file_is : option_map string_bytes arguments.record ≡ first_of (codes "record") rows
   pub folder_is : option_map string_bytes arguments.displays ≡ first_of (codes "json") rows
   pub format_is : arguments.format ≡ format_named (first_of (codes "format") rows)
+  pub clock_is : arguments.clock ≡ clock_named (first_of (codes "clock") rows)
   pub place : GivesPlace rows arguments.site
 
 -- a decimal number from 1 up to a limit

@@ -1,5 +1,5 @@
 //! The commands that `clap` reads: their options, and what help says of them.
-ghost use Rattle.command_line.specs.Command.{IsArg, IsMade, at_place, every, format, json_folder, path, record_file, reopen, replay, rounds, run, run_ends, run_formats, run_options, run_times, station, stop_pipe, tick};
+ghost use Rattle.command_line.specs.Command.{IsArg, IsMade, at_place, clock, every, format, json_folder, path, record_file, reopen, replay, rounds, run, run_ends, run_formats, run_options, run_times, station, stop_pipe, tick};
 ghost use Rattle.std.specs.Prelude.{◌≡◌, IfOk};
 
 use clap::builder::ValueParser;
@@ -10,6 +10,15 @@ use std::alloc::{AllocError, Global};
 pub const VERSION: &str = "1.0.0";
 
 const MOST_PATHS: usize = 8;
+
+/// The words of the options that take one of some words.
+#[derive(Clone, Copy)]
+pub struct WordNames<'a> {
+    /// Those of `--format`.
+    pub formats: &'a [&'a str],
+    /// Those of `--clock`.
+    pub clocks: &'a [&'a str],
+}
 
 const AFTER_HELP: &str = concat!(
     "Examples:\n",
@@ -59,6 +68,7 @@ const AFTER_RUN_HELP: &str = concat!(
     "is heard between two tables is dated to the earlier one. An MS of 1000 or so is\n",
     "best: above 10000 positions may be wrong, above 60000 only the last table shows\n",
     "aircraft. With --tick the clock also moves between tables: MS may be an hour.\n",
+    "With --clock unix the clock is the time since 1970: a record has its dates.\n",
     "When every path has ended, the last table is written, and a line of counts for\n",
     "each path goes to standard error.\n",
     "--json writes each table to DIR/aircraft.json too, which displays read.\n",
@@ -78,9 +88,9 @@ const AFTER_RUN_HELP: &str = concat!(
     "Formats: docs/FORMATS.md. Receivers that drop: docs/USING.md.",
 );
 
-/// The whole command line: one of the two jobs, help, or the version. `names` are the words of `--format`. Refused if out of
+/// The whole command line: one of the two jobs, help, or the version. `names` are the words of its options. Refused if out of
 /// memory.
-pub fn station_command<'a>(alloc: Global, names: &'a [&'a str]) -> Result<Command<'a>, AllocError>
+pub fn station_command<'a>(alloc: Global, names: WordNames<'a>) -> Result<Command<'a>, AllocError>
     ensures { IfOk result (IsMade (station names.entry)) }
 {
     let top = Command::new(alloc, "groundstation")
@@ -94,7 +104,7 @@ pub fn station_command<'a>(alloc: Global, names: &'a [&'a str]) -> Result<Comman
     with_replay.subcommand(run)
 }
 
-fn replay_command<'a>(alloc: Global, names: &'a [&'a str]) -> Result<Command<'a>, AllocError>
+fn replay_command<'a>(alloc: Global, names: WordNames<'a>) -> Result<Command<'a>, AllocError>
     ensures { IfOk result (IsMade (replay names.entry)) }
 {
     let format = format_arg(alloc, names);
@@ -106,7 +116,7 @@ fn replay_command<'a>(alloc: Global, names: &'a [&'a str]) -> Result<Command<'a>
     with_format.arg(place)
 }
 
-fn run_command<'a>(alloc: Global, names: &'a [&'a str]) -> Result<Command<'a>, AllocError>
+fn run_command<'a>(alloc: Global, names: WordNames<'a>) -> Result<Command<'a>, AllocError>
     ensures { IfOk result (IsMade (run names.entry)) }
 {
     let path = path_arg(alloc);
@@ -114,7 +124,7 @@ fn run_command<'a>(alloc: Global, names: &'a [&'a str]) -> Result<Command<'a>, A
     with_options.arg(path)
 }
 
-fn run_with_options<'a>(alloc: Global, names: &'a [&'a str]) -> Result<Command<'a>, AllocError>
+fn run_with_options<'a>(alloc: Global, names: WordNames<'a>) -> Result<Command<'a>, AllocError>
     ensures { IfOk result (IsMade (run_options names.entry)) }
 {
     let file = record_arg(alloc);
@@ -124,7 +134,7 @@ fn run_with_options<'a>(alloc: Global, names: &'a [&'a str]) -> Result<Command<'
     with_record.arg(place)
 }
 
-fn run_with_ends<'a>(alloc: Global, names: &'a [&'a str]) -> Result<Command<'a>, AllocError>
+fn run_with_ends<'a>(alloc: Global, names: WordNames<'a>) -> Result<Command<'a>, AllocError>
     ensures { IfOk result (IsMade (run_ends names.entry)) }
 {
     let rounds = rounds_arg(alloc);
@@ -136,13 +146,15 @@ fn run_with_ends<'a>(alloc: Global, names: &'a [&'a str]) -> Result<Command<'a>,
     with_reopen.arg(stop)
 }
 
-fn run_with_formats<'a>(alloc: Global, names: &'a [&'a str]) -> Result<Command<'a>, AllocError>
+fn run_with_formats<'a>(alloc: Global, names: WordNames<'a>) -> Result<Command<'a>, AllocError>
     ensures { IfOk result (IsMade (run_formats names.entry)) }
 {
+    let clock = clock_arg(alloc, names);
     let format = format_arg(alloc, names);
     let folder = json_arg(alloc);
     let with_times = run_with_times(alloc)?;
-    let with_format = with_times.arg(format)?;
+    let with_clock = with_times.arg(clock)?;
+    let with_format = with_clock.arg(format)?;
     with_format.arg(folder)
 }
 
@@ -184,14 +196,25 @@ fn tick_arg<'a>(alloc: Global) -> Arg<'a>
 }
 
 // `--format FORMAT`
-fn format_arg<'a>(alloc: Global, names: &'a [&'a str]) -> Arg<'a>
+fn format_arg<'a>(alloc: Global, names: WordNames<'a>) -> Arg<'a>
     ensures { IsArg (format names.entry) result }
 {
     Arg::new(alloc, "format")
         .long("format")
         .value_name("FORMAT")
         .help("How tables are written")
-        .value_parser(ValueParser::Names(names))
+        .value_parser(ValueParser::Names(names.formats))
+}
+
+// `--clock CLOCK`
+fn clock_arg<'a>(alloc: Global, names: WordNames<'a>) -> Arg<'a>
+    ensures { IsArg (clock names.entry) result }
+{
+    Arg::new(alloc, "clock")
+        .long("clock")
+        .value_name("CLOCK")
+        .help("Beginning of the clock")
+        .value_parser(ValueParser::Names(names.clocks))
 }
 
 // `--json DIR`

@@ -1,10 +1,11 @@
 //! The command line.
 ghost use Rattle.clap.specs.Words.{App, fault_of, found_of, rows_of, takes};
-ghost use Rattle.command_line.specs.Command.{AreFormatNames, AreInRange, GivesPlace, GivesRun, IsGiven, IsInRange, IsStation, IsOwnFault, IsPlaceFault, IsWordsFault, NamesJob, gives_both, station};
+ghost use Rattle.command_line.specs.Command.{AreInRange, AreWordNames, GivesPlace, GivesRun, IsGiven, IsInRange, IsStation, IsOwnFault, IsPlaceFault, IsWordsFault, NamesJob, gives_both, station};
 ghost use Rattle.std.specs.Prelude.{◌≡◌, [], IfErr, IfOk, false, map, option_map, true};
 ghost use Rattle.std.specs.String.{string_bytes};
 
-use crate::commands::station_command;
+use crate::clock_origin::ClockOrigin;
+use crate::commands::{WordNames, station_command};
 use crate::pace::Pace;
 use crate::site::place_named;
 use crate::table_format::TableFormat;
@@ -31,6 +32,8 @@ pub enum Job {
 pub struct RunArguments {
     /// A table every 1 to 3,600,000 ms, and where it is asked a tick every 1 to 60,000 ms between two tables.
     pub pace: Pace,
+    /// Where its clock begins.
+    pub clock: ClockOrigin,
     /// How often the paths are read, 1 to 1,000.
     pub rounds: u16,
     /// Whether a path that has ended, or whose read failed, is opened again. Never where rounds are asked for.
@@ -101,20 +104,23 @@ pub fn read_words<'a>(alloc: Global, words: &'a [&'a str]) -> Result<Job, WordsF
         → IsOwnFault app (map (λ w. w.now) words.entry.now) fault)) }
     ensures range { IfOk result IsInRange }
 {
-    read_named(alloc, format_names(), words)
+    read_named(alloc, word_names(), words)
 }
 
-// The words of `--format`.
-fn format_names<'a>() -> &'a [&'a str]
-    ensures { AreFormatNames result }
+// The words of `--format` and of `--clock`.
+fn word_names<'a>() -> WordNames<'a>
+    ensures { AreWordNames result }
 {
-    &["text", "json"]
+    WordNames {
+        formats: &["text", "json"],
+        clocks: &["start", "unix"],
+    }
 }
 
-// The same beside the words of `--format`.
+// The same beside the words of its options.
 fn read_named<'a>(
     alloc: Global,
-    names: &'a [&'a str],
+    names: WordNames<'a>,
     words: &'a [&'a str],
 ) -> Result<Job, WordsFault>
     ensures job { IfOk result (λ job. (fault_of (station names.entry) (map (λ w. w.now) words.entry.now) ≡ [])
@@ -191,8 +197,10 @@ fn read_run(
     let stop = owned_if_given(alloc, given.get_str("stop"))?;
     let record = owned_if_given(alloc, given.get_str("record"))?;
     let displays = owned_if_given(alloc, given.get_str("json"))?;
+    let clock = ClockOrigin::named(given.get_str("clock"));
     Ok(RunArguments {
         pace: Pace { every, tick },
+        clock,
         rounds: rounds.unwrap_or(1),
         reopens,
         stop,

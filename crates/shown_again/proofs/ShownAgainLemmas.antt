@@ -1,8 +1,6 @@
 -- A replay of the record of a run prints what the run printed, station by station.
-use Rattle.station_shared.specs.Seats.{Seated}
-use Rattle.station_history.proofs.Common.{Start}
-use Rattle.std.proofs.Common.{rules, ◌≡◌, ◌∙◌, ◌⊎◌, inl, inr, ℕ, suc, ◌+◌, ◌≤◌, ◌||◌, Bool, true, false, List, [], ◌∷◌, ◌++◌, Option, Some, None, refl, sym, ap, subst, length, arith, max}
-use Rattle.std.specs.Io.KnownBytes.{Appends, Keeps}
+use Rattle.std.proofs.Common.{rules, ◌≡◌, ◌∙◌, ◌⊎◌, inl, inr, ℕ, suc, ◌+◌, ◌≤◌, ◌||◌, Bool, true, false, List, [], ◌∷◌, ◌++◌, Option, Some, None, refl, sym, ap, subst, length, arith}
+use Rattle.std.specs.Io.KnownBytes.{Appends}
 use Rattle.modes_frame.specs.Lines.{cuts}
 use Rattle.station_journal.proofs.Common.{Site}
 use Rattle.station_journal.specs.Log.{IsLegal, empty_log, most_entries}
@@ -12,11 +10,11 @@ use Rattle.station_replay.proofs.LimitLemmas.{limit-unreached, under-output}
 use Rattle.station_record.specs.ReadBack.{new_log}
 use Rattle.station_record.proofs.RoundLemmas.{first-continues}
 use Rattle.messages.proofs.Common.{Told, fault_status}
-use Rattle.station_reporter.proofs.Common.{IfRecording, Printing, Recording, looks_of, record_status, Records, seen_by}
+use Rattle.station_reporter.proofs.Common.{IfRecording, Printing, Recording, looks_of, record_status}
 use Rattle.station_reporter.proofs.PrintingLemmas.{unfailed-before}
 use Rattle.station_reporter.specs.declared.duties.Duties.{Duties}
 use Rattle.station_reporter.specs.declared.schedule.Tables.{Tables}
-use Rattle.station_run.proofs.Common.{BeginsRound, Begun, EndsRun, HandsOver, KeepsRecent, RunEnd, RunPlan, RunsOn, RunsStation, Station, no_start, program_limits, GivesBack, IsOver, Left, RoundStart, Streams}
+use Rattle.station_run.proofs.Common.{BeginsRound, Begun, EndsRun, HandsOver, KeepsRecent, RunEnd, RunPlan, RunsOn, RunsStation, Station, no_start, program_limits}
 use Rattle.shown_again.proofs.KeptEndLemmas.{Begins, wide}
 use Rattle.shown_again.proofs.SaidLemmas.{Said, handed-on, only-said, still-well}
 use Rattle.shown_again.proofs.StationLemmas.{kept-whole, no-fault, says-kept, station-says}

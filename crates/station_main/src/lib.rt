@@ -5,7 +5,7 @@ mod obeying;
 mod process;
 mod replay_job;
 
-pub use command_line::{Job, Pace, RunArguments, TableFormat, WordsFault, read_words};
+pub use command_line::{ClockOrigin, Job, Pace, RunArguments, TableFormat, WordsFault, read_words};
 pub use messages::{Alarms, StandardError};
 pub use obeying::{obey, program};
 pub use process::{exit_code, own_words};

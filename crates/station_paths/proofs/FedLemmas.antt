@@ -1,14 +1,11 @@
 -- Sources that are fed by threads, one by one.
-use Rattle.std.proofs.Common.{ℕ, ◌≡◌, ◌∙◌, ◌∷◌, ◌++◌, List, [], Option, None, Some, Result, append_assoc, append-nil, arith, ap, get_or, is_some, length, map, refl, suc, true, subst, sym, All}
-use Rattle.station_lines.specs.declared.pumping.PumpFault.{PumpFault}
-use Rattle.station_lines.specs.declared.tally.Tally.{Tally}
+use Rattle.std.proofs.Common.{ℕ, ◌≡◌, ◌∙◌, ◌∷◌, ◌++◌, List, [], Option, None, Some, append_assoc, append-nil, arith, ap, length, map, refl, suc, subst, sym, All}
 use Rattle.std.proofs.lemmas.List.{map_push}
 use Rattle.std.proofs.lemmas.List.Elements.{All-cons, All-nil}
 use Rattle.station_portions.specs.Giving.{state_of}
 use Rattle.streams.specs.Source.{SourceState}
 use Rattle.station_portions.specs.declared.portions.Portions.{Portions}
 use Rattle.station_portions.specs.declared.finished_path.WholePath.{WholePath}
-use Rattle.messages.proofs.Common.{AddsAll, AddsAnswer}
 use Rattle.station_paths.proofs.Common.{AllTakeFrom, AreFed, IsFedBy, TakesFrom, unknown}
 use Rattle.station_paths.specs.declared.opened.Opened.{Opened}
 

@@ -1,5 +1,5 @@
 -- The paths of a round that weren't read to their ends.
-use Rattle.std.proofs.Common.{rules, ◌≡◌, ◌∙◌, ◌∷◌, ◌++◌, ◌<◌, ◌≤◌, ℕ, zero, suc, Bool, true, false, List, [], Option, None, Some, ◌⊎◌, inl, inr, append_assoc, append-nil, arith, ap, cond, map, max, nat_eq, refl, subst, sym, flat_map}
+use Rattle.std.proofs.Common.{◌≡◌, ◌∙◌, ◌∷◌, ◌++◌, ◌<◌, ◌≤◌, ℕ, zero, suc, Bool, true, false, List, [], Option, None, Some, ◌⊎◌, inl, inr, append_assoc, append-nil, arith, ap, cond, map, max, nat_eq, refl, subst, sym, flat_map}
 use Rattle.std.proofs.lemmas.Bool.Decides.{nat_tests}
 use Rattle.std.proofs.lemmas.Grind.{flat_map-append}
 use Rattle.std.specs.Io.KnownBytes.{Appends}

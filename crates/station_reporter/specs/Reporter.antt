@@ -19,7 +19,7 @@ use Rattle.station_reporter.specs.declared.reporter.Reporter.{Reporter}
 use Rattle.command_line.specs.declared.pace.Pace.{Pace}
 use Rattle.station_reporter.specs.declared.schedule.Tables.{Tables}
 
--- ---- when it acts, in milliseconds since its start
+-- ---- when it acts, in milliseconds of the run's clock
 
 -- the time one interval after another, at most 2^64 - 1
 abbrev pub next_moment : ℕ → ℕ → ℕ
@@ -33,6 +33,12 @@ next_tick (Some interval) at = Some (next_moment interval at)
 -- after a table at this time, or the last tick before the start: the next table, and a tick before it if the pace has ticks
 abbrev pub after_table : Pace → ℕ → Due
 after_table pace at = record { table = next_moment pace.every at; tick = next_tick pace.tick at }
+
+-- at a clock that begins at a time, after the last tick before: where that was before the beginning a tick is due at once, and the
+-- first table one interval after the beginning
+abbrev pub due_from : Pace → (begins_at last_tick : ℕ) → Due
+due_from pace begins_at last_tick =
+    if nat_lt last_tick begins_at then record { table = next_moment pace.every begins_at; tick = Some begins_at } else after_table pace last_tick
 
 -- after a tick alone at this time: the table is due where it was
 abbrev pub after_tick : Pace → Due → ℕ → Due

@@ -1,9 +1,9 @@
 //! What the reporter of a station does.
 ghost use Rattle.std.specs.Prelude.{◌≡◌, ◌≤◌, length, true};
-ghost use Rattle.station_reporter.specs.Reporter.{after_table, asks_hand_over, not_before};
+ghost use Rattle.station_reporter.specs.Reporter.{asks_hand_over, due_from, not_before};
 
 use crate::kept::Kept;
-use crate::schedule::{Due, Tables, after_table};
+use crate::schedule::{Due, Tables, due_from};
 
 // How long the next hand-over waits where one leaves more than half of the entries, in milliseconds.
 const PAUSE: u64 = 10_000;
@@ -26,17 +26,23 @@ pub struct Duties {
 }
 
 impl Duties {
-    /// Those of a round's first station.
-    pub fn first(tables: Tables, last_tick: u64, hand_over_at: u64, ends_with_output: bool) -> Self
+    /// Those of a round's first station. The clock of the run begins at `begins_at`.
+    pub fn first(
+        tables: Tables,
+        begins_at: u64,
+        last_tick: u64,
+        hand_over_at: u64,
+        ends_with_output: bool,
+    ) -> Self
         ensures tables { result.tables ≡ tables }
-        ensures due { result.due ≡ after_table tables.pace last_tick }
+        ensures due { result.due ≡ due_from tables.pace begins_at last_tick }
         ensures at { result.hand_over_at ≡ hand_over_at }
         ensures pause { result.not_before ≡ 0 }
         ensures ends { result.ends_with_output ≡ ends_with_output }
     {
         Duties {
             tables,
-            due: after_table(tables.pace, last_tick),
+            due: due_from(tables.pace, begins_at, last_tick),
             hand_over_at,
             not_before: 0,
             ends_with_output,

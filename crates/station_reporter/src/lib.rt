@@ -16,7 +16,7 @@ mod requests;
 mod schedule;
 mod stop;
 
-pub use bell::Bell;
+pub use bell::{Bell, Bells};
 pub use beside::Beside;
 pub use displays::Displays;
 pub use duties::Duties;
@@ -28,5 +28,5 @@ pub use record_file::{RecordFile, record_to};
 pub use recorder::{Recorder, record_rest};
 pub use reporter::{Reporter, ReporterResult, ReportsFrom, print_and_record, report};
 pub use requests::Requests;
-pub use schedule::{Act, Due, Tables, act_at, milliseconds_since_1970};
+pub use schedule::{Act, Due, RunClock, Tables, act_at, milliseconds_since_1970};
 pub use stop::{Stop, Stopped};

@@ -5,14 +5,16 @@ ghost use Rattle.station_reporter.specs.Recorded.{PrintsAndRecords};
 ghost use Rattle.station_reporter.specs.Reporter.{DoesAct, IsLater, Reports, ReportsByAClock};
 ghost use Rattle.station_reporter.specs.Tables.{is_broken};
 
-use crate::bell::Bell;
+use crate::bell::{Bell, Bells};
 use crate::beside::Beside;
 use crate::displays::{put_table, table_for};
 use crate::duties::Duties;
 use crate::printer::Printer;
 use crate::recorder::record_look;
 use crate::requests::Requests;
-use crate::schedule::{Act, Due, ElapsedClock, LONGEST_SLEEP, Moments, act_at, after_tick};
+use crate::schedule::{
+    Act, Due, ElapsedClock, LONGEST_SLEEP, Moments, RunClock, act_at, after_tick,
+};
 use station_report::Format;
 use station_shared::{Seat, Station, StationName};
 use std::fs::File;
@@ -21,7 +23,7 @@ use std::rt::Files;
 use std::snapshot::Snapshot;
 use std::sync::Wait;
 use std::thread::Promise;
-use std::time::{Clock, Duration, Instant};
+use std::time::{Clock, Duration};
 use streams::Sink;
 
 /// What a reporter leaves.
@@ -57,12 +59,13 @@ impl<const N: usize, L: StationName, S: Sink, T: Sink, A: Write> Promise<
     ghost kept_by = { λ given reported. HasReported (λ b. b.record) L.start given.0.value reported };
 }
 
-/// Ticks, prints the table and records it each time that it is due, in milliseconds since `start`.
+/// Ticks, prints the table and records it each time that it is due, by the run's clock.
 /// Between tables it ticks alone, if ticks are asked for. Ends when all receivers have ended, a table failed without which
 /// the run doesn't go on, or the journal has enough entries for the station to hand over: then it ticks alone once more, and
 /// asks for the end of all portions. Where the end of the run was asked for, it asks for that end too, and the station doesn't
 /// hand over. Answers the seat, the output, which has taken the tables of its looks and nothing else, and what is written
 /// beside: the record has gone on with what these looks saw. Limits that calls have met are reported at once.
+/// `bells.begun` rings once it has ticked where a tick is due at its start.
 pub fn report<
     const N: usize,
     L: StationName,
@@ -73,23 +76,24 @@ pub fn report<
 >(
     rt: &R,
     station: &Station<N, L>,
-    ended: &Bell,
+    bells: &Bells,
     requests: &Requests,
-    start: Option<Instant>,
+    clock: RunClock,
     reporter: Reporter<Seat<N, L>, Printer<S, A>, Beside<T, A>>,
 ) -> ReporterResult<Seat<N, L>, Printer<S, A>, Beside<T, A>>
     ensures { ReportsByAClock L.start reporter.duties result.due result.asked_at reporter.seat result.seat
         reporter.out result.out reporter.beside.record result.beside.record }
 {
     let duties = reporter.duties;
-    let mut moments = ElapsedClock { rt, start };
-    let (mut reported, is_full) = report_at(rt, station, ended, requests, reporter, &mut moments);
+    let mut moments = ElapsedClock { rt, clock };
+    let (mut reported, is_full) = report_at(rt, station, bells, requests, reporter, &mut moments);
+    bells.begun.ring();
     if !is_full {
         end_if(
             requests,
             duties.ends_with_output && reported.out.is_broken(),
         );
-        await_end(rt, ended, requests);
+        await_end(rt, &bells.ended, requests);
         return reported;
     }
     let at = moments.now();
@@ -135,7 +139,7 @@ fn report_at<
 >(
     rt: &R,
     station: &Station<N, L>,
-    ended: &Bell,
+    bells: &Bells,
     requests: &Requests,
     reporter: Reporter<Seat<N, L>, Printer<S, A>, Beside<T, A>>,
     moments: &mut M,
@@ -153,7 +157,7 @@ fn report_at<
     let duties = reporter.duties;
     let (mut reported, mut now) = (begin(reporter), 0);
     for _ in rt.forever() {
-        if reported.out.is_broken() || ended.has_rung() {
+        if reported.out.is_broken() || bells.ended.has_rung() {
             break;
         }
         reported.beside.report_limits(station.limits_met());
@@ -165,7 +169,7 @@ fn report_at<
         }
         now = moments.now();
         let act = act_at(now, reported.due, duties.tables.pace);
-        reported = do_act(rt, station, ended, duties.tables.format, act, reported);
+        reported = do_act(rt, station, bells, duties.tables.format, act, reported);
     }
     (reported, false)
 }
@@ -198,7 +202,7 @@ fn do_act<
 >(
     rt: &R,
     station: &Station<N, L>,
-    ended: &Bell,
+    bells: &Bells,
     format: Format,
     act: Act,
     mut reported: ReporterResult<Seat<N, L>, Printer<S, A>, Beside<T, A>>,
@@ -206,13 +210,18 @@ fn do_act<
     ensures { DoesAct (λ b. b.record) format L.start act reported result }
 {
     match act {
-        Act::Sleep(pause) => ended.rest(rt, pause),
+        Act::Sleep(pause) => {
+            bells.begun.ring();
+            bells.ended.rest(rt, pause);
+        }
         Act::Tick { at, next_due } => {
             let _ = station.tick(rt, &mut reported.seat, at);
+            bells.begun.ring();
             reported.due = next_due;
         }
         Act::Print { at, next_due } => {
             let _ = station.tick(rt, &mut reported.seat, at);
+            bells.begun.ring();
             let seat = reported.seat;
             let (out, beside) = (&mut reported.out, &mut reported.beside);
             reported.seat = print_and_record(rt, station, seat, format, out, beside);

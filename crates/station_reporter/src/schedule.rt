@@ -1,8 +1,8 @@
-//! When the reporter acts, in milliseconds since the start of the program.
+//! When the reporter acts, in milliseconds of the run's clock.
 ghost use Rattle.std.specs.Prelude.{◌≡◌, ◌-◌, ◌^◌, ◌/◌, ℕ, List, [], ◌∷◌, Option, None, min};
 ghost use Rattle.std.specs.Duration.{as_nanos};
 ghost use Rattle.std.specs.Io.KnownBytes.{Appends};
-ghost use Rattle.station_reporter.specs.Reporter.{IsActAt, after_table, after_tick, first_due, has_come, next_moment, next_tick};
+ghost use Rattle.station_reporter.specs.Reporter.{IsActAt, after_table, after_tick, due_from, first_due, has_come, next_moment, next_tick};
 
 use command_line::Pace;
 use station_report::Format;
@@ -17,7 +17,7 @@ pub struct Tables {
     pub format: Format,
 }
 
-/// When the reporter acts next, in milliseconds since the start of the program.
+/// When the reporter acts next, in milliseconds of the run's clock.
 #[derive(Clone, Copy, Debug, PartialEq, Eq)]
 pub struct Due {
     /// The next table, with its tick.
@@ -34,6 +34,20 @@ pub fn after_table(pace: Pace, at: u64) -> Due
         table: later(at, pace.every),
         tick: next_tick(pace, at),
     }
+}
+
+/// What is due at a clock that begins at this time, after the last tick before the reporter's start. Where no tick has come
+/// since the beginning, one is due at once, so that what is heard is dated by it.
+pub fn due_from(pace: Pace, begins_at: u64, last_tick: u64) -> Due
+    ensures { result ≡ due_from pace begins_at last_tick }
+{
+    if last_tick < begins_at {
+        return Due {
+            table: later(begins_at, pace.every),
+            tick: Some(begins_at),
+        };
+    }
+    after_table(pace, last_tick)
 }
 
 /// What is due after a tick alone at this time: the table is due where it was.
@@ -138,11 +152,30 @@ pub trait Moments {
         ensures { Appends (given self.old) (given self.new) (result ∷ []) };
 }
 
-/// The time since a start. It stays 0 if the clock couldn't be read at the start.
+/// The clock of a run.
+#[derive(Clone, Copy)]
+pub struct RunClock {
+    // When it began, if the system has a clock that never goes back.
+    start: Option<Instant>,
+    // The time that it showed then, in milliseconds.
+    begins_at: u64,
+}
+
+impl RunClock {
+    /// A clock that begins now, with this time in milliseconds.
+    pub fn begin<R: Clock>(rt: &R, begins_at: u64) -> RunClock {
+        RunClock {
+            start: Instant::now(rt).ok(),
+            begins_at,
+        }
+    }
+}
+
+/// The time that the clock of a run shows. It stays where it began if the system's couldn't be read then.
 #[derive(Drop)]
 pub struct ElapsedClock<'a, R> {
     pub rt: &'a R,
-    pub start: Option<Instant>,
+    pub clock: RunClock,
 }
 
 impl<R: Clock> Moments for ElapsedClock<'_, R> {
@@ -150,9 +183,9 @@ impl<R: Clock> Moments for ElapsedClock<'_, R> {
 
     // A clock that can't be read counts as one that still shows the start.
     fn now(&mut self) -> u64 {
-        match self.start.map(|start| start.elapsed(self.rt)) {
-            Some(Ok(passed)) => milliseconds(passed),
-            _ => 0,
+        match self.clock.start.map(|start| start.elapsed(self.rt)) {
+            Some(Ok(passed)) => self.clock.begins_at.saturating_add(milliseconds(passed)),
+            _ => self.clock.begins_at,
         }
     }
 }

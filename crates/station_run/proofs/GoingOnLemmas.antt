@@ -1,5 +1,5 @@
 -- Whether a further station has something to do.
-use Rattle.std.proofs.Common.{◌≡◌, ◌∷◌, ◌||◌, Bool, true, false, List, [], Option, Some, None, Result, ap, ap₂, cond, is_some, map, not, refl, rules, sym, ◌&&◌}
+use Rattle.std.proofs.Common.{◌≡◌, ◌∷◌, ◌||◌, Bool, true, List, [], Option, Some, Result, ap, ap₂, map, not, refl, rules, ◌&&◌}
 use Rattle.std.specs.List.{list_any}
 use Rattle.std.specs.Option.{option_map_or}
 use Rattle.station_portions.specs.Giving.{state_of}

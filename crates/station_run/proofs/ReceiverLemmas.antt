@@ -15,7 +15,7 @@ use Rattle.station_lines.specs.declared.tally.Tally.{Tally}
 use Rattle.station_portions.specs.declared.finished_path.WholePath.{WholePath}
 use Rattle.messages.proofs.Common.{AddsAll, AddsEach}
 use Rattle.station_paths.proofs.Common.{AllTakeFrom}
-use Rattle.station_run.proofs.Common.{most_reads, AreNumbered, Closing, HavePumped, HaveWorked, IsClosed}
+use Rattle.station_run.proofs.Common.{most_reads, AreNumbered, HavePumped, HaveWorked, IsClosed}
 use Rattle.station_run.proofs.RunJobLemmas.{length_new_seats}
 use Rattle.std.proofs.lemmas.Option.{same_Some}
 use Rattle.station_run.proofs.SeatNumberLemmas.{all_once}

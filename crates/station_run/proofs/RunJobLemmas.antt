@@ -1,6 +1,5 @@
 -- Lists and buffers of the job `run`.
-use Rattle.std.proofs.Common.{◌≡◌, ◌∙◌, ℕ, List, [], ◌∷◌, ◌++◌, Option, Some, None, zero, suc, length-append, refl, sym, ap, append-nil, take, drop, length, arith, nat_lt, not}
-use Rattle.std.specs.Io.KnownBytes.{append_known}
+use Rattle.std.proofs.Common.{◌≡◌, ◌∙◌, ℕ, List, [], ◌∷◌, ◌++◌, zero, suc, length-append, refl, sym, ap, take, drop, length, arith, nat_lt, not}
 use Rattle.std.proofs.Math.Seq.{take-append_seam}
 use Rattle.station_journal.specs.declared.entry.Entry.{Entry}
 use Rattle.station_shared.specs.Seats.{new_seat, new_seats}

@@ -1,5 +1,5 @@
 -- The seats of a station as it begins, and when it can't go on from what was kept.
-use Rattle.std.proofs.Common.{◌≡◌, ◌∙◌, ℕ, ◌+◌, ◌-◌, ◌<◌, ◌≤◌, List, [], ◌∷◌, ◌++◌, get_or, length, length-append, map, refl, subst, sym, ap, take, reverse, arith, rules}
+use Rattle.std.proofs.Common.{◌≡◌, ◌∙◌, ℕ, ◌+◌, ◌-◌, ◌<◌, ◌≤◌, List, [], ◌∷◌, ◌++◌, get_or, length, length-append, map, refl, subst, sym, ap, take, reverse, arith}
 use Rattle.std.proofs.lemmas.List.{length-reverse, length-take-le, map_more, take_all}
 use Rattle.station_journal.specs.declared.entry.Entry.{Entry}
 use Rattle.station_journal.specs.declared.limits.Limits.{Limits}

@@ -1,5 +1,5 @@
 -- Stations of the job `run`: what a reporter has shown, and how one follows another.
-use Rattle.std.proofs.Common.{rules, ◌≡◌, ◌∙◌, ◌⊎◌, inl, inr, ℕ, ◌&&◌, ◌||◌, Bool, true, false, List, [], ◌∷◌, ◌++◌, Option, Some, None, Result, flat_map, fold, is_some, length, map, max, string_bytes, append-nil, refl, sym, ap, subst, reverse, arith, zero, suc, ◌+◌, ◌<◌, is_err}
+use Rattle.std.proofs.Common.{rules, ◌≡◌, ◌∙◌, ◌⊎◌, inl, inr, ℕ, ◌&&◌, ◌||◌, Bool, true, false, List, [], ◌∷◌, ◌++◌, Option, Some, None, Result, flat_map, fold, is_some, length, map, max, string_bytes, append-nil, refl, sym, ap, subst, reverse, arith, zero, suc}
 use Rattle.streams.specs.Source.{SourceState}
 use Rattle.station_journal.specs.declared.entry.Entry.{Entry}
 use Rattle.station_journal.specs.declared.limits.Limits.{Limits}
@@ -24,7 +24,7 @@ use Rattle.station_reporter.specs.declared.duties.Duties.{Duties}
 use Rattle.station_reporter.specs.declared.schedule.Due.{Due}
 use Rattle.station_reporter.specs.declared.reporter.ReporterResult.{ReporterResult}
 use Rattle.station_paths.proofs.Common.{AllTakeFrom, GaveAllBut, unfinished_status}
-use Rattle.station_run.proofs.Common.{AreRead, Begun, BeginsRound, Closing, EndsEarly, EndsRound, EndsRun, Leaves, HandsOver, Follows, GoesOn, IsLost, KeepsRecent, LastLook, LearnsFrom, Left, PrintsLast, RoundStart, RunEnd, RunPlan, RunsFrom, RunsOn, RunsStation, Shows, Station, Streams, may_go_on, program_limits}
+use Rattle.station_run.proofs.Common.{AreRead, Begun, BeginsRound, EndsEarly, EndsRound, EndsRun, Leaves, HandsOver, Follows, GoesOn, IsLost, KeepsRecent, LastLook, LearnsFrom, Left, PrintsLast, RoundStart, RunEnd, RunPlan, RunsFrom, RunsStation, Shows, Station, Streams, may_go_on, program_limits}
 
 -- ---- what is kept of a station
 

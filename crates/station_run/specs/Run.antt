@@ -1,15 +1,8 @@
 -- What the threads of a station of the job `run` leave, and how it is closed.
-use Rattle.station_reporter.specs.declared.schedule.Due.{Due}
-use Rattle.station_reporter.specs.declared.duties.Duties.{Duties}
-use Rattle.messages.specs.Telling.{Tells, Told, fault_line, output_lines, pump_lines}
-use Rattle.messages.specs.Status.{fault_status, status_of}
-use Rattle.station_reporter.specs.Reporter.{IsLater, KeepsTime, MayHandOver, Showing, due_after, looks_of}
-use Rattle.station_run.specs.Output.{GivesBack}
-use Rattle.std.specs.Prelude.{◌≡◌, ◌⊎◌, ℕ, ◌+◌, ◌<◌, ◌&&◌, Bool, true, false, not, List, [], ◌∷◌, All, Option, IfSome, Result, Ok, Err, length, map, slice_index_or, is_some, unwrap_or, Contains, ⊤, ◌++◌, is_err, fold, max}
-use Rattle.std.specs.List.{list_any, flat_map}
+use Rattle.std.specs.Prelude.{◌≡◌, ℕ, ◌+◌, ◌<◌, ◌&&◌, Bool, true, false, not, List, [], ◌∷◌, All, Option, IfSome, Result, Ok, Err, length, map, slice_index_or, is_some, unwrap_or}
+use Rattle.std.specs.List.{list_any}
 use Rattle.std.specs.Option.{option_map_or}
 use Rattle.streams.specs.Source.{SourceState}
-use Rattle.clap.specs.Words.{Text}
 use Rattle.station_journal.specs.declared.entry.Entry.{Entry}
 use Rattle.station_report.specs.declared.formats.Format.{Format}
 use Rattle.station_portions.specs.Giving.{state_of}
@@ -23,10 +16,8 @@ use Rattle.station_lines.specs.declared.pumping.PumpFault.TheVariants as pump
 use Rattle.station_lines.specs.declared.tally.Tally.{Tally}
 use Rattle.station_run.specs.Limits.{most_reads}
 use Rattle.station_reporter.specs.declared.reporter.ReporterResult.{ReporterResult}
-use Rattle.station_reporter.specs.Recorded.{PrintsAndRecords, Recording, IfRecording, Records, seen_by}
-use Rattle.station_reporter.specs.Tables.{Printing, TakesTexts}
-use Rattle.messages.specs.declared.faults.Fault.{Fault}
-use Rattle.messages.specs.declared.faults.Fault.TheVariants as fault
+use Rattle.station_reporter.specs.Recorded.{PrintsAndRecords, Recording}
+use Rattle.station_reporter.specs.Tables.{Printing}
 
 -- ---- the receivers
 

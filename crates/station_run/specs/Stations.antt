@@ -1,5 +1,4 @@
 -- What the job `run` leaves: one station after another, each begun from the one before.
-use Rattle.station_portions.specs.declared.finished_path.WholePath.{WholePath}
 use Rattle.std.specs.Prelude.{◌≡◌, ◌≤◌, ◌<◌, ◌⊎◌, ◌&&◌, ◌||◌, ℕ, ◌+◌, ◌-◌, Bool, true, false, List, [], ◌∷◌, ◌++◌, All, fold, is_some, length, map, max, reverse, Option, Some, None, Result, Ok, Err, option_map}
 use Rattle.std.specs.List.{flat_map}
 use Rattle.std.specs.String.{string_bytes}
@@ -7,6 +6,8 @@ use Rattle.station_portions.specs.Giving.{state_of}
 use Rattle.streams.specs.Source.{SourceState}
 use Rattle.clap.specs.Words.{Text}
 use Rattle.command_line.specs.Command.{format_since}
+use Rattle.command_line.specs.declared.clock_origin.ClockOrigin.{ClockOrigin}
+use Rattle.command_line.specs.declared.clock_origin.ClockOrigin.TheVariants as begins
 use Rattle.command_line.specs.declared.words.RunArguments.{RunArguments}
 use Rattle.station_journal.specs.declared.entry.Entry.{Entry}
 use Rattle.station_journal.specs.Log.{clock_of}
@@ -23,7 +24,7 @@ use Rattle.station_run.specs.Limits.{forget_at, program_limits}
 use Rattle.station_reporter.specs.Recorded.{IfRecording, IsNewRecord, Recording, Records, RecordsRest, record_status, seen_by}
 use Rattle.messages.specs.Status.{fault_status, status_of}
 use Rattle.station_run.specs.Output.{GivesBack}
-use Rattle.station_reporter.specs.Reporter.{IsLater, KeepsTime, MayHandOver, Showing, after_table, due_after, looks_of, not_before}
+use Rattle.station_reporter.specs.Reporter.{IsLater, KeepsTime, MayHandOver, Showing, due_after, due_from, looks_of, not_before}
 use Rattle.station_reporter.specs.Tables.{Printing, TakesTexts, is_broken}
 use Rattle.station_run.specs.Run.{Closing, HavePumped, IsClosed, LastLook, LearnsFrom, may_go_on}
 use Rattle.station_paths.specs.Faults.{IsEarly}
@@ -46,11 +47,12 @@ use Rattle.station_run.specs.declared.stage.StationEnd.{StationEnd}
 
 -- ---- what is asked of a run, and what it writes to
 
--- when tables are due and how they are written, how many rounds come after the first, the paths, what reading each of them
+-- when tables are due and how they are written, where the clock begins, how many rounds come after the first, the paths, what reading each of them
 -- gives where that is known, how many entries of its journal make a station hand over, the place of the receivers, the file of
 -- the record, whether tables are written for displays, and the pipe that stops the run
 pub record RunPlan : Type 0 where
   pub tables : Tables
+  pub begins_at : ℕ
   pub rounds_left : ℕ
   pub paths : List Text
   pub known : List (Option (List ℕ))
@@ -180,10 +182,10 @@ pub record RunsStation (station : Station) : Type 0 where
 -- ---- from one station to the next
 
 -- the first station of a round: it has a source for each path, of which no byte was given, and its table is due one interval
--- after the last tick
+-- after the last tick; where the clock begins after that, one interval after the beginning, and then a tick is due at once
 pub record IsFirst (asked : RunPlan) (begun : Begun) : Type 0 where
   pub tables : begun.duties.tables ≡ asked.tables
-  pub due : begun.duties.due ≡ after_table asked.tables.pace begun.given.last_tick
+  pub due : begun.duties.due ≡ due_from asked.tables.pace asked.begins_at begun.given.last_tick
   pub hand_over_at : begun.duties.hand_over_at ≡ asked.hand_over_at
   pub not_before : begun.duties.not_before ≡ 0
   pub many_sources : length begun.sources ≡ length asked.paths
@@ -371,6 +373,7 @@ RunsAsked asked before after alarm err_old err_new status =
 abbrev pub plan_of : RunOptions → RunPlan
 plan_of options = record {
   tables = options.tables;
+  begins_at = options.begins_at;
   rounds_left = options.rounds - 1;
   paths = map string_bytes options.paths.now.items;
   known = unknown (map string_bytes options.paths.now.items);
@@ -381,10 +384,22 @@ plan_of options = record {
   stop = option_map string_bytes options.stop.now;
 }
 
--- what is asked of a run by its arguments, over paths whose content isn't known; JSON counts from the origin
+-- where the clock of a run begins that starts at a time since 1970, in milliseconds
+abbrev pub beginning_of : ClockOrigin → (now : ℕ) → ℕ
+beginning_of begins.Start now = 0
+beginning_of begins.Unix now = now
+
+-- the time since 1970 at which that clock shows 0
+abbrev pub origin_of : ClockOrigin → (now : ℕ) → ℕ
+origin_of begins.Start now = now
+origin_of begins.Unix now = 0
+
+-- what is asked of a run by its arguments, over paths whose content isn't known; it starts at the origin, and JSON has the time
+-- since 1970
 abbrev pub plan_from : RunArguments → (origin : ℕ) → RunPlan
 plan_from arguments origin = record {
-  tables = record { pace = arguments.pace; format = format_since arguments.format origin };
+  tables = record { pace = arguments.pace; format = format_since arguments.format (origin_of arguments.clock origin) };
+  begins_at = beginning_of arguments.clock origin;
   rounds_left = arguments.rounds - 1;
   paths = map string_bytes arguments.paths.items;
   known = unknown (map string_bytes arguments.paths.items);

@@ -21,7 +21,7 @@ use crate::threads::Output;
 use messages::{Fault, StandardError, tell, tell_end};
 use station_paths::{Host, Opened, PathSystem, Paths, System, open_all, start_all, tell_ends};
 use station_reporter::{
-    Beside, Displays, Duties, Kept, Printer, RecordFile, Stop, displays, recorder,
+    Beside, Displays, Duties, Kept, Printer, RecordFile, RunClock, Stop, displays, recorder,
 };
 use std::alloc::Global;
 use std::fs::File;
@@ -29,7 +29,6 @@ use std::io::{Read, Write};
 use std::rt::Files;
 use std::sync::Arc;
 use std::thread::Threads;
-use std::time::Instant;
 
 /// What comes after a station.
 #[derive(Drop)]
@@ -43,8 +42,8 @@ pub enum Next<'a, 'p, R, O: Write + Drop, A: Write + Drop> {
 /// What a round goes on from.
 #[derive(Drop)]
 pub struct Carried<O: Write + Drop, A: Write + Drop> {
-    /// When the clock of the tables began, if the system has one.
-    pub clock: Option<Instant>,
+    /// The clock of the tables.
+    pub clock: RunClock,
     /// How many rounds come after this one.
     pub rounds_left: u16,
     pub kept: Kept,
@@ -259,6 +258,7 @@ pub fn begin_round<
     let started = start_all(host, files, carried.stop)?;
     let duties = Duties::first(
         asked.tables,
+        asked.begins_at,
         carried.kept.last_tick,
         asked.hand_over_at,
         asked.reopens,

@@ -18,13 +18,12 @@ use crate::threads::Output;
 use messages::{Alarms, Fault, StandardError};
 use station_paths::{Host, Opened, PathSystem, System};
 use station_reporter::{
-    Beside, Displays, Kept, LimitAlarm, Printer, RecordFile, Recorder, record_to,
+    Beside, Displays, Kept, LimitAlarm, Printer, RecordFile, Recorder, RunClock, record_to,
 };
 use std::alloc::Global;
 use std::fs::File;
 use std::io::{BufWriter, Write};
 use std::rt::Files;
-use std::time::Instant;
 use streams::ToWrite;
 
 /// Runs one station after another. A station hands over to the next while its paths go on. Else its round is over, and the
@@ -125,7 +124,7 @@ fn first_stage<'a, 'p, R: System, W: PathSystem, O: Write + Drop, A: Write + Dro
         return Err(Fault::NoMemory);
     };
     let carried = Carried {
-        clock: Instant::now(host.rt).ok(),
+        clock: RunClock::begin(host.rt, asked.begins_at),
         rounds_left: asked.rounds - 1,
         kept: Kept::nothing(host.alloc, asked.site),
         stop,

@@ -1,10 +1,10 @@
 //! The options of a run.
 ghost use Rattle.std.specs.Prelude.{◌≡◌};
-ghost use Rattle.station_run.specs.Stations.{plan_from};
+ghost use Rattle.station_run.specs.Stations.{origin_of, plan_from};
 ghost use Rattle.station_run.specs.Stations.{plan_of};
 
 use crate::limits::FORGET_AT;
-use command_line::RunArguments;
+use command_line::{ClockOrigin, RunArguments};
 use modes_cpr::Reference;
 use station_reporter::Tables;
 
@@ -19,7 +19,9 @@ pub struct RunOptions<'a> {
     pub reopens: bool,
     /// The named pipe that ends the run once it is written to, if one is given.
     pub stop: &'a Option<String>,
-    /// When the clock of the tables begins, in milliseconds since 1970.
+    /// Where the clock begins, in milliseconds: 0 at the start of the run, or the time since 1970.
+    pub begins_at: u64,
+    /// The time at which that clock shows 0, in milliseconds since 1970.
     pub origin: u64,
     /// The file that the run is recorded to, if one is given.
     pub record: &'a Option<String>,
@@ -34,15 +36,19 @@ pub struct RunOptions<'a> {
 }
 
 impl<'a> RunOptions<'a> {
-    /// What the arguments ask for. The clock of JSON tables begins at `origin`, in milliseconds since 1970.
-    pub fn new(arguments: &'a RunArguments, origin: u64) -> Self
-        ensures plan { plan_of result ≡ plan_from arguments.entry.now origin }
+    /// What the arguments ask for, of a run that starts at `now`, in milliseconds since 1970.
+    pub fn new(arguments: &'a RunArguments, now: u64) -> Self
+        ensures plan { plan_of result ≡ plan_from arguments.entry.now now }
         ensures rounds { result.rounds ≡ arguments.entry.now.rounds }
         ensures reopens { result.reopens ≡ arguments.entry.now.reopens }
-        ensures origin { result.origin ≡ origin }
+        ensures origin { result.origin ≡ origin_of arguments.entry.now.clock now }
         ensures displays { result.displays.now ≡ arguments.entry.now.displays }
         ensures paths { result.paths.now ≡ arguments.entry.now.paths }
     {
+        let (begins_at, origin) = match arguments.clock {
+            ClockOrigin::Start => (0, now),
+            ClockOrigin::Unix => (now, 0),
+        };
         RunOptions {
             tables: Tables {
                 pace: arguments.pace,
@@ -51,6 +57,7 @@ impl<'a> RunOptions<'a> {
             rounds: arguments.rounds,
             reopens: arguments.reopens,
             stop: &arguments.stop,
+            begins_at,
             origin,
             record: &arguments.record,
             displays: &arguments.displays,

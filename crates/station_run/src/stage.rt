@@ -20,20 +20,19 @@ use messages::{Answer, Fault};
 use station_journal::Journal;
 use station_paths::{Input, Paths, System};
 use station_portions::PathEnd;
-use station_reporter::{Beside, Due, Duties, Kept, Printer, RecordFile, Reporter};
+use station_reporter::{Beside, Due, Duties, Kept, Printer, RecordFile, Reporter, RunClock};
 use station_shared::{Places, PumpFault, Seat, StationName};
 use std::alloc::Global;
 use std::io::{Read, Write};
 use std::marker::Brand;
 use std::sync::Wait;
 use std::sync::ledger::Blank;
-use std::time::Instant;
 
 /// What a station is begun with.
 #[derive(Drop)]
 pub struct Stage<'a, 'p, R, I: Read + Drop, O: Write + Drop, A: Write + Drop> {
-    /// When the clock of the tables began, if the system has one.
-    pub clock: Option<Instant>,
+    /// The clock of the tables.
+    pub clock: RunClock,
     /// How many rounds come after this one.
     pub rounds_left: u16,
     /// What the station goes on from.
@@ -52,7 +51,7 @@ pub struct Stage<'a, 'p, R, I: Read + Drop, O: Write + Drop, A: Write + Drop> {
 /// What a closed station leaves.
 #[derive(Drop)]
 pub struct StationEnd<'a, 'p, R, I: Read + Drop, O: Write + Drop, A: Write + Drop> {
-    pub clock: Option<Instant>,
+    pub clock: RunClock,
     pub rounds_left: u16,
     pub journal: Journal,
     /// Whether the station hands over to the next. Else the last table was printed.

@@ -7,7 +7,7 @@ use crate::limits::{AIRCRAFT, TURNS};
 use station_paths::{Input, System};
 use station_portions::Portions;
 use station_reporter::{
-    Bell, Beside, Printer, Reporter, ReporterResult, ReportsFrom, Requests, report,
+    Bells, Beside, Printer, Reporter, ReporterResult, ReportsFrom, Requests, RunClock, report,
 };
 use station_shared::{Seat, Station, StationName, Worker, run_receivers};
 use std::io::{BufWriter, Write};
@@ -15,7 +15,6 @@ use std::snapshot::Snapshot;
 use std::sync::Wait;
 use std::thread;
 use std::thread::Threads;
-use std::time::Instant;
 use streams::{Sink, ToWrite};
 
 /// The output of a run, in its buffer.
@@ -39,7 +38,8 @@ pub type Left<'a, L, R, S, K> = Outcome<
     ReporterResult<Seat<AIRCRAFT, L>, S, K>,
 >;
 
-/// Runs the receivers and the reporter to their ends, each in a thread of its own. Answers `None` if the reporter's
+/// Runs the receivers and the reporter to their ends, each in a thread of its own. The receivers begin once the reporter has
+/// ticked, where a tick is due at its start: so what they hear is dated by it. Answers `None` if the reporter's
 /// thread can't be started, and then nothing is read.
 pub fn run_threads<
     'a,
@@ -52,7 +52,7 @@ pub fn run_threads<
     rt: &R,
     station: &Station<AIRCRAFT, L>,
     requests: &Requests,
-    start: Option<Instant>,
+    clock: RunClock,
     receivers: Vec<Receiver<'a, R, L>>,
     reporter: Reporter<Seat<AIRCRAFT, L>, Printer<S, A>, Beside<T, A>>,
 ) -> Option<Left<'a, L, R, Printer<S, A>, Beside<T, A>>>
@@ -60,7 +60,7 @@ pub fn run_threads<
         receivers.entry.items left.receivers.items) }
     ensures reporter { IfSome result (λ left. HasReported (λ b. b.record) L.start reporter left.report) }
 {
-    let ended = &Bell::new();
+    let bells = &Bells::new();
     thread::scope(
         thread::scope_env(),
         rt,
@@ -70,12 +70,13 @@ pub fn run_threads<
             ensures reporter { IfSome result (λ left. HasReported (λ b. b.record) L.start reporter left.report) }
         {
             let given = ReportsFrom(Snapshot::of(&reporter));
-            let job = move || report(rt, station, ended, requests, start, reporter);
+            let job = move || report(rt, station, bells, requests, clock, reporter);
             let Ok(reporting) = scope.spawn_with(given, job) else {
                 return None;
             };
+            bells.begun.wait(rt);
             let receivers = run_all(rt, station, receivers);
-            ended.ring();
+            bells.ended.ring();
             let report = reporting.join(rt);
             Some(Outcome { receivers, report })
         },

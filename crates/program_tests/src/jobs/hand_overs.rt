@@ -85,7 +85,7 @@ fn tables_each(every: u32) -> Tables {
 
 // A reporter with such tables.
 fn duties(every: u32) -> Duties {
-    Duties::first(tables_each(every), 0, LIMIT, false)
+    Duties::first(tables_each(every), 0, 0, LIMIT, false)
 }
 
 // What a hand-over leaves: this number of entries, and the time of the last tick.
@@ -190,6 +190,7 @@ impl<R: System, W: Own> Trials<'_, R, W> {
             rounds: 1,
             reopens: false,
             stop: &None,
+            begins_at: 0,
             origin: 0,
             record: &record,
             displays: &None,

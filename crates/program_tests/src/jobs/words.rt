@@ -2,7 +2,9 @@
 use super::bounds::*;
 use super::{NO_LINES, Trials, text, words_of};
 use crate::comparing::{holds_at, same_at};
-use station_main::{Job, Pace, RunArguments, TableFormat, WordsFault, program, read_words};
+use station_main::{
+    ClockOrigin, Job, Pace, RunArguments, TableFormat, WordsFault, program, read_words,
+};
 use std::alloc::{AllocError, Global};
 
 // `clap` accepts the words, and the program refuses them.
@@ -77,6 +79,10 @@ fn bad_values_are_refused(rt: HostRuntime) -> Result<(), AllocError> {
         (
             "replay --format xml",
             "error: invalid value 'xml' for '--format <FORMAT>'\n  [possible values: text, json]\n",
+        ),
+        (
+            "run --every 5 --clock utc x",
+            "error: invalid value 'utc' for '--clock <CLOCK>'\n  [possible values: start, unix]\n",
         ),
         (
             "run --every 5 --format JSON x",
@@ -204,6 +210,22 @@ fn tables_are_text_where_no_format_is_given(rt: HostRuntime) -> Result<(), Words
             Job::Replay { format, .. } => format,
         };
         same_at(&rt, found, format, line);
+    }
+    Ok(())
+}
+
+#[test]
+fn the_clock_begins_at_the_start_where_no_other_is_given(
+    rt: HostRuntime,
+) -> Result<(), WordsFault> {
+    for (line, clock) in [
+        ("run --every 5 x", ClockOrigin::Start),
+        ("run --every 5 -- x --clock unix", ClockOrigin::Start),
+        ("run --clock start --every 5 x", ClockOrigin::Start),
+        ("run x --clock=unix --every 5", ClockOrigin::Unix),
+    ] {
+        let found = options_of(rt.alloc(), line)?.map(|options| options.clock);
+        same_at(&rt, found, Some(clock), line);
     }
     Ok(())
 }

@@ -3,7 +3,7 @@ use Rattle.std.proofs.lemmas.List.{length-map}
 use Rattle.std.specs.Str.Parse.{ExplainsUnsignedError, HasUnsignedDigitsIfOk, ParsesUnsigned}
 use Rattle.clap.specs.Words.{found_of, one_text}
 use Rattle.clap.proofs.WalkLemmas.{first_value-rows, one_text-rows, raw_values-rows}
-use Rattle.command_line.specs.Command.{IsFlagText, IsNumberUpTo, IsPace, format_named, is_set, number_in, number_if_given}
+use Rattle.command_line.specs.Command.{IsFlagText, IsNumberUpTo, IsPace, clock_named, format_named, is_set, number_in, number_if_given}
 use Rattle.command_line.proofs.FoundLemmas.{none_some, some_same}
 use Rattle.command_line.proofs.WordLemmas.{fits_if_given, reads_flag, reads_if_given, reads_number, rounds_in_range, same_length}
 use Rattle.command_line.proofs.words.read_run.Goals as goal
@@ -44,6 +44,7 @@ returns-clause-options c =
       file_is = c.in_ok-record.ensures ∙ c.get_str-3.ensures ∙ first_value-rows found (codes "record");
       folder_is = c.in_ok-displays.ensures ∙ c.get_str-4.ensures ∙ first_value-rows found (codes "json");
       format_is = c.named-format.ensures ∙ ap format_named (c.get_str.ensures ∙ first_value-rows found (codes "format"));
+      clock_is = c.named-clock.ensures ∙ ap clock_named (c.get_str-5.ensures ∙ first_value-rows found (codes "clock"));
       place = c.requires.place;
     }
 

@@ -1,8 +1,7 @@
-use Rattle.std.proofs.Common.{◌≡◌, ◌∙◌, ◌⊎◌, None, Some, ⊎_elim, ap, inl, inr, refl, subst, sym}
+use Rattle.std.proofs.Common.{◌≡◌, ◌∙◌, Some, ap, refl, subst, sym}
 use Rattle.station_portions.specs.Giving.{given_bytes, left_of, state_of}
 use Rattle.station_portions.specs.Whole.{GivesPath}
-use Rattle.station_portions.specs.declared.message.PathEnd.{PathEnd}
-use Rattle.station_portions.specs.declared.message.PathEnd.TheVariants.{AtEnd, ReadFailed}
+use Rattle.station_portions.specs.declared.message.PathEnd.TheVariants.{AtEnd}
 use Rattle.std.proofs.lemmas.Option.{same_Some}
 use Rattle.station_paths.proofs.PathEndLemmas.{unfinished-by}
 use Rattle.station_paths.proofs.path_ends.gave_all.Goals as goal

@@ -1,7 +1,6 @@
-use Rattle.std.proofs.Common.{◌∙◌, arith, map, refl, subst, sym, string_bytes}
+use Rattle.std.proofs.Common.{◌∙◌, arith, sym, string_bytes}
 use Rattle.std.proofs.lemmas.List.{length-map}
 use Rattle.station_portions.specs.Giving.{state_of}
-use Rattle.station_paths.specs.Inputs.{AreFed}
 use Rattle.station_paths.proofs.FedLemmas.{fed_take, fed_unread}
 use Rattle.station_run.proofs.next_station.begin_round.Goals as goal
 

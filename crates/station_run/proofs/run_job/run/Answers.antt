@@ -1,4 +1,4 @@
-use Rattle.std.proofs.Common.{◌≡◌, ◌∙◌, [], ap, inl, inr, option_map, refl, sym}
+use Rattle.std.proofs.Common.{[], ap, inl, inr, option_map, refl}
 use Rattle.messages.proofs.Common.{told_of}
 use Rattle.station_run.proofs.Common.{plan_of}
 use Rattle.station_run.proofs.StationLemmas.{blank_for, leaves_by, lost}

@@ -1,6 +1,6 @@
-use Rattle.std.proofs.Common.{◌≡◌, ◌∙◌, List, [], ◌∷◌, ap, arith, inr, length, map, option_map, refl, string_bytes, sym}
+use Rattle.std.proofs.Common.{[], ◌∷◌, ap, inr, option_map}
 use Rattle.messages.proofs.Common.{told_of}
-use Rattle.station_run.proofs.Common.{EndsEarly, EndsRun, IsLost, RunsFrom, Station, begun_of, left_of, plan_of, streams_of}
+use Rattle.station_run.proofs.Common.{plan_of}
 use Rattle.station_run.proofs.StationLemmas.{follows_sound, leaves_by, lost, read_on, run_ends, run_on}
 use Rattle.station_run.proofs.run_job.run_stations.Goals as goal
 

@@ -1,5 +1,4 @@
-use Rattle.std.proofs.Common.{◌≡◌, ◌∙◌, ◌<◌, ◌||◌, ap, ap₂, arith, get_or, length, sym, true, false, is_some, not}
-use Rattle.std.specs.List.{list_any}
+use Rattle.std.proofs.Common.{◌≡◌, ◌∙◌, ◌<◌, ◌||◌, ap, ap₂, arith, get_or, length, sym, is_some, not}
 use Rattle.std.proofs.lemmas.List.Folds.{list_any_at, list_any_more}
 use Rattle.station_portions.specs.Giving.{left_of, state_of}
 use Rattle.station_run.proofs.Common.{is_open}
