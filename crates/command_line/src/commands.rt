@@ -68,6 +68,7 @@ const AFTER_RUN_HELP: &str = concat!(
     "is heard between two tables is dated to the earlier one. An MS of 1000 or so is\n",
     "best: above 10000 positions may be wrong, above 60000 only the last table shows\n",
     "aircraft. With --tick the clock also moves between tables: MS may be an hour.\n",
+    "What is heard is then recorded, and written for displays, once a second.\n",
     "With --clock unix the clock is the time since 1970: a record has its dates.\n",
     "When every path has ended, the last table is written, and a line of counts for\n",
     "each path goes to standard error.\n",

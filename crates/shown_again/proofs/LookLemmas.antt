@@ -1,5 +1,5 @@
 -- What the looks of a station have seen: each list begins with the one before it.
-use Rattle.std.proofs.Common.{◌≡◌, inl, inr, ℕ, Bool, true, false, List, [], ◌∷◌, ◌++◌, ◌||◌, Option, Some, None, length, refl, sym, ap, subst, IfSome, unwrap_or, All, flat_map}
+use Rattle.std.proofs.Common.{◌≡◌, inl, inr, ℕ, Bool, true, false, List, [], ◌∷◌, ◌++◌, ◌||◌, Option, Some, None, length, refl, sym, ap, subst, IfSome, cond, map, unwrap_or, All, flat_map}
 use mathlib.Core.List.{IsPrefix}
 use Rattle.std.proofs.lemmas.List.Elements.{All-cons, All-head, All-nil, All-tail}
 use Rattle.station_journal.specs.declared.entry.Entry.{Entry}
@@ -7,9 +7,9 @@ use Rattle.station_journal.specs.Log.{IsLegal}
 use Rattle.station_report.specs.declared.formats.Format.TheVariants.{Text}
 use Rattle.station_history.specs.Start.{Start, log_of}
 use Rattle.station_shared.specs.Seats.{Seated, Looks, newcomer}
-use Rattle.station_record.specs.Record.{Grows, last_after}
+use Rattle.station_record.specs.Record.{Grows, RecordedLook, last_after, seen_lists, shown_lists}
 use Rattle.station_reporter.proofs.PrefixLemmas.{begins-same, begins-trans}
-use Rattle.station_reporter.proofs.Common.{seen_by, IsLater, MayHandOver, Showing, Showings, Ticks, looks_of, seat_after, text_of, texts}
+use Rattle.station_reporter.proofs.Common.{seen_by, IsLater, MayHandOver, Showing, Showings, Ticks, looks_of, recorded_by, recorded_look, seat_after, shown_look, text_of, texts}
 use Rattle.station_reporter.specs.declared.duties.Duties.{Duties}
 use Rattle.station_reporter.specs.declared.schedule.Due.{Due}
 use Rattle.station_run.proofs.Common.{LastLook, LearnsFrom, Shows, Station}
@@ -84,25 +84,90 @@ pub learned-prefix : (old : Seated) (seats : List Seated) (new : Seated) → Lea
 learned-prefix old [] new same = begins-same old.seen new.seen (ap (λ (s : Seated). s.seen) (sym same))
 learned-prefix old (seat ∷ seats) new (mid, learned, rest) = begins-trans old.seen mid.seen new.seen learned.later (learned-prefix mid seats new rest)
 
+-- all looks, those that are shown and those that aren't
+abbrev all_looks : List Showing → List (Option Seated)
+all_looks showings = map (λ (showing : Showing). showing.look) showings
+
 -- the showings, and looks after them from a seat that has seen as much or more
 grown : (start : Start) (old : Seated) (showings : List Showing) (shown mid : Seated) (end : List Entry) (last : List (Option Seated)) → Showings start old showings shown → IsPrefix shown.seen mid.seen
-    → Grown start mid.seen end (seen_by last) → Grown start old.seen end (seen_by (looks_of showings ++ last))
+    → Grown start mid.seen end (seen_by last) → Grown start old.seen end (seen_by (all_looks showings ++ last))
 grown start old [] shown mid end last walk to is = subst (λ (s : Seated). Grown start s.seen end (seen_by last)) walk (more-grown start shown mid end None last to tt is)
 grown start old (s ∷ rest) shown mid end last walk to is =
-    more-grown start old s.ticked end s.look (looks_of rest ++ last) (ticked start old s.acting.at s.ticked walk.0.ticks) walk.0.looks
+    more-grown start old s.ticked end s.look (all_looks rest ++ last) (ticked start old s.acting.at s.ticked walk.0.ticks) walk.0.looks
     (grown start (seat_after s) rest shown mid end last walk.1 to is)
 
--- the tables of a station
-pub tables-grow : (station : Station) (shows : Shows station) → Grown station.left.start station.begun.given.entries station.left.closing.reporter.seen (seen_by (looks_of shows.showings ++ shows.last))
-tables-grow station shows =
+-- ---- the looks of a station as they are recorded
+
+abbrev pub recorded_last : List (Option Seated) → List RecordedLook
+recorded_last last = flat_map (recorded_look true) last
+
+last-recorded : (last : List (Option Seated)) → seen_lists (recorded_last last) ≡ seen_by last
+last-recorded [] = refl
+last-recorded (None ∷ looks) = last-recorded looks
+last-recorded (Some l ∷ looks) = ap (λ (lists : List (List Entry)). l.seen ∷ lists) (last-recorded looks)
+
+all-recorded : (showings : List Showing) (last : List (Option Seated)) → seen_lists (recorded_by showings ++ recorded_last last) ≡ seen_by (all_looks showings ++ last)
+all-recorded [] last = last-recorded last
+all-recorded (s ∷ rest) last = by-look (all-recorded rest last) s.acting.has_table s.look
+  where
+    by-look : seen_lists (recorded_by rest ++ recorded_last last) ≡ seen_by (all_looks rest ++ last)
+        → (shown : Bool) (look : Option Seated) → seen_lists ((recorded_look shown look ++ recorded_by rest) ++ recorded_last last) ≡ seen_by (look ∷ (all_looks rest ++ last))
+    by-look on shown None = on
+    by-look on shown (Some l) = ap (λ (lists : List (List Entry)). l.seen ∷ lists) on
+
+last-shown : (last : List (Option Seated)) → shown_lists (recorded_last last) ≡ seen_by last
+last-shown [] = refl
+last-shown (None ∷ looks) = last-shown looks
+last-shown (Some l ∷ looks) = ap (λ (lists : List (List Entry)). l.seen ∷ lists) (last-shown looks)
+
+-- those that are shown are the tables
+pub shown-recorded : (showings : List Showing) (last : List (Option Seated)) → shown_lists (recorded_by showings ++ recorded_last last) ≡ seen_by (looks_of showings ++ last)
+shown-recorded [] last = last-shown last
+shown-recorded (s ∷ rest) last = by-look (shown-recorded rest last) s.acting.has_table s.look
+  where
+    by-look : shown_lists (recorded_by rest ++ recorded_last last) ≡ seen_by (looks_of rest ++ last)
+        → (shown : Bool) (look : Option Seated) → shown_lists ((recorded_look shown look ++ recorded_by rest) ++ recorded_last last) ≡ seen_by (cond shown look None ∷ (looks_of rest ++ last))
+    by-look on true None = on
+    by-look on true (Some l) = ap (λ (lists : List (List Entry)). l.seen ∷ lists) on
+    by-look on false None = on
+    by-look on false (Some l) = on
+
+-- all looks of a station
+pub looks-grow : (station : Station) (shows : Shows station) → Grown station.left.start station.begun.given.entries station.left.closing.reporter.seen (seen_lists (recorded_by shows.showings ++ recorded_last shows.last))
+looks-grow station shows =
     let start = station.left.start in
     let none = station.left.hands_over || shows.broken_before in
     let first = newcomer station.begun.given.entries (length station.begun.sources) in
     let to_ended = begins-trans shows.shown.seen shows.looked.seen shows.ended.seen (later-prefix start shows.shown shows.looked shows.later)
     (hand-over-prefix start station.begun.duties shows.asked_at _ station.left.due shows.looked shows.ended shows.broken_before shows.asks) in
     let to = begins-trans shows.shown.seen shows.ended.seen shows.mid.seen to_ended (learned-prefix shows.ended station.left.closing.receivers shows.mid shows.learns) in
-    grown start first shows.showings shows.shown shows.mid station.left.closing.reporter.seen shows.last shows.keeps.walk to
-    (last-grown start shows.mid station.left.closing.reporter none shows.last shows.looks)
+    subst (Grown start station.begun.given.entries station.left.closing.reporter.seen) (sym (all-recorded shows.showings shows.last))
+    (grown start first shows.showings shows.shown shows.mid station.left.closing.reporter.seen shows.last shows.keeps.walk to
+    (last-grown start shows.mid station.left.closing.reporter none shows.last shows.looks))
+
+-- those that are shown grow where all do
+shown-grow : (start : Start) (front end : List Entry) (looks : List RecordedLook) → Grown start front end (seen_lists looks) → Grown start front end (shown_lists looks)
+shown-grow start front end [] is = is
+shown-grow start front end (look ∷ later) is =
+    by-look (shown-grow start look.seen end later (record { grows = is.grows.1; last = is.last; legal = All-tail (Legal start) look.seen (seen_lists later) is.legal })) look.is_shown
+  where
+    by-look : Grown start look.seen end (shown_lists later) → (shown : Bool) → Grown start front end (cond shown (look.seen ∷ shown_lists later) (shown_lists later))
+    by-look rest true = record {
+      grows = (is.grows.0, rest.grows);
+      last = rest.last;
+      legal = All-cons (Legal start) look.seen (shown_lists later) (All-head (Legal start) look.seen (seen_lists later) is.legal) rest.legal;
+    }
+    by-look rest false = record {
+      grows = grows-from front look.seen (shown_lists later) is.grows.0 rest.grows;
+      last = last-from front look.seen end (shown_lists later) is.grows.0 rest.last;
+      legal = rest.legal;
+    }
+
+-- the tables of a station
+pub tables-grow : (station : Station) (shows : Shows station) → Grown station.left.start station.begun.given.entries station.left.closing.reporter.seen (seen_by (looks_of shows.showings ++ shows.last))
+tables-grow station shows =
+    subst (Grown station.left.start station.begun.given.entries station.left.closing.reporter.seen) (shown-recorded shows.showings shows.last)
+    (shown-grow station.left.start station.begun.given.entries station.left.closing.reporter.seen (recorded_by shows.showings ++ recorded_last shows.last) (looks-grow station shows))
 
 -- what holds of each list between the first and the last
 module _ (start : Start) (least end : List Entry) (P : List Entry → Type 0) (holds : (seen : List Entry) → IsPrefix least seen → IsPrefix seen end → Legal start seen → P seen) where

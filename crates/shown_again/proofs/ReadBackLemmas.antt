@@ -1,5 +1,5 @@
 -- A replay of the lines of a station's looks, after all entries before it, prints what the looks printed.
-use Rattle.std.proofs.Common.{◌≡◌, ◌∙◌, ℕ, ◌+◌, List, [], ◌∷◌, ◌++◌, Result, Ok, refl, sym, ap, subst, append_assoc, length, length-append, drop, arith, All, flat_map}
+use Rattle.std.proofs.Common.{◌≡◌, ◌∙◌, ℕ, ◌+◌, Bool, true, false, List, [], ◌∷◌, ◌++◌, Result, Ok, refl, sym, ap, subst, append_assoc, append-nil, cond, length, length-append, drop, arith, All, flat_map}
 use Rattle.std.proofs.lemmas.List.Elements.{All-head, All-tail}
 use Rattle.std.proofs.Math.Seq.{drop-append_seam}
 use Rattle.modes_frame.specs.declared.cutter.Cut.{Cut}
@@ -10,7 +10,7 @@ use Rattle.station_journal.specs.declared.limits.Limits.{Limits}
 use Rattle.station_journal.specs.Log.{IsLegal}
 use Rattle.station_replay.proofs.Common.{call_count, calls_in, output}
 use Rattle.station_history.proofs.Common.{Start}
-use Rattle.station_record.proofs.Common.{all_at, new_log, command_of_entry, text_after, Grows, IsRecordable, last_after, line_of, record_of, show_line, shows_after}
+use Rattle.station_record.proofs.Common.{all_at, new_log, command_of_entry, text_after, Grows, IsRecordable, RecordedLook, last_after, line_of, look_lines, record_of, seen_lists, show_if, show_line, shown_lists}
 use Rattle.station_record.proofs.LineLemmas.{IsLine, cuts-line, entry-is, show-is}
 use Rattle.station_record.proofs.ShowLemmas.{output-goes-on, output-show}
 use Rattle.station_lines.specs.Calls.{entry_asked_by}
@@ -64,36 +64,59 @@ module _ (start : Start) (limits : Limits) (left : List Entry) where
       ∙ output-show limits (left ++ (front ++ more)) others
       ∙ ap (λ (bs : List ℕ). bs ++ At (front ++ more) others) same.shows
 
-  pub looks-say : (front : List Entry) (lists : List (List Entry)) → Grows front lists → AreRecordable (length front) lists → All (Same start limits left) lists → (others : List ℕ)
-      → At front (shows_after (length front) lists ++ others) ≡ flat_map (text_table start) lists ++ At (last_after front lists) others
+  -- one look without a question
+  one-look-unsaid : (front more : List Entry) → All IsRecordable more → Same start limits left (front ++ more) → (others : List ℕ) → At front ((record_of more ++ []) ++ others) ≡ At (front ++ more) others
+  one-look-unsaid front more recordable same others =
+      ap (λ (bs : List ℕ). At front (bs ++ others)) (append-nil (record_of more)) ∙ entries-say front more recordable same.legal others
+
+  pub looks-say : (front : List Entry) (looks : List RecordedLook) → Grows front (seen_lists looks) → AreRecordable (length front) (seen_lists looks) → All (Same start limits left) (seen_lists looks) → (others : List ℕ)
+      → At front (look_lines (length front) looks ++ others) ≡ flat_map (text_table start) (shown_lists looks) ++ At (last_after front (seen_lists looks)) others
   looks-say front [] grows recordable same others = refl
-  looks-say front (seen ∷ later) grows recordable same others =
+  looks-say front (look ∷ later) grows recordable same others =
+      let seen = look.seen in
       let more = grows.0.0 in
       let is : front ++ more ≡ seen = grows.0.1 in
       let new : drop (length front) seen ≡ more = ap (λ (es : List Entry). drop (length front) es) (sym is) ∙ drop-append_seam front more in
-      let rest = shows_after (length seen) later ++ others in
-      let here : Same start limits left (front ++ more) = subst (Same start limits left) (sym is) (All-head (Same start limits left) seen later same) in
-      ap (λ (bs : List ℕ). At front bs) (append_assoc (record_of (drop (length front) seen) ++ show_line) (shows_after (length seen) later) others)
-      ∙ ap (λ (es : List Entry). At front ((record_of es ++ show_line) ++ rest)) new
-      ∙ one-look-says front more (subst (All IsRecordable) new recordable.0) here rest
-      ∙ ap (λ (es : List Entry). text_table start es ++ At es rest) is
-      ∙ ap (λ (bs : List ℕ). text_table start seen ++ bs) (looks-say seen later grows.1 recordable.1 (All-tail (Same start limits left) seen later same) others)
-      ∙ sym (append_assoc (text_table start seen) (flat_map (text_table start) later) (At (last_after seen later) others))
+      let rest = look_lines (length seen) later ++ others in
+      let here : Same start limits left (front ++ more) = subst (Same start limits left) (sym is) (All-head (Same start limits left) seen (seen_lists later) same) in
+      let on = looks-say seen later grows.1 recordable.1 (All-tail (Same start limits left) seen (seen_lists later) same) others in
+      ap (λ (bs : List ℕ). At front bs) (append_assoc (record_of (drop (length front) seen) ++ show_if look.is_shown) (look_lines (length seen) later) others)
+      ∙ ap (λ (es : List Entry). At front ((record_of es ++ show_if look.is_shown) ++ rest)) new
+      ∙ by-look look.is_shown seen more is (shown_lists later) rest (At (last_after seen (seen_lists later)) others) (subst (All IsRecordable) new recordable.0) here on
+    where
+      by-look : (shown : Bool) (seen more : List Entry) → front ++ more ≡ seen → (lists : List (List Entry)) (rest end : List ℕ) → All IsRecordable more → Same start limits left (front ++ more)
+          → At seen rest ≡ flat_map (text_table start) lists ++ end → At front ((record_of more ++ show_if shown) ++ rest) ≡ flat_map (text_table start) (cond shown (seen ∷ lists) lists) ++ end
+      by-look true seen more is lists rest end recordable here on =
+          one-look-says front more recordable here rest
+          ∙ ap (λ (es : List Entry). text_table start es ++ At es rest) is
+          ∙ ap (λ (bs : List ℕ). text_table start seen ++ bs) on
+          ∙ sym (append_assoc (text_table start seen) (flat_map (text_table start) lists) end)
+      by-look false seen more is lists rest end recordable here on =
+          one-look-unsaid front more recordable here rest
+          ∙ ap (λ (es : List Entry). At es rest) is
+          ∙ on
+
+-- where the table is shown a line is added that asks for no entry
+if-count : (shown : Bool) (others : List ℕ) → calls_in (cuts (show_if shown ++ others)) ≡ calls_in (cuts others)
+if-count true others = show-count others
+if-count false others = refl
 
 -- the entries of the lines of looks are those beyond the first
-pub looks-count : (front : List Entry) (lists : List (List Entry)) → Grows front lists → AreRecordable (length front) lists → (others : List ℕ)
-    → length (last_after front lists) + calls_in (cuts others) ≡ length front + calls_in (cuts (shows_after (length front) lists ++ others))
+pub looks-count : (front : List Entry) (looks : List RecordedLook) → Grows front (seen_lists looks) → AreRecordable (length front) (seen_lists looks) → (others : List ℕ)
+    → length (last_after front (seen_lists looks)) + calls_in (cuts others) ≡ length front + calls_in (cuts (look_lines (length front) looks ++ others))
 looks-count front [] grows recordable others = refl
-looks-count front (seen ∷ later) grows recordable others =
+looks-count front (look ∷ later) grows recordable others =
+    let seen = look.seen in
+    let asks = show_if look.is_shown in
     let more = grows.0.0 in
     let is : front ++ more ≡ seen = grows.0.1 in
     let new : drop (length front) seen ≡ more = ap (λ (es : List Entry). drop (length front) es) (sym is) ∙ drop-append_seam front more in
-    let rest = shows_after (length seen) later ++ others in
-    let parts : calls_in (cuts (shows_after (length front) (seen ∷ later) ++ others)) ≡ calls_in (cuts (record_of more ++ (show_line ++ rest))) =
-    ap (λ (bs : List ℕ). calls_in (cuts bs)) (append_assoc (record_of (drop (length front) seen) ++ show_line) (shows_after (length seen) later) others
-    ∙ ap (λ (es : List Entry). (record_of es ++ show_line) ++ rest) new ∙ append_assoc (record_of more) show_line rest) in
-    let entries = line-count more (subst (All IsRecordable) new recordable.0) (show_line ++ rest) in
-    let shows = show-count rest in
+    let rest = look_lines (length seen) later ++ others in
+    let parts : calls_in (cuts (look_lines (length front) (look ∷ later) ++ others)) ≡ calls_in (cuts (record_of more ++ (asks ++ rest))) =
+    ap (λ (bs : List ℕ). calls_in (cuts bs)) (append_assoc (record_of (drop (length front) seen) ++ asks) (look_lines (length seen) later) others
+    ∙ ap (λ (es : List Entry). (record_of es ++ asks) ++ rest) new ∙ append_assoc (record_of more) asks rest) in
+    let entries = line-count more (subst (All IsRecordable) new recordable.0) (asks ++ rest) in
+    let shows = if-count look.is_shown rest in
     let later_count = looks-count seen later grows.1 recordable.1 others in
     let size : length seen ≡ length front + length more = ap length (sym is) ∙ length-append front more in
     omega (arith, parts, entries, shows, later_count, size)

@@ -15,7 +15,7 @@ use Rattle.station_journal.proofs.LegalJournalLemmas.{length_legal}
 use Rattle.station_replay.proofs.Common.{calls_in, output}
 use Rattle.station_history.proofs.Common.{base_of, Start}
 use Rattle.station_shared.specs.Seats.{Seated}
-use Rattle.station_record.proofs.Common.{all_at, new_log, IsRecordable, last_after, record_of, recorded_after, shows_after, IsNext}
+use Rattle.station_record.proofs.Common.{all_at, new_log, IsRecordable, last_after, look_lines, record_of, recorded_after, seen_lists, shown_lists, IsNext}
 use Rattle.station_record.proofs.GrowthLemmas.{recorded-last}
 use Rattle.station_record.proofs.RoundLemmas.{next-continues}
 use Rattle.station_reporter.proofs.Common.{AreRecordable, Recording}
@@ -53,19 +53,20 @@ last-short given start goes_on front (seen ∷ later) few legal =
 pub only-said : (only : Type 0) (given : RoundStart) (start : Start) (closing : Seated) (before after : Option (List ℕ)) (was is : Recording) → was.recorded ≡ length given.entries → GoesOnFrom given start → StationSays given start closing before after was is
     → Said only given before after was is
 only-said only given start closing before after was is known goes_on station_says =
-    let lists = station_says.lists in
+    let looks = station_says.looks in
+    let lists = seen_lists looks in
     let front = given.entries in
     let recordable : AreRecordable (length front) lists = subst (λ (n : ℕ). AreRecordable n lists) known station_says.recordable in
     let end = last_after front lists in
     let is_grown : Grown start front end lists = record { grows = station_says.grown.grows; last = begins-same end end refl; legal = station_says.grown.legal } in
-    let bytes = shows_after (length front) lists in
+    let bytes = look_lines (length front) looks in
     let same_lines : calls_in (cuts (bytes ++ [])) ≡ calls_in (cuts bytes) = ap (λ (bs : List ℕ). calls_in (cuts bs)) (append-nil bytes) in
-    let count = looks-count front lists is_grown.grows recordable [] in
+    let count = looks-count front looks is_grown.grows recordable [] in
     record {
-      tables = flat_map (text_table start) lists;
+      tables = flat_map (text_table start) (shown_lists looks);
       lines = bytes;
       prints = station_says.prints;
-      records = subst (λ (n : ℕ). Appends was.taken is.taken (shows_after n lists)) known station_says.records;
+      records = subst (λ (n : ℕ). Appends was.taken is.taken (look_lines n looks)) known station_says.records;
       well = station_says.well;
       says = λ n wider all begins few.
           let before_it = left n wider given start goes_on all begins in
@@ -73,8 +74,8 @@ only-said only given start closing before after was is known goes_on station_say
           let same = all-same n wider given start goes_on all begins end lists (omega (arith, few, whole, count, same_lines)) is_grown in
           first-is n wider given start goes_on all begins bytes
           ∙ ap (λ (bs : List ℕ). At start (wide given.site n) before_it front bs) (sym (append-nil bytes))
-          ∙ looks-say start (wide given.site n) before_it front lists is_grown.grows recordable same []
-          ∙ append-nil (flat_map (text_table start) lists);
+          ∙ looks-say start (wide given.site n) before_it front looks is_grown.grows recordable same []
+          ∙ append-nil (flat_map (text_table start) (shown_lists looks));
       short = λ last few.
           let all_short = last-short given start goes_on front lists few is_grown.legal in
           omega (arith, all_short, count, same_lines);
@@ -89,7 +90,8 @@ module _ (given kept : RoundStart) (start : Start) (closing : Seated) (journal :
       → Said later_only kept mid after recorded is → Said only given before after was is
   handed-on only later_only not_only goes_on station_says legal begins_journal keeps rest =
       let left_over = keeps.records in
-      let lists = station_says.lists in
+      let looks = station_says.looks in
+      let lists = seen_lists looks in
       let front = given.entries in
       let recordable : AreRecordable (length front) lists = subst (λ (n : ℕ). AreRecordable n lists) known station_says.recordable in
       let end = last_after front lists in
@@ -98,18 +100,18 @@ module _ (given kept : RoundStart) (start : Start) (closing : Seated) (journal :
       let shown_count : shown.recorded ≡ length end = station_says.recorded ∙ ap (λ (n : ℕ). recorded_after n lists) known ∙ recorded-last front lists in
       let beyond : drop shown.recorded journal ≡ to.0 = ap (λ (n : ℕ). drop n journal) shown_count ∙ ap (λ (es : List Entry). drop (length end) es) (sym to.1) ∙ drop-append_seam end to.0 in
       let tail = record_of to.0 in
-      let bytes = shows_after (length front) lists in
+      let bytes = look_lines (length front) looks in
       let recordable_tail : All IsRecordable to.0 = subst (All IsRecordable) beyond (left_over.recordable well) in
       let records_tail : Appends shown.taken recorded.taken tail = subst (λ (es : List Entry). Appends shown.taken recorded.taken (record_of es)) beyond (took shown recorded (record_of (drop shown.recorded journal)) left_over.takes well) in
-      let records_looks : Appends was.taken shown.taken bytes = subst (λ (n : ℕ). Appends was.taken shown.taken (shows_after n lists)) known station_says.records in
+      let records_looks : Appends was.taken shown.taken bytes = subst (λ (n : ℕ). Appends was.taken shown.taken (look_lines n looks)) known station_says.records in
       let others = tail ++ rest.lines in
-      let count = looks-count front lists is_grown.grows recordable others in
+      let count = looks-count front looks is_grown.grows recordable others in
       let count_tail = line-count to.0 recordable_tail rest.lines in
       let size_journal : length journal ≡ length end + length to.0 = ap length (sym to.1) ∙ length-append end to.0 in
       record {
-        tables = flat_map (text_table start) lists ++ rest.tables;
+        tables = flat_map (text_table start) (shown_lists looks) ++ rest.tables;
         lines = bytes ++ others;
-        prints = Appends-trans before mid after (flat_map (text_table start) lists) rest.tables station_says.prints rest.prints;
+        prints = Appends-trans before mid after (flat_map (text_table start) (shown_lists looks)) rest.tables station_says.prints rest.prints;
         records = Appends-trans was.taken shown.taken is.taken bytes others records_looks (Appends-trans shown.taken recorded.taken is.taken tail rest.lines records_tail rest.records);
         well = station_says.well;
         says = λ n wider all begins few.
@@ -127,8 +129,8 @@ module _ (given kept : RoundStart) (start : Start) (closing : Seated) (journal :
             } in
             let legal_to : IsLegal (new_log (wide given.site n) (before_it ++ (end ++ to.0))) = subst (λ (es : List Entry). IsLegal (new_log (wide given.site n) (before_it ++ es))) (sym to.1) on.same.legal in
             first-is n wider given start goes_on all begins (bytes ++ others)
-            ∙ looks-say start (wide given.site n) before_it front lists is_grown.grows recordable same others
-            ∙ ap (λ (bs : List ℕ). flat_map (text_table start) lists ++ bs)
+            ∙ looks-say start (wide given.site n) before_it front looks is_grown.grows recordable same others
+            ∙ ap (λ (bs : List ℕ). flat_map (text_table start) (shown_lists looks) ++ bs)
             (entries-say start (wide given.site n) before_it end to.0 recordable_tail legal_to rest.lines
             ∙ ap (λ (es : List Entry). At start (wide given.site n) before_it es rest.lines) to.1
             ∙ ap (λ (site : Site). output (all_at 0 (new_log (wide site n) (before_it ++ journal))) (cuts rest.lines)) (sym site_is)

@@ -1,5 +1,5 @@
 -- What a station printed and recorded, whose output and record have not failed.
-use Rattle.std.proofs.Common.{rules, ◌≡◌, ◌∙◌, ℕ, Bool, true, false, List, [], ◌++◌, Option, Some, None, refl, ap, subst, append-nil, arith, max, flat_map}
+use Rattle.std.proofs.Common.{rules, ◌≡◌, ◌∙◌, ℕ, Bool, true, false, List, [], ◌++◌, Option, Some, None, refl, sym, ap, subst, append-nil, arith, max, flat_map}
 use Rattle.std.specs.Io.KnownBytes.{Appends, Keeps, append_known}
 use Rattle.station_journal.specs.declared.entry.Entry.{Entry}
 use Rattle.station_report.specs.declared.formats.Format.{Format}
@@ -7,11 +7,11 @@ use Rattle.station_report.specs.declared.formats.Format.TheVariants.{Text}
 use Rattle.std.proofs.KnownBytes.{Appends-kept}
 use Rattle.station_history.specs.Start.{Start}
 use Rattle.station_shared.specs.Seats.{Seated}
-use Rattle.station_record.specs.Record.{recorded_after, shows_after}
+use Rattle.station_record.specs.Record.{RecordedLook, look_lines, recorded_after, seen_lists, shown_lists}
 use Rattle.messages.proofs.Common.{fault_status}
-use Rattle.station_reporter.proofs.Common.{AreRecordable, IfRecording, Recording, Records, TakesText, TakesBy, seen_by, looks_of, Printing, TakesTexts, TakesTextsBy, texts}
+use Rattle.station_reporter.proofs.Common.{AreRecordable, IfRecording, Recording, Records, TakesText, TakesBy, looks_of, recorded_by, Printing, TakesTexts, TakesTextsBy, texts}
 use Rattle.station_run.proofs.Common.{GivesBack, RoundStart, RunsStation, Station}
-use Rattle.shown_again.proofs.LookLemmas.{Grown, tables-grow, text_table, texts-seen}
+use Rattle.shown_again.proofs.LookLemmas.{Grown, looks-grow, recorded_last, shown-recorded, text_table, texts-seen}
 use Rattle.station_reporter.proofs.RecordedLemmas.{unfailed}
 
 -- nothing is appended to what was taken
@@ -44,12 +44,12 @@ whole-texts format start looks before between e takes = whole-by before.has_fail
 
 -- the looks of a station without a fault, whose record has not failed
 pub record StationSays (given : RoundStart) (start : Start) (closing : Seated) (before after : Option (List ℕ)) (was is : Recording) : Type 0 where
-  pub lists : List (List Entry)
-  pub grown : Grown start given.entries closing.seen lists
-  pub prints : Appends before after (flat_map (text_table start) lists)
-  pub records : Appends was.taken is.taken (shows_after was.recorded lists)
-  pub recorded : is.recorded ≡ recorded_after was.recorded lists
-  pub recordable : AreRecordable was.recorded lists
+  pub looks : List RecordedLook
+  pub grown : Grown start given.entries closing.seen (seen_lists looks)
+  pub prints : Appends before after (flat_map (text_table start) (shown_lists looks))
+  pub records : Appends was.taken is.taken (look_lines was.recorded looks)
+  pub recorded : is.recorded ≡ recorded_after was.recorded (seen_lists looks)
+  pub recordable : AreRecordable was.recorded (seen_lists looks)
   pub well : was.has_failed ≡ false
 
 pub station-says : (station : Station) (was is : Recording) → RunsStation station → station.begun.duties.tables.format ≡ Text → station.old.recording ≡ Some was → station.new.recording ≡ Some is → station.new.out.has_failed ≡ false → is.has_failed ≡ false
@@ -57,26 +57,29 @@ pub station-says : (station : Station) (was is : Recording) → RunsStation stat
 station-says station was is runs is_text was_is is_is well_written well =
     let shows = runs.shows in
     let start = station.left.start in
-    let looks = looks_of shows.showings ++ shows.last in
-    let records : Records (seen_by looks) was is =
-    subst (λ (o : Option Recording). IfRecording (Records (seen_by looks)) (Some was) o) is_is (subst (λ (o : Option Recording). IfRecording (Records (seen_by looks)) o station.new.recording) was_is shows.records) in
+    let shown = looks_of shows.showings ++ shows.last in
+    let looks = recorded_by shows.showings ++ recorded_last shows.last in
+    let records : Records looks was is =
+    subst (λ (o : Option Recording). IfRecording (Records looks) (Some was) o) is_is (subst (λ (o : Option Recording). IfRecording (Records looks) o station.new.recording) was_is shows.records) in
+    let texts_are : texts station.begun.duties.tables.format start shown ≡ flat_map (text_table start) (shown_lists looks) =
+    ap (λ (format : Format). texts format start shown) is_text ∙ texts-seen start shown ∙ ap (flat_map (text_table start)) (sym (shown-recorded shows.showings shows.last)) in
     record {
-      lists = seen_by looks;
-      grown = tables-grow station shows;
-      prints = subst (Appends station.old.out.taken station.new.out.taken) (ap (λ (format : Format). texts format start looks) is_text ∙ texts-seen start looks)
-          (whole-texts station.begun.duties.tables.format start looks station.old.out station.new.out well_written shows.takes);
-      records = took was is (shows_after was.recorded (seen_by looks)) records.takes well;
+      looks = looks;
+      grown = looks-grow station shows;
+      prints = subst (Appends station.old.out.taken station.new.out.taken) texts_are
+          (whole-texts station.begun.duties.tables.format start shown station.old.out station.new.out well_written shows.takes);
+      records = took was is (look_lines was.recorded looks) records.takes well;
       recorded = records.recorded;
       recordable = records.recordable well;
-      well = unfailed was is (shows_after was.recorded (seen_by looks)) records.takes well;
+      well = unfailed was is (look_lines was.recorded looks) records.takes well;
     }
 
 -- the same of an output that is out of its buffer
 pub says-kept : (given : RoundStart) (start : Start) (closing : Seated) (before mid after : Option (List ℕ)) (was is : Recording) → Keeps mid after → StationSays given start closing before mid was is → StationSays given start closing before after was is
 says-kept given start closing before mid after was is kept says = record {
-  lists = says.lists;
+  looks = says.looks;
   grown = says.grown;
-  prints = Appends-kept before mid after (flat_map (text_table start) says.lists) says.prints kept;
+  prints = Appends-kept before mid after (flat_map (text_table start) (shown_lists says.looks)) says.prints kept;
   records = says.records;
   recorded = says.recorded;
   recordable = says.recordable;

@@ -1,5 +1,6 @@
 -- When the reporter acts, and what it prints.
-use Rattle.std.specs.Prelude.{◌≡◌, ℕ, ◌+◌, ◌-◌, ◌*◌, ◌/◌, ◌^◌, ◌≤◌, ◌<◌, ◌⊎◌, ◌&&◌, Bool, true, false, List, [], ◌∷◌, Option, Some, None, IfSome, cond, length, map, min, nat_le, nat_lt, unwrap_or, if◌then◌else◌}
+use Rattle.std.specs.Prelude.{◌≡◌, ⊤, ℕ, ◌+◌, ◌-◌, ◌*◌, ◌/◌, ◌^◌, ◌≤◌, ◌<◌, ◌⊎◌, ◌&&◌, Bool, true, false, List, [], ◌∷◌, Option, Some, None, IfSome, cond, is_some, length, map, max, min, nat_le, nat_lt, unwrap_or, ◌||◌, if◌then◌else◌}
+use Rattle.std.specs.List.{flat_map}
 use Rattle.std.specs.Option.{option_map_or}
 use Rattle.std.specs.Duration.{as_nanos}
 use Rattle.station_journal.specs.declared.entry.Entry.TheVariants.{Tick}
@@ -8,7 +9,8 @@ use Rattle.station_report.specs.declared.formats.Format.{Format}
 use Rattle.station_history.specs.History.{Known}
 use Rattle.station_history.specs.Start.{Start}
 use Rattle.station_shared.specs.Seats.{Seated, Accepted, Refused, Looks}
-use Rattle.station_reporter.specs.Recorded.{IfRecording, PrintsAndRecords, Recording, Records, seen_by}
+use Rattle.station_record.specs.Record.{RecordedLook}
+use Rattle.station_reporter.specs.Recorded.{IfRecording, PrintsAndRecords, Recording, Records, recorded_look}
 use Rattle.station_reporter.specs.Tables.{Printing, TakesTexts, is_broken}
 use Rattle.station_reporter.specs.declared.schedule.Act.{Act}
 use Rattle.station_reporter.specs.declared.schedule.Act.TheVariants as act
@@ -80,9 +82,20 @@ due_after pace due (now ∷ moments) =
     cond (nat_le due.table now) (due_after pace (after_table pace now) moments)
     (cond (has_come due.tick now) (due_after pace (after_tick pace due now) moments) (due_after pace due moments))
 
+-- what is heard is written for the record and displays with each table, and after a tick alone where a second has passed since
+-- the time at which it was last, if it was
+abbrev pub is_writing_due : Option ℕ → (now : ℕ) → Bool
+is_writing_due None now = true
+is_writing_due (Some last) now = nat_le 1000 (now - last)
+
+-- how often that is at a pace: with each table, and after ticks alone once a second
+abbrev pub writing_interval : Pace → ℕ
+writing_interval pace = option_map_or (λ tick. min pace.every (max tick 1000)) pace.tick pace.every
+
 -- ---- what it prints
 
--- a tick alone or with a table: its time, the seat after the tick, and the seat after the look, unless that was refused
+-- a tick alone or with a table: its time, the seat after the tick, and the seat after the look, unless there was none. Only a
+-- look with a table is shown
 pub record Showing : Type 0 where
   pub acting : Acting
   pub ticked : Seated
@@ -91,42 +104,86 @@ pub record Showing : Type 0 where
 abbrev pub seat_after : Showing → Seated
 seat_after showing = unwrap_or showing.look showing.ticked
 
+-- the look that is shown
+abbrev pub shown_look : Showing → Option Seated
+shown_look showing = cond showing.acting.has_table showing.look None
+
 abbrev pub looks_of : List Showing → List (Option Seated)
-looks_of showings = map (λ (showing : Showing). showing.look) showings
+looks_of showings = map shown_look showings
+
+-- all looks as they are recorded
+abbrev pub recorded_by : List Showing → List RecordedLook
+recorded_by showings = flat_map (λ (showing : Showing). recorded_look showing.acting.has_table showing.look) showings
+
+-- the time at which what is heard was last written, if it was: with a table, or by a look after a tick alone
+abbrev pub last_writing : Option ℕ → Showing → Option ℕ
+last_writing last showing = cond (showing.acting.has_table || is_some showing.look) (Some showing.acting.at) last
 
 -- the seat ticks at a time, and that is accepted or refused
 abbrev pub Ticks : Start → Seated → ℕ → Seated → Type 0
 Ticks start old at new =
     ((receipt : Known) × Accepted start old new (Tick old.number at) receipt) ⊎ ((refusal : Refusal) × Refused start old new (Tick old.number at) refusal)
 
+-- at this time the seat looks, and what it has seen is recorded without a `?`
+pub record Notes (start : Start) (at : ℕ) (old new : Seated) (was is : Option Recording) (next : Option ℕ) : Type 0 where
+  pub looks : Looks start old new
+  pub records : IfRecording (Records (recorded_look false (Some new))) was is
+  pub next_is : next ≡ Some at
+
+-- or the look is refused, and nothing is done
+abbrev pub MayNote : Start → (at : ℕ) → Seated → Seated → Option Recording → Option Recording → (last next : Option ℕ) → Type 0
+MayNote start at old new was is last next = Notes start at old new was is next ⊎ ((new ≡ old) × (is ≡ was) × (next ≡ last))
+
+-- a tick alone is accepted where a writing is due, and what the seat has seen is noted
+pub record NotesTick (start : Start) (at : ℕ) (old new : Seated) (was is : Option Recording) (last next : Option ℕ) : Type 0 where
+  pub ticked : Seated
+  pub receipt : Known
+  pub accepted : Accepted start old ticked (Tick old.number at) receipt
+  pub due : is_writing_due last at ≡ true
+  pub notes : Notes start at ticked new was is next
+
+-- it ticks alone, and notes nothing or what it has seen
+abbrev pub TicksAlone : Start → (at : ℕ) → Seated → Seated → Option Recording → Option Recording → (last next : Option ℕ) → Type 0
+TicksAlone start at old new was is last next = (Ticks start old at new × (is ≡ was) × (next ≡ last)) ⊎ NotesTick start at old new was is last next
+
 -- what a reporter does: it sleeps; or it ticks alone; or it ticks, and the table is printed and recorded
 abbrev pub DoesAct : {K : Type 0} → (K → Option Recording) → Format → Start → Act → ReporterResult Seated Printing K → ReporterResult Seated Printing K → Type 0
 DoesAct record_of format start (act.Sleep pause) old new = new ≡ old
 DoesAct record_of format start (act.Tick at next) old new =
-    Ticks start old.seat at new.seat × (new.out ≡ old.out) × (new.beside ≡ old.beside) × (new.due ≡ next) × (new.asked_at ≡ old.asked_at)
+    TicksAlone start at old.seat new.seat (record_of old.beside) (record_of new.beside) old.written_at new.written_at
+    × (new.out ≡ old.out) × (new.due ≡ next) × (new.asked_at ≡ old.asked_at)
 DoesAct record_of format start (act.Print at next) old new =
     (ticked : Seated) × Ticks start old.seat at ticked × PrintsAndRecords format start ticked new.seat old.out new.out (record_of old.beside) (record_of new.beside)
-    × (new.due ≡ next) × (new.asked_at ≡ old.asked_at)
+    × (new.due ≡ next) × (new.asked_at ≡ old.asked_at) × (new.written_at ≡ Some at)
 
--- the seat ticks, and then looks; it doesn't look after a tick alone
+-- the seat ticks, and then may look; after a tick alone it looks only if that was accepted
 pub record IsShowing (start : Start) (old : Seated) (showing : Showing) : Type 0 where
   pub ticks : Ticks start old showing.acting.at showing.ticked
   pub looks : IfSome showing.look (λ look. Looks start showing.ticked look)
-  pub alone : showing.acting.has_table ≡ false → showing.look ≡ None
+  pub alone : showing.acting.has_table ≡ false → (showing.look ≡ None) ⊎ ((receipt : Known) × Accepted start old showing.ticked (Tick old.number showing.acting.at) receipt)
 
 -- showings from one seat to another, each from where the one before ended
 abbrev pub Showings : Start → Seated → List Showing → Seated → Type 0
 Showings start old [] new = new ≡ old
 Showings start old (showing ∷ showings) new = IsShowing start old showing × Showings start (seat_after showing) showings new
 
+-- it looks after a tick alone only where a writing is due
+abbrev pub AreApart : (last : Option ℕ) → List Showing → Type 0
+AreApart last [] = ⊤
+AreApart last (showing ∷ showings) =
+    (showing.acting.has_table ≡ false → is_some showing.look ≡ true → is_writing_due last showing.acting.at ≡ true)
+    × AreApart (last_writing last showing) showings
+
 -- a seat that may have looked, and showed nothing
 abbrev pub IsLater : Start → Seated → Seated → Type 0
 IsLater start old new = (new ≡ old) ⊎ Looks start old new
 
--- tables and ticks alone at just those times of the clock at which they are due
+-- tables and ticks alone at just those times of the clock at which they are due, and what is heard is written between tables at most
+-- once a second
 pub record KeepsTime (start : Start) (pace : Pace) (due : Due) (moments : List ℕ) (old : Seated) (showings : List Showing) (new : Seated) : Type 0 where
   pub acts : map (λ (showing : Showing). showing.acting) showings ≡ due_moments pace due moments
   pub walk : Showings start old showings new
+  pub apart : AreApart None showings
 
 -- a reporter whose clock gave these times, from one seat to another, and what is due next; the record goes on with what its
 -- looks have seen
@@ -137,7 +194,7 @@ pub record Reports (start : Start) (tables : Tables) (due next : Due) (moments :
   pub later : IsLater start shown new
   pub next_is : next ≡ due_after tables.pace due moments
   pub takes : TakesTexts tables.format start (looks_of showings) before after
-  pub records : IfRecording (Records (seen_by (looks_of showings))) was is
+  pub records : IfRecording (Records (recorded_by showings)) was is
 
 -- a reporter that finds this many entries asks for a hand-over: they are enough, it isn't too early, and no table is due within a
 -- second, or within the interval between tables if that is shorter

@@ -44,7 +44,7 @@ pub struct Displays<A> {
 }
 
 impl<A: Write + Drop> Displays<A> {
-    /// Begins to show tables in a folder, one each `every` milliseconds: writes what displays read first, with the place of
+    /// Begins to show tables in a folder, one each `every` milliseconds or so: writes what displays read first, with the place of
     /// the receivers if it is given. A failed write is reported to `alarm`. Refused if out of memory.
     pub fn begin<R: Files<File = File>>(
         rt: &R,

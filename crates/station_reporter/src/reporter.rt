@@ -9,6 +9,7 @@ use crate::bell::{Bell, Bells};
 use crate::beside::Beside;
 use crate::displays::{put_table, table_for};
 use crate::duties::Duties;
+use crate::noting::tick_alone;
 use crate::printer::Printer;
 use crate::recorder::record_look;
 use crate::requests::Requests;
@@ -36,6 +37,8 @@ pub struct ReporterResult<S, O, K> {
     pub due: Due,
     /// The time of the tick with which a hand-over was asked for, if one was.
     pub asked_at: Option<u64>,
+    /// When what was heard was last written for the record and displays, if it was.
+    pub written_at: Option<u64>,
 }
 
 /// What a reporter starts with.
@@ -60,7 +63,8 @@ impl<const N: usize, L: StationName, S: Sink, T: Sink, A: Write> Promise<
 }
 
 /// Ticks, prints the table and records it each time that it is due, by the run's clock.
-/// Between tables it ticks alone, if ticks are asked for. Ends when all receivers have ended, a table failed without which
+/// Between tables it ticks alone, if ticks are asked for, and then records what it sees without a table, once a second at most.
+/// Ends when all receivers have ended, a table failed without which
 /// the run doesn't go on, or the journal has enough entries for the station to hand over: then it ticks alone once more, and
 /// asks for the end of all portions. Where the end of the run was asked for, it asks for that end too, and the station doesn't
 /// hand over. Answers the seat, the output, which has taken the tables of its looks and nothing else, and what is written
@@ -181,6 +185,7 @@ fn begin<S, O, K>(reporter: Reporter<S, O, K>) -> ReporterResult<S, O, K>
     ensures beside { result.beside ≡ reporter.beside }
     ensures due { result.due ≡ reporter.duties.due }
     ensures asked { result.asked_at ≡ None }
+    ensures written { result.written_at ≡ None }
 {
     ReporterResult {
         seat: reporter.seat,
@@ -188,6 +193,7 @@ fn begin<S, O, K>(reporter: Reporter<S, O, K>) -> ReporterResult<S, O, K>
         beside: reporter.beside,
         due: reporter.duties.due,
         asked_at: None,
+        written_at: None,
     }
 }
 
@@ -215,8 +221,7 @@ fn do_act<
             bells.ended.rest(rt, pause);
         }
         Act::Tick { at, next_due } => {
-            let _ = station.tick(rt, &mut reported.seat, at);
-            bells.begun.ring();
+            reported = tick_alone(rt, station, bells, at, reported);
             reported.due = next_due;
         }
         Act::Print { at, next_due } => {
@@ -226,6 +231,7 @@ fn do_act<
             let (out, beside) = (&mut reported.out, &mut reported.beside);
             reported.seat = print_and_record(rt, station, seat, format, out, beside);
             reported.due = next_due;
+            reported.written_at = Some(at);
         }
     }
     reported
@@ -273,7 +279,7 @@ pub fn print_and_record<
             let count = look.entries();
             let for_displays = table_for(&beside.displays, &look);
             let seat = out.print(look, format);
-            record_look(&mut beside.record, rt, station, &seat, count);
+            record_look(&mut beside.record, rt, station, &seat, count, true);
             put_table(&mut beside.displays, rt, for_displays);
             seat
         }

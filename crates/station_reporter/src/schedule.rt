@@ -2,7 +2,7 @@
 ghost use Rattle.std.specs.Prelude.{◌≡◌, ◌-◌, ◌^◌, ◌/◌, ℕ, List, [], ◌∷◌, Option, None, min};
 ghost use Rattle.std.specs.Duration.{as_nanos};
 ghost use Rattle.std.specs.Io.KnownBytes.{Appends};
-ghost use Rattle.station_reporter.specs.Reporter.{IsActAt, after_table, after_tick, due_from, first_due, has_come, next_moment, next_tick};
+ghost use Rattle.station_reporter.specs.Reporter.{IsActAt, after_table, after_tick, due_from, first_due, has_come, is_writing_due, next_moment, next_tick, writing_interval};
 
 use command_line::Pace;
 use station_report::Format;
@@ -97,6 +97,29 @@ fn later(at: u64, interval: u32) -> u64
     ensures { result ≡ next_moment interval at }
 {
     at.saturating_add(u64::from(interval))
+}
+
+// The least time from one writing to the next that is without a table, in milliseconds.
+const BETWEEN_WRITINGS: u32 = 1_000;
+
+// Whether what is heard is written after a tick alone at `now`: it wasn't before, or a second has passed since.
+pub(crate) fn is_writing_due(last: Option<u64>, now: u64) -> bool
+    ensures { result ≡ is_writing_due last now }
+{
+    match last {
+        Some(last) => now.saturating_sub(last) >= u64::from(BETWEEN_WRITINGS),
+        None => true,
+    }
+}
+
+/// How often what is heard is written at this pace, in milliseconds: with each table, and after ticks alone once a second.
+pub fn writing_interval(pace: Pace) -> u32
+    ensures { result ≡ writing_interval pace }
+{
+    match pace.tick {
+        Some(tick) => pace.every.min(tick.max(BETWEEN_WRITINGS)),
+        None => pace.every,
+    }
 }
 
 // The longest sleep, in milliseconds.

@@ -17,8 +17,8 @@ use Rattle.messages.specs.declared.faults.Fault.TheVariants as fault
 use Rattle.station_paths.specs.Faults.{IsUnopened}
 use Rattle.station_run.specs.Stations.{CannotStart, ClosesOutput, IsBlank, NoRoundAfter}
 use Rattle.station_run.proofs.ReceiverLemmas.{pumped-take}
-use Rattle.station_reporter.proofs.Common.{IfRecording, Recording, Records, seen_by, MayHandOver, Printing, ReportsByAClock, is_broken, looks_of, TakesTexts}
-use Rattle.station_reporter.proofs.RecordedLemmas.{one-more-look}
+use Rattle.station_reporter.proofs.Common.{IfRecording, Recording, Records, MayHandOver, Printing, ReportsByAClock, is_broken, looks_of, recorded_by, TakesTexts}
+use Rattle.station_reporter.proofs.RecordedLemmas.{last-record}
 use Rattle.station_reporter.proofs.ReportLemmas.{printed_at_most}
 use Rattle.station_reporter.specs.declared.duties.Duties.{Duties}
 use Rattle.station_reporter.specs.declared.schedule.Due.{Due}
@@ -113,7 +113,7 @@ module _ {K : Type 0} (record_of : K → Option Recording) (begun : Begun) (star
         broken = λ _. refl;
         is_broken = refl;
         takes = subst (λ ls. TakesTexts begun.duties.tables.format start ls before report.out) (sym (append-nil looks)) reports.takes;
-        records = subst (λ (ls : List (Option Seated)). IfRecording (Records (seen_by ls)) was (record_of report.beside)) (sym (append-nil looks)) reports.records;
+        records = subst (λ ls. IfRecording (Records ls) was (record_of report.beside)) (sym (append-nil (recorded_by reports.showings))) reports.records;
       }
 
   shows-last : (ended : Seated) (report last : ReporterResult Seated Printing K) → false ≡ (hands_over || is_broken report.out) → hands_over ≡ (is_some report.asked_at && may_go_on sources counted) → HasShown ended report
@@ -144,7 +144,7 @@ module _ {K : Type 0} (record_of : K → Option Recording) (begun : Begun) (star
         broken = λ none_is. absurd (let bad : false ≡ true = none ∙ ap (λ (b : Bool). hands_over || b) well ∙ none_is in search rules);
         is_broken = refl;
         takes = p.takes;
-        records = one-more-look looks p.look was (record_of report.beside) (record_of last.beside) reports.records p.records;
+        records = last-record (recorded_by reports.showings) p.look was (record_of report.beside) (record_of last.beside) reports.records p.records;
       }
 
   pub shows : (ended : Seated) (report last : ReporterResult Seated Printing K) (none : Bool) → none ≡ (hands_over || is_broken report.out) → hands_over ≡ (is_some report.asked_at && may_go_on sources counted) → HasShown ended report

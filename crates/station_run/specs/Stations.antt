@@ -21,10 +21,10 @@ use Rattle.station_lines.specs.declared.tally.Tally.{Tally}
 use Rattle.station_shared.specs.Seats.{Seated, newcomer}
 use Rattle.station_paths.specs.Inputs.{AllTakeFrom, FailsBetweenLines, GaveAllBut, HasNoLines, unfinished_status, unknown}
 use Rattle.station_run.specs.Limits.{forget_at, program_limits}
-use Rattle.station_reporter.specs.Recorded.{IfRecording, IsNewRecord, Recording, Records, RecordsRest, record_status, seen_by}
+use Rattle.station_reporter.specs.Recorded.{IfRecording, IsNewRecord, Recording, Records, RecordsRest, record_status, recorded_look}
 use Rattle.messages.specs.Status.{fault_status, status_of}
 use Rattle.station_run.specs.Output.{GivesBack}
-use Rattle.station_reporter.specs.Reporter.{IsLater, KeepsTime, MayHandOver, Showing, due_after, due_from, looks_of, not_before}
+use Rattle.station_reporter.specs.Reporter.{IsLater, KeepsTime, MayHandOver, Showing, due_after, due_from, looks_of, not_before, recorded_by}
 use Rattle.station_reporter.specs.Tables.{Printing, TakesTexts, is_broken}
 use Rattle.station_run.specs.Run.{Closing, HavePumped, IsClosed, LastLook, LearnsFrom, may_go_on}
 use Rattle.station_paths.specs.Faults.{IsEarly}
@@ -140,7 +140,7 @@ pub record Station : Type 0 where
 
 -- what the reporter of a station has printed and recorded: tables at just those times of a clock at which they are due, and a
 -- last one, unless the station hands over or the output was broken before; and nothing else. The output has a front of that if a
--- table failed, and the record has all of it
+-- table failed, and the record has all of it, and what was seen after ticks alone
 pub record Shows (station : Station) : Type 0 where
   pub moments : List ℕ
   pub showings : List Showing
@@ -164,7 +164,7 @@ pub record Shows (station : Station) : Type 0 where
   pub broken : (station.left.hands_over || broken_before) ≡ true → station.left.is_broken ≡ broken_before
   pub is_broken : station.left.is_broken ≡ is_broken station.new.out
   pub takes : TakesTexts station.begun.duties.tables.format station.left.start (looks_of showings ++ last) station.old.out station.new.out
-  pub records : IfRecording (Records (seen_by (looks_of showings ++ last))) station.old.recording station.new.recording
+  pub records : IfRecording (Records (recorded_by showings ++ flat_map (recorded_look true) last)) station.old.recording station.new.recording
 
 -- a station has run: its receivers have pumped the sources, and a source whose read failed has left no begun line; what they
 -- counted is added to what was counted before; it is closed with all its seats

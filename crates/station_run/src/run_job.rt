@@ -19,6 +19,7 @@ use messages::{Alarms, Fault, StandardError};
 use station_paths::{Host, Opened, PathSystem, System};
 use station_reporter::{
     Beside, Displays, Kept, LimitAlarm, Printer, RecordFile, Recorder, RunClock, record_to,
+    writing_interval,
 };
 use std::alloc::Global;
 use std::fs::File;
@@ -167,7 +168,7 @@ fn begin_displays<'p, R: Files<File = File>, A: Write + Drop>(
     let Some(folder) = asked.displays else {
         return Ok(None);
     };
-    let (folder, every) = (folder.as_str(), asked.tables.pace.every);
+    let (folder, every) = (folder.as_str(), writing_interval(asked.tables.pace));
     let alarm = StandardError::new(alarm);
     match Displays::begin(rt, alloc, folder, every, asked.origin, asked.site, alarm) {
         Ok(displays) => Ok(Some(displays)),

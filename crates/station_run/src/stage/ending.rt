@@ -51,6 +51,7 @@ pub(super) fn print_last<L: StationName, R: Wait + Files<File = File>, S: Sink, 
         mut beside,
         due,
         asked_at,
+        written_at,
     } = report;
     let seat = print_and_record(rt, station, seat, format, &mut out, &mut beside);
     ReporterResult {
@@ -59,6 +60,7 @@ pub(super) fn print_last<L: StationName, R: Wait + Files<File = File>, S: Sink, 
         beside,
         due,
         asked_at,
+        written_at,
     }
 }
 

@@ -22,14 +22,21 @@ const MANY: Limits = Limits {
     site: None,
 };
 
-// The lines of the ticks after the first `recorded`, and the one that asks for the table.
-fn lines_after(rt: &impl Abort, alloc: Global, recorded: u64, count: u64) -> String {
+// The lines of the ticks after the first `recorded`, and the one that asks for the table where that is shown.
+fn lines_after(
+    rt: &impl Abort,
+    alloc: Global,
+    recorded: u64,
+    count: u64,
+    is_shown: bool,
+) -> String {
     let mut text = String::new(alloc);
     for at in recorded..count {
         let line = format!(in alloc; "+{}\n", at.saturating_add(1)).expect(rt, "a line");
         text.push_str(line.as_str()).expect(rt, "room for a line");
     }
-    text.push_str("?\n").expect(rt, "room for a line");
+    let asks = if is_shown { "?\n" } else { "" };
+    text.push_str(asks).expect(rt, "room for a line");
     text
 }
 
@@ -41,14 +48,17 @@ fn writes_the_rest<L: StationName, R: Wait + Abort>(
     seat: &Seat<2, L>,
     recorded: u64,
     count: u64,
+    is_shown: bool,
     room: &mut RecordRoom,
 )
     requires { count ≡ length seat.now.seen }
 {
     let mut sink = ToWrite::new(Vec::<u8>::new(alloc));
-    let written = write_seen(rt, station, seat, recorded, count, room, &mut sink);
+    let written = write_seen(
+        rt, station, seat, recorded, count, is_shown, room, &mut sink,
+    );
     same(rt, written, Ok(()));
-    let lines = lines_after(rt, alloc, recorded, count);
+    let lines = lines_after(rt, alloc, recorded, count, is_shown);
     holds(rt, sink.into_inner().as_slice() == lines.as_bytes());
 }
 
@@ -79,8 +89,10 @@ fn tick_and_write<L: StationName, R: Wait + Abort>(
     same(rt, count, 70_000);
     let seat = look.done();
     let mut room = RecordRoom::new(alloc, 16_384).expect(rt, "room for a portion");
-    for recorded in [0, 20_000, 69_999] {
-        writes_the_rest(rt, alloc, &station, &seat, recorded, count, &mut room);
+    for (recorded, is_shown) in [(0, true), (20_000, true), (69_998, false), (69_999, true)] {
+        writes_the_rest(
+            rt, alloc, &station, &seat, recorded, count, is_shown, &mut room,
+        );
     }
     station.end(rt);
 }

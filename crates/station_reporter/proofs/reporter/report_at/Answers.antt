@@ -1,5 +1,4 @@
-use Rattle.std.proofs.Common.{[], ◌∙◌, sym}
-use Rattle.std.proofs.KnownBytes.{Appends-nil}
+use Rattle.std.proofs.Common.{◌∙◌, sym}
 use Rattle.station_reporter.proofs.ReportLemmas.{never_asks, no_moment, one_more_act, one_more_look}
 use Rattle.station_reporter.proofs.reporter.report_at.Goals as goal
 
@@ -8,12 +7,12 @@ loop-init g c =
     let begun = c.begin-reported.ensures in
     record {
       asked = begun.asked;
-      so_far = rw (begun.seat, begun.out, begun.beside, begun.due) (record { moments = []; are_given = Appends-nil _; reports = no_moment _ _ _ _ _ c.args.reporter.beside.record });
+      so_far = rw (begun.seat, begun.out, begun.beside, begun.due, begun.written) (no_moment _ _ _ _ _ _ c.args.reporter.beside.record);
     }
 
 pub loop-preserved : goal.loop-preserved
 loop-preserved g c =
-    let so_far = one_more_look _ _ _ _ _ _ _ _ _ _ _ _ _ c.loop.invariant.so_far c.count-seat.ensures.later in
+    let so_far = one_more_look _ _ _ _ _ _ _ _ _ _ _ _ _ _ c.loop.invariant.so_far c.count-seat.ensures.later in
     record {
       asked = never_asks (λ b. b.record) c.args.reporter.duties.tables.format g.L.StationName.start c.act_at-act.result _ _ c.do_act-reported.ensures ∙ c.loop.invariant.asked;
       so_far = one_more_act (λ b. b.record) g.L.StationName.start c.args.reporter.duties.tables c.args.reporter.duties.due c.now-now.result _ _ _ _ _ _ c.act_at-act.result _ _
@@ -22,5 +21,5 @@ loop-preserved g c =
 
 pub returns-then-not-is_ending-clause-reports : goal.returns-then-not-is_ending-clause-reports
 returns-then-not-is_ending-clause-reports g c =
-    let so_far = one_more_look _ _ _ _ _ _ _ _ _ _ _ _ _ c.loop.invariant.so_far c.count-seat.ensures.later in
+    let so_far = one_more_look _ _ _ _ _ _ _ _ _ _ _ _ _ _ c.loop.invariant.so_far c.count-seat.ensures.later in
     rw c.report_limits.ensures (so_far.moments, so_far.are_given, so_far.reports)

@@ -8,5 +8,5 @@ invariant-loop g l =
     record {
       asked : l.reported.asked_at ≡ None;
       so_far : ReportsTo g.L.StationName.start l.duties.tables l.duties.due l.reported.due (g.M.Moments.given l.fn.moments) (g.M.Moments.given l.moments) l.fn.reporter.seat l.reported.seat l.fn.reporter.out l.reported.out
-          l.fn.reporter.beside.record l.reported.beside.record;
+          l.fn.reporter.beside.record l.reported.beside.record l.reported.written_at;
     }
