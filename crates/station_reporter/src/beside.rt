@@ -4,8 +4,10 @@ ghost use Rattle.std.specs.Prelude.{◌≡◌};
 use crate::displays::Displays;
 use crate::limit_alarm::LimitAlarm;
 use crate::recorder::Recorder;
+use crate::schedule::RunClock;
 use station_shared::LimitsMet;
 use std::io::Write;
+use std::time::Clock;
 use streams::Sink;
 
 /// A record and a folder for displays, each only where it was asked for, and what reports full limits.
@@ -22,5 +24,24 @@ impl<T: Sink, A: Write> Beside<T, A> {
         ensures { self.new.record ≡ self.old.record }
     {
         self.limits.report(met);
+    }
+
+    /// Reads anew when the clock of the tables for displays began, if that follows the system's clock. Now it shows `at`.
+    pub fn date<R: Clock>(&mut self, rt: &R, at: u64)
+        ensures { self.new.record ≡ self.old.record }
+    {
+        if let Some(displays) = &mut self.displays {
+            displays.date(rt, at);
+        }
+    }
+
+    /// The same by the clock of the run.
+    pub fn date_by<R: Clock>(&mut self, rt: &R, clock: RunClock)
+        ensures { self.new.record ≡ self.old.record }
+    {
+        if self.displays.is_some() {
+            let at = clock.now(rt);
+            self.date(rt, at);
+        }
     }
 }

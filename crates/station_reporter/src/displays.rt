@@ -1,5 +1,5 @@
 //! The folder in which displays find the tables.
-ghost use Rattle.std.specs.Prelude.{◌≡◌, ◌≤◌, IfOk, IfSome, codes, is_some};
+ghost use Rattle.std.specs.Prelude.{◌≡◌, ◌≤◌, IfOk, IfSome, codes, false, is_some};
 ghost use Rattle.std.specs.String.{string_bytes};
 ghost use Rattle.station_replay.specs.Replay.{table_in};
 ghost use Rattle.station_history.specs.Start.{log_of};
@@ -8,6 +8,7 @@ ghost use Rattle.station_reporter.specs.Displays.{HasReportedWrite, have_failed,
 ghost use Rattle.messages.specs.Status.{fault_status};
 ghost use Rattle.messages.specs.Telling.{told_of};
 
+use crate::schedule::milliseconds;
 use command_line::VERSION;
 use messages::{Fault, Reason, StandardError, tell};
 use modes_cpr::{Degrees, Position, Reference};
@@ -18,6 +19,7 @@ use std::fs::{self, File, Permissions};
 use std::io::Write;
 use std::os::unix::fs::PermissionsExt;
 use std::rt::Files;
+use std::time::Clock;
 use streams::{ToWrite, WriteFault};
 
 // Who may read a file for displays, whatever the mask of the process: all. Its owner may write it.
@@ -35,6 +37,8 @@ pub struct Displays<A> {
     about: Vec<u8>,
     // The time at which the clock of the tables begins, in milliseconds since 1970.
     origin: u64,
+    // Whether that follows the system's clock.
+    follows: bool,
     // Whether a write failed.
     has_failed: bool,
     // Whether the last write failed.
@@ -45,18 +49,21 @@ pub struct Displays<A> {
 
 impl<A: Write + Drop> Displays<A> {
     /// Begins to show tables in a folder, one each `every` milliseconds or so: writes what displays read first, with the place of
-    /// the receivers if it is given. A failed write is reported to `alarm`. Refused if out of memory.
+    /// the receivers if it is given. Their clock begins at `origin`, which may follow the system's clock. A failed write is
+    /// reported to `alarm`. Refused if out of memory.
     pub fn begin<R: Files<File = File>>(
         rt: &R,
         alloc: Global,
         folder: &str,
         every: u32,
         origin: u64,
+        follows: bool,
         site: Option<Reference>,
         alarm: StandardError<A>,
     ) -> Result<Self, AllocError>
         ensures table { IfOk result (λ d. string_bytes d.table ≡ in_folder folder.now (codes "aircraft.json")) }
         ensures origin { IfOk result (λ d. d.origin ≡ origin) }
+        ensures follows { IfOk result (λ d. d.follows ≡ follows) }
     {
         let mut displays = Displays {
             alloc,
@@ -65,6 +72,7 @@ impl<A: Write + Drop> Displays<A> {
             receiver: file_in(alloc, folder, "receiver.json")?,
             about: receiver_text(alloc, VERSION, every, site)?,
             origin,
+            follows,
             has_failed: false,
             is_failing: false,
             alarm,
@@ -76,6 +84,22 @@ impl<A: Write + Drop> Displays<A> {
 }
 
 impl<A: Write> Displays<A> {
+    /// Reads anew when the clock of the tables began, if that follows the system's clock. Now it shows `at`. Where the system's
+    /// can't be read nothing changes.
+    pub(crate) fn date<R: Clock>(&mut self, rt: &R, at: u64)
+        ensures table { self.new.table ≡ self.old.table }
+        ensures fixed { self.old.follows ≡ false → self.new.origin ≡ self.old.origin }
+        ensures follows { self.new.follows ≡ self.old.follows }
+        ensures shown { shown_of A.contents self.new ≡ shown_of A.contents self.old }
+    {
+        if !self.follows {
+            return;
+        }
+        if let Ok(passed) = rt.since_1970() {
+            self.origin = milliseconds(passed).saturating_sub(at);
+        }
+    }
+
     // Writes what displays read first.
     fn write_receiver<R: Files<File = File>>(&self, rt: &R) -> Result<(), Reason> {
         write_readable(rt, self.receiver.as_str(), self.about.as_slice())
@@ -96,6 +120,7 @@ impl<A: Write> Displays<A> {
     fn report_write(&mut self, written: Result<(), Reason>)
         ensures table { self.new.table ≡ self.old.table }
         ensures origin { self.new.origin ≡ self.old.origin }
+        ensures follows { self.new.follows ≡ self.old.follows }
         ensures reported { HasReportedWrite (string_bytes self.old.table) written
             (shown_of A.contents self.old) (shown_of A.contents self.new) }
     {

@@ -14,6 +14,7 @@ use std::fs::File;
 use std::io::Write;
 use std::rt::Files;
 use std::sync::Wait;
+use std::time::Clock;
 use streams::Sink;
 
 /// Ticks alone. Where that is accepted, and a second has passed since what was heard was last written, records what the seat
@@ -21,7 +22,7 @@ use streams::Sink;
 pub(crate) fn tick_alone<
     const N: usize,
     L: StationName,
-    R: Wait + Files<File = File>,
+    R: Wait + Clock + Files<File = File>,
     S: Sink,
     T: Sink,
     A: Write,
@@ -52,7 +53,7 @@ pub(crate) fn tick_alone<
 
 // Records what the seat sees, without a `?`, if there is a record, and puts its table where displays find it, if that is asked.
 // Does nothing where the look is refused.
-fn note<const N: usize, L: StationName, R: Wait + Files<File = File>, T: Sink, A: Write>(
+fn note<const N: usize, L: StationName, R: Wait + Clock + Files<File = File>, T: Sink, A: Write>(
     rt: &R,
     station: &Station<N, L>,
     at: u64,
@@ -65,6 +66,7 @@ fn note<const N: usize, L: StationName, R: Wait + Files<File = File>, T: Sink, A
     match seat.look() {
         Ok(look) => {
             let count = look.entries();
+            beside.date(rt, at);
             let for_displays = table_for(&beside.displays, &look);
             let seat = look.done();
             record_look(&mut beside.record, rt, station, &seat, count, false);

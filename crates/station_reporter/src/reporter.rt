@@ -229,6 +229,7 @@ fn do_act<
             bells.begun.ring();
             let seat = reported.seat;
             let (out, beside) = (&mut reported.out, &mut reported.beside);
+            beside.date(rt, at);
             reported.seat = print_and_record(rt, station, seat, format, out, beside);
             reported.due = next_due;
             reported.written_at = Some(at);

@@ -192,6 +192,14 @@ impl RunClock {
             begins_at,
         }
     }
+
+    /// The time that it shows. A clock that can't be read counts as one that still shows the beginning.
+    pub fn now<R: Clock>(self, rt: &R) -> u64 {
+        match self.start.map(|start| start.elapsed(rt)) {
+            Some(Ok(passed)) => self.begins_at.saturating_add(milliseconds(passed)),
+            _ => self.begins_at,
+        }
+    }
 }
 
 /// The time that the clock of a run shows. It stays where it began if the system's couldn't be read then.
@@ -204,12 +212,8 @@ pub struct ElapsedClock<'a, R> {
 impl<R: Clock> Moments for ElapsedClock<'_, R> {
     ghost given = { λ _. None };
 
-    // A clock that can't be read counts as one that still shows the start.
     fn now(&mut self) -> u64 {
-        match self.clock.start.map(|start| start.elapsed(self.rt)) {
-            Some(Ok(passed)) => self.clock.begins_at.saturating_add(milliseconds(passed)),
-            _ => self.clock.begins_at,
-        }
+        self.clock.now(self.rt)
     }
 }
 
@@ -222,7 +226,7 @@ pub fn milliseconds_since_1970<R: Clock>(rt: &R) -> u64 {
 }
 
 // Whole milliseconds, up to 2^64 - 1.
-fn milliseconds(passed: Duration) -> u64
+pub(crate) fn milliseconds(passed: Duration) -> u64
     ensures { result ≡ min (as_nanos passed / 1000000) (2 ^ 64 - 1) }
 {
     u64::try_from(passed.as_millis()).unwrap_or(u64::MAX)

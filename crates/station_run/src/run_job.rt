@@ -169,8 +169,9 @@ fn begin_displays<'p, R: Files<File = File>, A: Write + Drop>(
         return Ok(None);
     };
     let (folder, every) = (folder.as_str(), writing_interval(asked.tables.pace));
+    let (origin, follows) = (asked.origin, asked.begins_at == 0);
     let alarm = StandardError::new(alarm);
-    match Displays::begin(rt, alloc, folder, every, asked.origin, asked.site, alarm) {
+    match Displays::begin(rt, alloc, folder, every, origin, follows, asked.site, alarm) {
         Ok(displays) => Ok(Some(displays)),
         Err(_) => Err(Fault::NoMemory),
     }

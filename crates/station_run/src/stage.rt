@@ -117,7 +117,7 @@ fn run_named<
     ensures unstarted { IfErr result IsUnstarted }
     ensures ran { IfOk result (λ closed. RanTo stage.entry closed) }
 {
-    let (paths, duties) = (stage.paths, stage.duties);
+    let (paths, duties, clock) = (stage.paths, stage.duties, stage.clock);
     let Crew {
         station,
         receivers,
@@ -129,14 +129,7 @@ fn run_named<
         out: stage.out,
         beside: stage.beside,
     };
-    let ran = run_threads(
-        rt,
-        &station,
-        &paths.requests,
-        stage.clock,
-        receivers,
-        reporter,
-    );
+    let ran = run_threads(rt, &station, &paths.requests, clock, receivers, reporter);
     let Some(left) = ran else {
         station.end(rt);
         return Err(Fault::ThreadNotStarted);
@@ -148,10 +141,11 @@ fn run_named<
     reported.beside.report_limits(station.limits_met());
     let hands_over = hands_over(reported.asked_at, &receivers);
     learn_from_all(&mut reported.seat, &receivers);
-    let report = print_last(rt, &station, duties.tables.format, hands_over, reported);
+    let format = duties.tables.format;
+    let report = print_last(rt, &station, clock, format, hands_over, reported);
     let leaving = close(rt, alloc, station, receivers, report.seat, stage.answers)?;
     Ok(StationEnd {
-        clock: stage.clock,
+        clock,
         rounds_left: stage.rounds_left,
         journal: leaving.journal,
         hands_over,

@@ -3,7 +3,7 @@ use super::bounds::*;
 use super::run::IDENTIFICATION;
 use super::staged::{Staged, becomes_set};
 use super::{NO_LINES, Ran, Trials, text};
-use crate::comparing::{holds_at, same};
+use crate::comparing::{holds, holds_at, same};
 use std::fs;
 use std::io::{PipeWriter, Write};
 use std::sync::atomic::AtomicBool;
@@ -14,10 +14,13 @@ const TABLE: &str = tables!("now 70000 aircraft 1" => [
     "4840D6 KLM1023       -    -            -      -          -          -   0",
 ]);
 
-// A table of ticks alone.
-const TICKS: &str = "{\"now\":1700000000.400,\"messages\":1,\"aircraft\":[]}\n";
+// Tables of ticks alone. The system's clock is set back to the start all the time.
+const TICKS: &str = "{\"now\":1700000000.000,\"messages\":1,\"aircraft\":[]}\n";
 
-const MORE_TICKS: &str = "{\"now\":1700000001.400,\"messages\":3,\"aircraft\":[]}\n";
+const MORE_TICKS: &str = "{\"now\":1700000000.000,\"messages\":3,\"aircraft\":[]}\n";
+
+// The same by a clock that begins with the time since 1970, and never follows the system's.
+const DATED_TICKS: &str = "{\"now\":1700000001.000,\"messages\":2,\"aircraft\":[]}\n";
 
 // What a record and displays have while a run goes on, and what it leaves.
 #[derive(Drop)]
@@ -43,13 +46,13 @@ fn read_and_end<R: Host>(
 
 impl<R: Host, W: Own> Trials<'_, R, W> {
     // Runs through these times with a tick each 400 ms, a record and displays, while no table is due.
-    fn run_noted(&self, moments: &[u64], folder: &str) -> Result<Noted, Fail> {
+    fn run_noted(&self, moments: &[u64], folder: &str, clock: &str) -> Result<Noted, Fail> {
         let (rt, alloc) = (self.rt, self.alloc);
         let record = format!(in alloc; "{folder}/record")?;
         let table = format!(in alloc; "{folder}/aircraft.json")?;
         let (record, table) = (record.as_str(), table.as_str());
         let line = format!(in alloc;
-            "run --every=3600000 --tick=400 --record={record} --json={folder}"
+            "run --every=3600000 --tick=400 --clock={clock} --record={record} --json={folder}"
         )?;
         let lasting = self.lasting_path()?;
         let (lines, path) = (lasting.lines, lasting.path.as_str());
@@ -66,11 +69,34 @@ impl<R: Host, W: Own> Trials<'_, R, W> {
         Ok(Noted { lines, shown, ran })
     }
 
+    // The system's clock shows the same time when a table is written as at the start.
+    fn the_files_for_displays_follow_the_clock_of_the_system(self) -> Result<(), Fail> {
+        let (rt, folder) = (self.rt, self.new_folder()?);
+        let path = format!(in self.alloc; "{}/aircraft.json", folder.as_str())?;
+        let moments = [1_000_000, 1_000_500, 1_001_000];
+        let noted = self.run_noted(moments.as_slice(), folder.as_str(), "start")?;
+        same(rt, text(&noted.shown), TICKS);
+        let last = fs::read(rt, path.as_str())?;
+        holds(rt, text(&last).starts_with("{\"now\":1700000000.000,"));
+        self.remove(&folder)
+    }
+
+    // A tick is due at once, and the next to be written comes a second later.
+    fn a_clock_of_unix_time_follows_no_clock(self) -> Result<(), Fail> {
+        let (rt, folder) = (self.rt, self.new_folder()?);
+        let moments = [1_000_000, 1_000_000, 1_001_000];
+        let noted = self.run_noted(moments.as_slice(), folder.as_str(), "unix")?;
+        same(rt, text(&noted.lines), "+1700000000000\n+1700000001000\n");
+        same(rt, text(&noted.shown), DATED_TICKS);
+        same(rt, noted.ran.status, 0);
+        self.remove(&folder)
+    }
+
     // The second tick comes too soon after the first to be written. All is written at the end, and shown again.
     fn what_is_heard_is_written_once_a_second_without_a_table(self) -> Result<(), Fail> {
         let (rt, folder) = (self.rt, self.new_folder()?);
         let moments = [1_000_000, 1_000_400, 1_000_800];
-        let noted = self.run_noted(moments.as_slice(), folder.as_str())?;
+        let noted = self.run_noted(moments.as_slice(), folder.as_str(), "start")?;
         same(rt, text(&noted.lines), "+400\n");
         same(rt, text(&noted.shown), TICKS);
         let record = format!(in self.alloc; "{}/record", folder.as_str())?;
@@ -85,7 +111,7 @@ impl<R: Host, W: Own> Trials<'_, R, W> {
     fn a_second_later_it_is_written_again(self) -> Result<(), Fail> {
         let (rt, folder) = (self.rt, self.new_folder()?);
         let moments = [1_000_000, 1_000_400, 1_000_800, 1_001_199, 1_001_400];
-        let noted = self.run_noted(moments.as_slice(), folder.as_str())?;
+        let noted = self.run_noted(moments.as_slice(), folder.as_str(), "start")?;
         same(rt, text(&noted.lines), "+400\n+800\n+1400\n");
         same(rt, text(&noted.shown), MORE_TICKS);
         same(rt, noted.ran.status, 0);
@@ -116,6 +142,16 @@ fn ticks_alone_move_the_clock(rt: HostRuntime) -> Result<(), Fail> {
 #[test]
 fn what_is_heard_is_written_once_a_second_without_a_table(rt: HostRuntime) -> Result<(), Fail> {
     Trials::on(&rt).what_is_heard_is_written_once_a_second_without_a_table()
+}
+
+#[test]
+fn the_files_for_displays_follow_the_clock_of_the_system(rt: HostRuntime) -> Result<(), Fail> {
+    Trials::on(&rt).the_files_for_displays_follow_the_clock_of_the_system()
+}
+
+#[test]
+fn a_clock_of_unix_time_follows_no_clock(rt: HostRuntime) -> Result<(), Fail> {
+    Trials::on(&rt).a_clock_of_unix_time_follows_no_clock()
 }
 
 #[test]

@@ -13,13 +13,14 @@ use messages::{Answer, Fault, added};
 use station_journal::{Journal, NoMemory};
 use station_paths::Input;
 use station_report::Format;
-use station_reporter::{Beside, Printer, ReporterResult, print_and_record};
+use station_reporter::{Beside, Printer, ReporterResult, RunClock, print_and_record};
 use station_shared::{Missing, Seat, Station, StationName, Worker};
 use std::alloc::Global;
 use std::fs::File;
 use std::io::Write;
 use std::rt::Files;
 use std::sync::Wait;
+use std::time::Clock;
 use streams::Sink;
 
 /// What is left of a closed station.
@@ -33,9 +34,16 @@ pub(super) struct Leaving<'a, R> {
 
 /// Prints the last table, records it and puts it where displays find it, unless the station hands over or the output was
 /// broken before.
-pub(super) fn print_last<L: StationName, R: Wait + Files<File = File>, S: Sink, T: Sink, A: Write>(
+pub(super) fn print_last<
+    L: StationName,
+    R: Wait + Clock + Files<File = File>,
+    S: Sink,
+    T: Sink,
+    A: Write,
+>(
     rt: &R,
     station: &Station<AIRCRAFT, L>,
+    clock: RunClock,
     format: Format,
     hands_over: bool,
     report: ReporterResult<Seat<AIRCRAFT, L>, Printer<S, A>, Beside<T, A>>,
@@ -53,6 +61,7 @@ pub(super) fn print_last<L: StationName, R: Wait + Files<File = File>, S: Sink, 
         asked_at,
         written_at,
     } = report;
+    beside.date_by(rt, clock);
     let seat = print_and_record(rt, station, seat, format, &mut out, &mut beside);
     ReporterResult {
         seat,

@@ -5,4 +5,5 @@ pub returns : goal.returns
 returns g c = record {
   table = ap string_bytes c.report_write.ensures.table ∙ c.in_ok-file_in.ensures;
   origin = c.report_write.ensures.origin;
+  follows = c.report_write.ensures.follows;
 }
