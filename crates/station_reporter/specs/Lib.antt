@@ -1,4 +1,6 @@
 pub mod Displays
+pub mod LimitAlarmLaws
+pub mod LimitAlarms
 pub mod Recorded
 pub mod Reporter
 pub mod Tables

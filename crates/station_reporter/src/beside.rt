@@ -1,5 +1,6 @@
 //! What a run writes beside its output.
 ghost use Rattle.std.specs.Prelude.{◌≡◌};
+ghost use Rattle.station_reporter.specs.LimitAlarms.{TellsLimits, limits_told, met_limits};
 
 use crate::displays::Displays;
 use crate::limit_alarm::LimitAlarm;
@@ -21,7 +22,8 @@ pub struct Beside<T: Sink, A: Write> {
 impl<T: Sink, A: Write> Beside<T, A> {
     /// Reports the limits that the calls of a station have met, each once.
     pub fn report_limits(&mut self, met: LimitsMet)
-        ensures { self.new.record ≡ self.old.record }
+        ensures record { self.new.record ≡ self.old.record }
+        ensures told { TellsLimits (limits_told A.contents self.old.limits) (met_limits met) (limits_told A.contents self.new.limits) }
     {
         self.limits.report(met);
     }

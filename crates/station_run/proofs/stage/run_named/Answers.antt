@@ -54,7 +54,7 @@ returns-clause-ran g c =
         closed = left.closed;
         shows = shows (λ b. b.record) _ _ _ _ _ _ _ _ _ _ _ c.in-Some.left.report.seat (record { seat = c.learn_from_all.new.seat; out = c.in-Some.left.report.out; beside = c.report_limits.new.self; due = c.in-Some.left.report.due; asked_at = c.in-Some.left.report.asked_at; written_at = c.in-Some.left.report.written_at }) c.print_last-report.result _ refl
             (c.hands_over-hands_over.ensures ∙ ap (λ b. is_some c.in-Some.left.report.asked_at && b) (work-on (λ r. r.source) (λ r. r.answer) new found.0 found.1 ∙ ap (λ ss. may_go_on ss found.0) (sym left.inputs)))
-            (c.learn_from_all.ensures, rw (← c.report_limits.ensures) at (reports_from _ _ _ _ _ _ _ _ _ _ _ first c.in-Some.ensures.reporter))
+            (c.learn_from_all.ensures, rw (← c.report_limits.ensures.record) at (reports_from _ _ _ _ _ _ _ _ _ _ _ first c.in-Some.ensures.reporter))
             c.print_last-report.ensures;
         duties = refl;
         rounds_left = refl;
