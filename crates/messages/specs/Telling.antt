@@ -24,18 +24,19 @@ pub record Told : Type 0 where
 abbrev pub told_of : {E : Type 0} → (E → Option (List ℕ)) → StandardError E → Told
 told_of contents err = record { taken = contents err.inner; has_failed = err.has_failed }
 
--- what the standard errors have taken on which a job reports at once a failed write of its record, or of its output, where that is
--- known
+-- what the standard errors have taken on which a job reports at once a failed write of its record, or of its output, or a full
+-- journal or table, where that is known
 pub record Alarmed : Type 0 where
   pub of_record : Option (List ℕ)
   pub of_output : Option (List ℕ)
+  pub of_limits : Option (List ℕ)
 
 abbrev pub alarmed_by : {A : Type 0} → (A → Option (List ℕ)) → Alarms A → Alarmed
-alarmed_by contents alarms = record { of_record = contents alarms.record; of_output = contents alarms.output }
+alarmed_by contents alarms = record { of_record = contents alarms.record; of_output = contents alarms.output; of_limits = contents alarms.limits }
 
--- both are handles of one standard error
-abbrev pub both_alarmed : Option (List ℕ) → Alarmed
-both_alarmed taken = record { of_record = taken; of_output = taken }
+-- all are handles of one standard error
+abbrev pub all_alarmed : Option (List ℕ) → Alarmed
+all_alarmed taken = record { of_record = taken; of_output = taken; of_limits = taken }
 
 -- this text is printed and nothing else, unless a write fails
 pub record Tells (old new : Told) (text : List ℕ) : Type 0 where

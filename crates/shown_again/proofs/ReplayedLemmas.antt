@@ -46,7 +46,7 @@ answered site lines log source_old source_new sink_old sink_new turns (Err fault
 answered site lines log source_old source_new sink_old sink_new turns (Err fault) true status left replays = absurd (not-one status)
 
 replayed : (site : Site) (lines text : List ℕ) → unlimited_output (empty_log (program_limits site)) (cuts lines) ≡ text → HasRoom site lines → ReplayPrints site lines text
-replayed site lines text is room before after err_old err_new ends =
+replayed site lines text is room before after alarm_old alarm_new err_old err_new ends =
     let wrote = answered site lines ends.log ends.source_old ends.source_new _ _ _ ends.answer ends.has_failed ends.status_is ends.whole ends.replays in
     let well = no-fault (status_of ends.answer) ends.has_failed ends.status_is in
     subst (Appends before after) (forgets-no_start site lines room ∙ is) (Appends-kept before ends.between.taken after _ wrote (kept-whole ends.between.taken after ends.has_failed well ends.gives))

@@ -8,6 +8,7 @@ use Rattle.station_report.specs.declared.formats.Format.TheVariants.{Text}
 use Rattle.station_replay.specs.Forgetting.{StaysSparse, calls_in}
 use Rattle.station_run.specs.Limits.{forget_at, most_between_ticks, program_limits}
 use Rattle.station_reporter.specs.Recorded.{Recording}
+use Rattle.station_reporter.specs.LimitAlarms.{LimitsTold}
 use Rattle.station_main.specs.Replay.{EndsReplay}
 use Rattle.station_run.specs.Stations.{Station}
 use Rattle.messages.specs.Telling.{Told}
@@ -35,8 +36,8 @@ HasRoom site lines =
 -- each replay with this place and tables as text that reads just these lines, and ends with status 0, prints just this text
 abbrev pub ReplayPrints : Site → List ℕ → List ℕ → Type 0
 ReplayPrints site lines text =
-    (before after : Option (List ℕ)) (err_old err_new : Told)
-    → EndsReplay Text (program_limits site) (Some lines) before after err_old err_new 0 → Appends before after text
+    (before after : Option (List ℕ)) (alarm_old alarm_new : LimitsTold) (err_old err_new : Told)
+    → EndsReplay Text (program_limits site) (Some lines) before after alarm_old alarm_new err_old err_new 0 → Appends before after text
 
 -- the run was of one round, and its station handed over to no other
 abbrev pub IsOneStation : List Station → Type 0

@@ -5,6 +5,7 @@ use Rattle.clap.specs.declared.error.kind.ErrorKind.{ErrorKind}
 use Rattle.clap.specs.declared.error.kind.ErrorKind.TheVariants as kind
 use Rattle.streams.specs.Sink.{AppendsFront}
 use Rattle.command_line.specs.Command.{IsStation, NamesJob, format_since, misplaced, reopens_rounds}
+use Rattle.station_reporter.specs.LimitAlarms.{LimitsTold, no_limits_told}
 use Rattle.station_run.specs.Limits.{program_limits}
 use Rattle.station_main.specs.Replay.{EndsReplay}
 use Rattle.station_run.specs.Stations.{RunsAsked, plan_from}
@@ -13,10 +14,12 @@ use Rattle.command_line.specs.declared.words.Job.{Job}
 use Rattle.command_line.specs.declared.words.Job.TheVariants.{Replay, Run}
 
 -- a job is done, beside standard errors for what is reported at once; a replay that leaves no output has read nothing;
--- JSON of a run counts from the origin, in milliseconds since 1970, and of a replay from 0
+-- JSON of a run counts from the origin, in milliseconds since 1970, and of a replay from 0. The alarm of a replay has reported no
+-- limit before
 abbrev pub IsDone : Job → (origin : ℕ) → Option (List ℕ) → Option (List ℕ) → Option (Option (List ℕ)) → Alarmed → Told → Told → ℕ → Type 0
 IsDone (Replay form site) origin input before None alarm err_old err_new status = OutOfMemory err_old err_new status
-IsDone (Replay form site) origin input before (Some after) alarm err_old err_new status = EndsReplay (format_since form 0) (program_limits site) input before after err_old err_new status
+IsDone (Replay form site) origin input before (Some after) alarm err_old err_new status =
+    (alarm_new : LimitsTold) × EndsReplay (format_since form 0) (program_limits site) input before after (no_limits_told alarm.of_limits) alarm_new err_old err_new status
 IsDone (Run arguments) origin input before after alarm err_old err_new status =
     RunsAsked (plan_from arguments origin) before after alarm err_old err_new status
 

@@ -2,14 +2,14 @@
 ghost use Rattle.clap.specs.Words.{App, kind_of, takes};
 ghost use Rattle.command_line.specs.Command.{IsInRange, IsStation, misplaced, reopens_rounds};
 ghost use Rattle.station_main.specs.Jobs.{GivesStatus, HasNoMemory, IsAnswered, IsDone, IsObeyed, WritesText, is_shown};
-ghost use Rattle.messages.specs.Telling.{Tells, alarmed_by, both_alarmed, not_a_place_text, reopens_rounds_text, told_of};
+ghost use Rattle.messages.specs.Telling.{Tells, alarmed_by, all_alarmed, not_a_place_text, reopens_rounds_text, told_of};
 ghost use Rattle.std.specs.Prelude.{◌≡◌, ◌≤◌, ◌⊎◌, ℕ, List, None, Some, false, map, option_map, true};
 
 use crate::replay_job::replay_input;
 use command_line::{Job, WordsFault, read_words};
 use messages::{Alarms, Fault, StandardError};
 use station_paths::{Host, PathSystem, System};
-use station_reporter::milliseconds_since_1970;
+use station_reporter::{LimitAlarm, milliseconds_since_1970};
 use station_run::{JobResult, RunOptions, run, without_output};
 use std::alloc::Global;
 use std::io::{Read, Write};
@@ -33,7 +33,7 @@ pub fn program<
     E: Write + Copy + Send + Drop,
 >(rt: &R, own: W, alloc: Global, words: &[&str], input: I, out: O, err: E) -> u8
     ensures { GivesStatus (map (λ w. w.now) words.now) (I.remaining input) (O.Write.contents out)
-        (both_alarmed (E.Write.contents err)) (E.Write.contents err) result }
+        (all_alarmed (E.Write.contents err)) (E.Write.contents err) result }
 {
     let origin = milliseconds_since_1970(rt);
     let mut last = StandardError::new(err);
@@ -139,7 +139,7 @@ fn do_job<
                 format,
                 input,
                 out,
-                alarms.limits,
+                &mut LimitAlarm::new(alarms.limits),
                 err,
             )
         }

@@ -1,6 +1,7 @@
 //! The job `replay`.
 ghost use Rattle.std.specs.Prelude.{◌≡◌, ◌≤◌, IfSome, None, max};
 ghost use Rattle.std.specs.Io.Buffered.{writer_contents};
+ghost use Rattle.station_reporter.specs.LimitAlarms.{limits_told};
 ghost use Rattle.station_run.specs.Limits.{program_limits};
 ghost use Rattle.station_run.specs.Output.{GivesBack};
 ghost use Rattle.station_main.specs.Replay.{EndsReplay};
@@ -24,14 +25,14 @@ use streams::ToWrite;
 /// it is given. Then prints what was counted, and
 /// a fault if there is one. The first frame or tick that meets a full journal or a full table is reported to `alarm` at once.
 /// Answers the output, unless nothing was read.
-pub fn replay_input<R: Wait, I: Read + Drop, O: Write + Drop, A: Write + Drop, E: Write>(
+pub fn replay_input<R: Wait, I: Read + Drop, O: Write + Drop, A: Write, E: Write>(
     rt: &R,
     alloc: Global,
     site: Option<Reference>,
     format: Format,
     input: I,
     out: O,
-    alarm: A,
+    alarm: &mut LimitAlarm<A>,
     err: &mut StandardError<E>,
 ) -> JobResult<O>
     ensures most { result.status ≤ 1 }
@@ -39,6 +40,7 @@ pub fn replay_input<R: Wait, I: Read + Drop, O: Write + Drop, A: Write + Drop, E
         OutOfMemory (told_of E.contents err.old) (told_of E.contents err.new) result.status }
     ensures ended { IfSome result.out (λ left. EndsReplay format (program_limits site)
         (I.remaining input) (O.Write.contents out) (O.Write.contents left)
+        (limits_told A.contents alarm.old) (limits_told A.contents alarm.new)
         (told_of E.contents err.old) (told_of E.contents err.new) result.status) }
 {
     let (Ok(input), Ok(output)) = (BufReader::new(alloc, input), BufWriter::new(alloc, out)) else {
@@ -56,7 +58,7 @@ pub fn replay_input<R: Wait, I: Read + Drop, O: Write + Drop, A: Write + Drop, E
         &mut to,
         format,
         TURNS,
-        &mut LimitAlarm::new(alarm),
+        alarm,
     );
     desk.end(rt);
     let ClosedOutput { out, has_failed } = take_out(to.into_inner(), &answer);
