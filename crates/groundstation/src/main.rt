@@ -1,7 +1,7 @@
 //! The program `groundstation`, over the process's own arguments and streams.
 #![tactic(auto)]
 
-use station_main::{Alarms, exit_code, own_words};
+use station_main::{Alarms, StandardError, exit_code, milliseconds_since_1970, own_words};
 use std::fs::File;
 use std::io::LineWriter;
 use std::process::ExitCode;
@@ -15,24 +15,27 @@ fn main(rt: HostRuntime) -> ExitCode {
         File::open(&rt, "/"),
         File::open(&rt, "/"),
     );
-    let owned = own_words(&rt);
+    let (owned, origin) = (own_words(&rt), milliseconds_since_1970(&rt));
     let (input, out) = (rt.stdin(), rt.stdout());
+    let mut err = StandardError::new(error_lines(&rt));
     let alarms = Alarms {
         output: error_lines(&rt),
         record: error_lines(&rt),
         displays: error_lines(&rt),
         limits: error_lines(&rt),
     };
-    exit_code(
+    let ended = exit_code(
         &rt,
         rt,
         rt.alloc(),
         owned,
+        origin,
         input,
         out,
         alarms,
-        error_lines(&rt),
-    )
+        &mut err,
+    );
+    ended.code
 }
 
 // Standard error, a line at a time: no other thread's line comes into the middle of one. The parts of a line are written as

@@ -32,7 +32,9 @@ mod words;
 
 use crate::comparing::{holds, same};
 use bounds::*;
-use station_main::{Alarms, StandardError, exit_code, obey, own_words};
+use station_main::{
+    Alarms, ProcessEnd, StandardError, exit_code, milliseconds_since_1970, obey, own_words,
+};
 use std::alloc::{AllocError, Global};
 use std::env::{Env, FillError};
 use std::io::{self, ErrorKind, Read, Write};
@@ -193,18 +195,20 @@ impl<R: System, W: Own> Trials<'_, R, W> {
         Ok(Ran { out, ..ran })
     }
 
-    // The exit code of a process with these words, its output and its standard error.
-    fn code_of(&self, words: Result<Vec<String>, ErrorKind>) -> (ExitCode, Vec<u8>, Vec<u8>) {
+    // What a process with these words leaves, and its standard error.
+    fn end_of(&self, words: Result<Vec<String>, ErrorKind>) -> (ProcessEnd<Vec<u8>>, Vec<u8>) {
         let (rt, own, alloc) = (self.rt, self.own, self.alloc);
-        let (mut out, mut err) = (Vec::new(alloc), Vec::new(alloc));
+        let (out, mut err) = (Vec::new(alloc), Vec::new(alloc));
         let alarms = Alarms {
             output: io::sink(),
             record: io::sink(),
             displays: io::sink(),
             limits: io::sink(),
         };
-        let code = exit_code(rt, own, alloc, words, NO_LINES, &mut out, alarms, &mut err);
-        (code, out, err)
+        let mut told = StandardError::new(&mut err);
+        let (origin, told) = (milliseconds_since_1970(rt), &mut told);
+        let ended = exit_code(rt, own, alloc, words, origin, NO_LINES, out, alarms, told);
+        (ended, err)
     }
 }
 
@@ -254,14 +258,29 @@ impl<R: Host, W: Own> Trials<'_, R, W> {
     }
 
     fn an_argument_that_is_not_utf8_is_refused(self) {
-        let (code, out, err) = self.code_of(own_words(&(NotText, self.alloc)));
-        holds(self.rt, code == ExitCode::from(2) && out.is_empty());
+        let (ended, err) = self.end_of(own_words(&(NotText, self.alloc)));
+        let is_empty = ended.out.is_some_and(|out| out.is_empty());
+        holds(self.rt, ended.code == ExitCode::from(2) && is_empty);
         let refused = "error: an argument is not UTF-8\n";
         same(self.rt, text(&err), refused);
+    }
+
+    fn arguments_without_memory_end_with_1(self) {
+        let (ended, err) = self.end_of(Err(ErrorKind::OutOfMemory));
+        holds(
+            self.rt,
+            ended.code == ExitCode::from(1) && ended.out.is_none(),
+        );
+        same(self.rt, text(&err), "groundstation: no memory\n");
     }
 }
 
 #[test]
 fn an_argument_that_is_not_utf8_is_refused(rt: HostRuntime) {
     Trials::on(&rt).an_argument_that_is_not_utf8_is_refused()
+}
+
+#[test]
+fn arguments_without_memory_end_with_1(rt: HostRuntime) {
+    Trials::on(&rt).arguments_without_memory_end_with_1()
 }

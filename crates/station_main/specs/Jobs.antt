@@ -1,6 +1,8 @@
 -- What a job leaves: its output, what it printed on standard error, and its status.
-use Rattle.std.specs.Prelude.{◌≡◌, ◌⊎◌, ℕ, Bool, true, false, List, [], Option, Some, None}
-use Rattle.clap.specs.Words.{App, IsAmong, Text, fault_of}
+use Rattle.std.specs.Prelude.{◌≡◌, ◌≢◌, ◌≤◌, ◌⊎◌, ℕ, Bool, true, false, List, [], Option, Some, None, codes}
+use Rattle.std.specs.declared.io.ErrorKind as io
+use Rattle.std.specs.declared.io.ErrorKind.TheVariants as io_kind
+use Rattle.clap.specs.Words.{App, IsAmong, Text, fault_of, takes}
 use Rattle.clap.specs.declared.error.kind.ErrorKind.{ErrorKind}
 use Rattle.clap.specs.declared.error.kind.ErrorKind.TheVariants as kind
 use Rattle.streams.specs.Sink.{AppendsFront}
@@ -80,10 +82,30 @@ abbrev pub IsObeyed : App → List Text → (origin : ℕ) → Option (List ℕ)
 IsObeyed app words origin input before after alarm err_old err_new status =
     IsAnswered app words origin input before after alarm err_old err_new status ⊎ IsRefused app words before after err_old err_new status
 
--- a status that a command line gives over these streams, whatever is left of them: there was no memory for its words, or it is
--- obeyed, and JSON of a run counts from some origin
+-- the command line is one of the program; what it leaves. If `clap` accepts it, it is answered, with status 0 or 1 unless it is refused
+-- for `--reopen` with `--rounds` or for its place
+abbrev pub Obeys : List Text → (origin : ℕ) → Option (List ℕ) → Option (List ℕ) → Option (Option (List ℕ)) → Alarmed → Told → Told → ℕ → Type 0
+Obeys words origin input before after alarm err_old err_new status =
+    (app : App) × IsStation app × (takes app words ≡ true
+    → (reopens_rounds app words ≡ false → misplaced app words ≡ None → status ≤ 1) × IsAnswered app words origin input before after alarm err_old err_new status)
+    × IsObeyed app words origin input before after alarm err_old err_new status
+
+-- what the words of a process leave: there was no memory to lend them, and only that is printed; or they are obeyed
+abbrev pub EndsProcess : List Text → (origin : ℕ) → Option (List ℕ) → Option (List ℕ) → Option (Option (List ℕ)) → Alarmed → Told → Told → ℕ → Type 0
+EndsProcess words origin input before after alarm err_old err_new status =
+    HasNoMemory after err_old err_new status ⊎ Obeys words origin input before after alarm err_old err_new status
+
+-- why a word is refused that isn't UTF-8
+abbrev pub not_utf8_text : List ℕ
+not_utf8_text = codes "error: an argument is not UTF-8\n"
+
+-- the words of a process can't be had: there was no memory for them, or one isn't UTF-8, and only that is printed
+pub record HasNoWords (kind : io.ErrorKind) (before : Option (List ℕ)) (after : Option (Option (List ℕ))) (err_old err_new : Told) (status : ℕ) : Type 0 where
+  pub memory : kind ≡ io_kind.OutOfMemory → HasNoMemory after err_old err_new status
+  pub text : kind ≢ io_kind.OutOfMemory → WritesText false not_utf8_text before after err_old err_new status
+
+-- a status that a command line gives over these streams, whatever is left of them; JSON of a run counts from some origin
 abbrev pub GivesStatus : List Text → Option (List ℕ) → Option (List ℕ) → Alarmed → Option (List ℕ) → ℕ → Type 0
 GivesStatus words input before alarm err status =
-    ((err_new : Told) × OutOfMemory (record { taken = err; has_failed = false }) err_new status)
-    ⊎ ((app : App) × IsStation app × (origin : ℕ) × (after : Option (Option (List ℕ))) × (err_new : Told)
-    × IsObeyed app words origin input before after alarm (record { taken = err; has_failed = false }) err_new status)
+    (origin : ℕ) × (after : Option (Option (List ℕ))) × (err_new : Told)
+    × Obeys words origin input before after alarm (record { taken = err; has_failed = false }) err_new status

@@ -1,7 +1,7 @@
 //! The whole program, over any streams.
-ghost use Rattle.clap.specs.Words.{App, kind_of, takes};
-ghost use Rattle.command_line.specs.Command.{IsInRange, IsStation, misplaced, reopens_rounds};
-ghost use Rattle.station_main.specs.Jobs.{GivesStatus, HasNoMemory, IsAnswered, IsDone, IsObeyed, WritesText, is_shown};
+ghost use Rattle.clap.specs.Words.{kind_of};
+ghost use Rattle.command_line.specs.Command.{IsInRange};
+ghost use Rattle.station_main.specs.Jobs.{GivesStatus, HasNoMemory, IsDone, Obeys, WritesText, is_shown};
 ghost use Rattle.messages.specs.Telling.{Tells, alarmed_by, all_alarmed, not_a_place_text, reopens_rounds_text, told_of};
 ghost use Rattle.std.specs.Prelude.{◌≡◌, ◌≤◌, ◌⊎◌, ℕ, List, None, Some, false, map, option_map, true};
 
@@ -32,7 +32,8 @@ pub fn program<
     O: Write + Send + Drop,
     E: Write + Copy + Send + Drop,
 >(rt: &R, own: W, alloc: Global, words: &[&str], input: I, out: O, err: E) -> u8
-    ensures { GivesStatus (map (λ w. w.now) words.now) (I.remaining input) (O.Write.contents out)
+    ensures most { result ≤ 2 }
+    ensures given { GivesStatus (map (λ w. w.now) words.now) (I.remaining input) (O.Write.contents out)
         (all_alarmed (E.Write.contents err)) (E.Write.contents err) result }
 {
     let origin = milliseconds_since_1970(rt);
@@ -79,13 +80,7 @@ pub fn obey<
     err: &mut StandardError<E>,
 ) -> JobResult<O>
     ensures status { result.status ≤ 2 }
-    ensures obeyed { (app : App) × IsStation app × (takes app (map (λ w. w.now) words.now) ≡ true
-        → (reopens_rounds app (map (λ w. w.now) words.now) ≡ false
-        → misplaced app (map (λ w. w.now) words.now) ≡ None → result.status ≤ 1)
-        × IsAnswered app (map (λ w. w.now) words.now) origin (I.remaining input) (O.Write.contents out)
-        (option_map (λ left. O.Write.contents left) result.out) (alarmed_by A.Write.contents alarms)
-        (told_of E.contents err.old) (told_of E.contents err.new) result.status)
-        × IsObeyed app (map (λ w. w.now) words.now) origin (I.remaining input) (O.Write.contents out)
+    ensures obeyed { Obeys (map (λ w. w.now) words.now) origin (I.remaining input) (O.Write.contents out)
         (option_map (λ left. O.Write.contents left) result.out) (alarmed_by A.Write.contents alarms)
         (told_of E.contents err.old) (told_of E.contents err.new) result.status }
 {

@@ -1,63 +1,122 @@
 //! The program over the arguments of its process.
-ghost use Rattle.std.specs.Prelude.{◌≡◌, ◌≢◌, ◌≤◌, IfErr, IfOk, map};
+ghost use Rattle.std.specs.Prelude.{◌≡◌, ◌⊎◌, IfErr, IfOk, Some, false, map, option_map};
 ghost use Rattle.std.specs.Process.{exit_status};
 ghost use Rattle.std.specs.String.{string_bytes};
-ghost use Rattle.messages.specs.Telling.{alarmed_by};
-ghost use Rattle.station_main.specs.Jobs.{GivesStatus};
+ghost use Rattle.messages.specs.Telling.{alarmed_by, told_of};
+ghost use Rattle.station_main.specs.Jobs.{EndsProcess, HasNoMemory, HasNoWords, WritesText, not_utf8_text};
 
 use crate::obeying::obey;
-use messages::{Alarms, Fault, StandardError, tell};
+use messages::{Alarms, Fault, StandardError};
 use station_paths::{PathSystem, System};
-use station_reporter::milliseconds_since_1970;
+use station_run::{JobResult, without_output};
 use std::alloc::{AllocError, Global};
 use std::env;
 use std::io::{ErrorKind, Read, Write};
 use std::process::ExitCode;
 use std::rt::Env;
 
-/// Runs the program on its arguments. Answers the exit code that its process ends with: 1 if there was no memory for the
-/// arguments, 2 if one isn't UTF-8, and else that of [`obey`](crate::obey).
+// Why an argument that isn't UTF-8 is refused.
+const NOT_UTF8: &str = "error: an argument is not UTF-8\n";
+
+/// What the program leaves of its process.
+#[derive(Drop)]
+pub struct ProcessEnd<O> {
+    pub code: ExitCode,
+    /// The output. It is gone where [`obey`](crate::obey) leaves none, and where there was no memory for the arguments.
+    pub out: Option<O>,
+}
+
+/// Runs the program on its arguments. Answers the output, and the exit code that its process ends with: 1 if there was no memory
+/// for the arguments, 2 if one isn't UTF-8, and else that of [`obey`](crate::obey). Where the arguments can't be had only why is
+/// printed.
 pub fn exit_code<
     R: System,
     W: PathSystem,
     I: Read + Drop,
     O: Write + Send + Drop,
     A: Write + Send + Drop,
-    E: Write + Drop,
+    E: Write,
 >(
     rt: &R,
     own: W,
     alloc: Global,
     owned: Result<Vec<String>, ErrorKind>,
+    origin: u64,
     input: I,
     out: O,
     alarms: Alarms<A>,
-    err: E,
-) -> ExitCode
-    ensures given { IfOk owned (λ words. GivesStatus (map string_bytes words.items) (I.remaining input)
-        (O.Write.contents out) (alarmed_by A.Write.contents alarms) (E.Write.contents err) (exit_status result)) }
-    ensures memory { IfErr owned (λ kind. kind ≡ ErrorKind.OutOfMemory → exit_status result ≡ 1) }
-    ensures text { IfErr owned (λ kind. kind ≢ ErrorKind.OutOfMemory → exit_status result ≡ 2) }
+    err: &mut StandardError<E>,
+) -> ProcessEnd<O>
+    ensures obeyed { IfOk owned (λ words. EndsProcess (map string_bytes words.items) origin (I.remaining input) (O.Write.contents out)
+        (option_map (λ left. O.Write.contents left) result.out) (alarmed_by A.Write.contents alarms)
+        (told_of E.contents err.old) (told_of E.contents err.new) (exit_status result.code)) }
+    ensures refused { IfErr owned (λ kind. HasNoWords kind (O.Write.contents out)
+        (option_map (λ left. O.Write.contents left) result.out)
+        (told_of E.contents err.old) (told_of E.contents err.new) (exit_status result.code)) }
 {
-    let mut err = StandardError::new(err);
-    let owned = match owned {
-        Ok(owned) => owned,
-        Err(ErrorKind::OutOfMemory) => return ExitCode::from(tell(&mut err, Fault::NoMemory)),
-        Err(_) => return ExitCode::from(not_text(&mut err)),
-    };
-    let Ok(words) = borrowed(alloc, &owned) else {
-        return ExitCode::from(tell(&mut err, Fault::NoMemory));
-    };
-    let (words, origin) = (words.as_slice(), milliseconds_since_1970(rt));
-    let ran = obey(rt, own, alloc, words, origin, input, out, alarms, &mut err);
-    ExitCode::from(ran.status)
+    match owned {
+        Ok(owned) => {
+            let ran = obey_owned(rt, own, alloc, &owned, origin, input, out, alarms, err);
+            process_end(ran)
+        }
+        Err(ErrorKind::OutOfMemory) => process_end(without_output(err, Fault::NoMemory)),
+        Err(_) => process_end(refuse_bytes(out, err)),
+    }
 }
 
-fn not_text<E: Write>(err: &mut StandardError<E>) -> u8
-    ensures { result ≡ 2 }
+// What a process leaves whose job leaves this.
+fn process_end<O>(ran: JobResult<O>) -> ProcessEnd<O>
+    ensures code { exit_status result.code ≡ ran.status }
+    ensures out { result.out ≡ ran.out }
 {
-    err.text(format_args!("error: an argument is not UTF-8\n"));
-    2
+    ProcessEnd {
+        code: ExitCode::from(ran.status),
+        out: ran.out,
+    }
+}
+
+// Runs the program on these arguments, unless there is no memory to lend them.
+fn obey_owned<
+    R: System,
+    W: PathSystem,
+    I: Read + Drop,
+    O: Write + Send + Drop,
+    A: Write + Send + Drop,
+    E: Write,
+>(
+    rt: &R,
+    own: W,
+    alloc: Global,
+    owned: &Vec<String>,
+    origin: u64,
+    input: I,
+    out: O,
+    alarms: Alarms<A>,
+    err: &mut StandardError<E>,
+) -> JobResult<O>
+    ensures { EndsProcess (map string_bytes owned.now.items) origin (I.remaining input) (O.Write.contents out)
+        (option_map (λ left. O.Write.contents left) result.out) (alarmed_by A.Write.contents alarms)
+        (told_of E.contents err.old) (told_of E.contents err.new) result.status }
+{
+    match borrowed(alloc, owned) {
+        Ok(words) => {
+            let words = words.as_slice();
+            obey(rt, own, alloc, words, origin, input, out, alarms, err)
+        }
+        Err(_) => without_output(err, Fault::NoMemory),
+    }
+}
+
+// Refuses an argument that isn't UTF-8, with status 2.
+fn refuse_bytes<O: Write, E: Write>(out: O, err: &mut StandardError<E>) -> JobResult<O>
+    ensures { WritesText false not_utf8_text (O.contents out) (option_map (λ left. O.contents left) result.out)
+        (told_of E.contents err.old) (told_of E.contents err.new) result.status }
+{
+    err.text(NOT_UTF8);
+    JobResult {
+        status: 2,
+        out: Some(out),
+    }
 }
 
 /// The arguments of the process, the program's name first, or why they can't be had: out of memory, or one isn't UTF-8.

@@ -75,9 +75,9 @@ impl<R: Host, W: Own> Trials<'_, R, W> {
         for word in words_of(self.alloc, line, files.paths().as_slice())? {
             words.push(String::from_str(self.alloc, word)?)?;
         }
-        let (code, out, _) = self.over(&staged).code_of(Ok(words));
-        same(self.rt, text(&out), JSON_OF_BOTH);
-        holds(self.rt, code == ExitCode::SUCCESS);
+        let (ended, _) = self.over(&staged).end_of(Ok(words));
+        same(self.rt, ended.out.as_ref().map(text), Some(JSON_OF_BOTH));
+        holds(self.rt, ended.code == ExitCode::SUCCESS);
         self.remove(&files.folder)
     }
 }
