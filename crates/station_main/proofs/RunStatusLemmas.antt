@@ -1,5 +1,5 @@
 -- What a run told up to a station and to its end, and the status that it gives.
-use Rattle.std.proofs.Common.{rules, ◌≡◌, ◌∙◌, ◌⊎◌, inl, inr, ℕ, ◌≤◌, ◌&&◌, ◌||◌, Bool, true, false, not, List, [], ◌∷◌, ◌++◌, Option, Some, None, Err, arith, drop, is_some, length, max, refl, sym, ap, subst}
+use Rattle.std.proofs.Common.{rules, ◌≡◌, ◌∙◌, ◌⊎◌, inl, inr, ℕ, ◌≤◌, ◌&&◌, ◌||◌, Bool, true, false, not, List, [], ◌∷◌, ◌++◌, Option, Some, None, Err, arith, is_some, length, max, refl, sym, ap, subst}
 use Rattle.clap.specs.Words.{Text}
 use Rattle.station_report.specs.declared.formats.Format.{Format}
 use Rattle.station_history.specs.Start.{Start}
@@ -7,8 +7,7 @@ use Rattle.station_shared.specs.Seats.{Seated}
 use Rattle.messages.proofs.Common.{Tells, Told, fault_line, fault_status}
 use Rattle.messages.specs.Telling.{Alarmed, fault_words}
 use Rattle.messages.specs.declared.faults.Fault.TheVariants as fault
-use Rattle.station_record.specs.Record.{record_of, shows_after}
-use Rattle.station_reporter.proofs.Common.{IfRecording, Printing, Recording, Records, TakesBy, TakesTexts, TakesTextsBy, TakesText, TellsFailure, TellsOutput, is_broken, looks_of, record_status, seen_by}
+use Rattle.station_reporter.proofs.Common.{IfRecording, Printing, Recording, Records, TakesBy, TakesTexts, TakesTextsBy, TakesText, TellsFailure, TellsOutput, is_broken, record_status}
 use Rattle.station_reporter.specs.Recorded.{RecordsRest}
 use Rattle.station_run.proofs.Common.{BeginsRound, Begun, EndsRound, EndsRun, Follows, GoesOn, HandsOver, IsLost, IsOver, Left, RunEnd, RunPlan, Runs, RunsFrom, RunsOn, RunsStation, Station, Streams}
 use Rattle.station_run.specs.Stations.{IsBlank, NoRoundAfter, RunsAsked, new_output}
@@ -37,18 +36,19 @@ abbrev ReportsIf : Told → Option Recording → Type 0
 ReportsIf alarm None = Unit {0}
 ReportsIf alarm (Some recording) = ReportsRecord recording.has_failed alarm recording.alarm
 
-module _ (goes_on : Recording → Recording → Type 0) (text_of : Recording → List ℕ) (takes : (old new : Recording) → goes_on old new → TakesText old new (text_of old)) (alarm : Told) where
+-- the record takes some text, if there is one
+module _ (goes_on : Recording → Recording → Type 0) (takes : (old new : Recording) → goes_on old new → (text : List ℕ) × TakesText old new text) (alarm : Told) where
   record-if : (old new : Option Recording) → IfRecording goes_on old new → ReportsIf alarm old → ReportsIf alarm new
   record-if None None is was = tt
   record-if None (Some new) is was = absurd is
   record-if (Some old) None is was = absurd is
-  record-if (Some old) (Some new) is was = record-by old.has_failed new.has_failed (text_of old) alarm old new (takes old new is) was
+  record-if (Some old) (Some new) is was = let taken = takes old new is in record-by old.has_failed new.has_failed taken.0 alarm old new taken.1 was
 
-  same-if : (old new : Option Recording) → IfRecording goes_on old new → is_some new ≡ is_some old
-  same-if None None is = refl
-  same-if None (Some new) is = absurd is
-  same-if (Some old) None is = absurd is
-  same-if (Some old) (Some new) is = refl
+same-if : (goes_on : Recording → Recording → Type 0) (old new : Option Recording) → IfRecording goes_on old new → is_some new ≡ is_some old
+same-if goes_on None None is = refl
+same-if goes_on None (Some new) is = absurd is
+same-if goes_on (Some old) None is = absurd is
+same-if goes_on (Some old) (Some new) is = refl
 
 -- ---- up to a station
 
@@ -73,15 +73,16 @@ module _ (asked : RunPlan) (alarm : Alarmed) (first : Told) where
   after-station station runs so_far =
       let shows = runs.shows in
       let takes = shows.takes in
-      let lists = seen_by (looks_of shows.showings ++ shows.last) in
+      let was = station.old.recording in
+      let is = station.new.recording in
       record {
         lines = so_far.lines;
         told = subst (λ (t : Told). TellsLines first t so_far.lines) (sym runs.err) so_far.told;
         fine = so_far.fine;
         goes_on = takes.goes_on ∙ so_far.goes_on;
-        output = after-output station.begun.duties.tables.format station.left.start (looks_of shows.showings ++ shows.last) station.old.out station.new.out takes so_far.output;
-        same_record = same-if (Records lists) (λ (r : Recording). shows_after r.recorded lists) (λ old new is. is.takes) first station.old.recording station.new.recording shows.records ∙ so_far.same_record;
-        recorded = record-if (Records lists) (λ (r : Recording). shows_after r.recorded lists) (λ old new is. is.takes) (new_alarm alarm.of_record) station.old.recording station.new.recording shows.records so_far.recorded;
+        output = after-output station.begun.duties.tables.format station.left.start _ station.old.out station.new.out takes so_far.output;
+        same_record = same-if (Records _) was is shows.records ∙ so_far.same_record;
+        recorded = record-if (Records _) (λ old new goes_on. (_, goes_on.takes)) (new_alarm alarm.of_record) was is shows.records so_far.recorded;
       }
 
   -- lines of which none is a fault
@@ -109,8 +110,7 @@ module _ (asked : RunPlan) (alarm : Alarmed) (first : Told) where
   after-follows : (left : Left) (old new : Streams) (next : Begun) → Follows asked left old next new → SoFar asked alarm first old → SoFar asked alarm first new
   after-follows left old new next follows so_far =
       let added = adds-how left next old.err new.err follows.how in
-      let journal = left.closing.journal in
-      let rest = λ (r : Recording). record_of (drop r.recorded journal) in
+      let rest = RecordsRest left.closing.journal (length next.given.entries) in
       let is = worst-then so_far.lines added.lines in
       record {
         lines = so_far.lines ++ added.lines;
@@ -118,8 +118,8 @@ module _ (asked : RunPlan) (alarm : Alarmed) (first : Told) where
         fine = is ∙ omega (arith, so_far.fine, added.fine);
         goes_on = ap (λ (p : Printing). p.goes_on) follows.out ∙ so_far.goes_on;
         output = subst (λ (p : Printing). ReportsOutput (p.has_failed && p.goes_on) (new_alarm alarm.of_output) p.alarm) (sym follows.out) so_far.output;
-        same_record = same-if (RecordsRest journal (length next.given.entries)) rest (λ old new is. is.takes) first old.recording new.recording follows.is_kept.records ∙ so_far.same_record;
-        recorded = record-if (RecordsRest journal (length next.given.entries)) rest (λ old new is. is.takes) (new_alarm alarm.of_record) old.recording new.recording follows.is_kept.records so_far.recorded;
+        same_record = same-if rest old.recording new.recording follows.is_kept.records ∙ so_far.same_record;
+        recorded = record-if rest (λ old new goes_on. (_, goes_on.takes)) (new_alarm alarm.of_record) old.recording new.recording follows.is_kept.records so_far.recorded;
       }
 
 -- ---- to its end
