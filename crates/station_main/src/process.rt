@@ -27,8 +27,8 @@ pub struct ProcessEnd<O> {
 }
 
 /// Runs the program on its arguments. Answers the output, and the exit code that its process ends with: 1 if there was no memory
-/// for the arguments, 2 if one isn't UTF-8, and else that of [`obey`](crate::obey). Where the arguments can't be had only why is
-/// printed.
+/// for the arguments, 2 if one isn't UTF-8, and else that of [`obey`](crate::obey), to which all else goes. Where the arguments
+/// can't be had only why is printed.
 pub fn exit_code<
     R: System,
     W: PathSystem,
