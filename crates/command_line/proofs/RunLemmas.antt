@@ -58,36 +58,41 @@ by_id : {P : Type 0} (id : Text) (r : Row) → bytes_eq r.id id ≡ true
     → (r.id ≡ codes "at" → bytes_eq (codes "at") id ≡ true → P)
     → (r.id ≡ codes "stop" → bytes_eq (codes "stop") id ≡ true → P)
     → (r.id ≡ codes "clock" → bytes_eq (codes "clock") id ≡ true → P)
+    → (IsNumber (codes "watch") 86400 r → bytes_eq (codes "watch") id ≡ true → P)
     → Good r → P
-by_id id r e of_every _ _ _ _ _ _ _ _ _ _ (inl h) = of_every h (ap (λ t. bytes_eq t id) (sym h.0) ∙ e)
-by_id id r e _ of_tick _ _ _ _ _ _ _ _ _ (inr (inl h)) = of_tick h (ap (λ t. bytes_eq t id) (sym h.0) ∙ e)
-by_id id r e _ _ of_rounds _ _ _ _ _ _ _ _ (inr (inr (inl h))) = of_rounds h (ap (λ t. bytes_eq t id) (sym h.0) ∙ e)
-by_id id r e _ _ _ of_path _ _ _ _ _ _ _ (inr (inr (inr (inl h)))) = of_path h (ap (λ t. bytes_eq t id) (sym h.0) ∙ e)
-by_id id r e _ _ _ _ of_record _ _ _ _ _ _ (inr (inr (inr (inr (inl h))))) = of_record h (ap (λ t. bytes_eq t id) (sym h) ∙ e)
-by_id id r e _ _ _ _ _ of_format _ _ _ _ _ (inr (inr (inr (inr (inr (inl h)))))) = of_format h (ap (λ t. bytes_eq t id) (sym h) ∙ e)
-by_id id r e _ _ _ _ _ _ of_json _ _ _ _ (inr (inr (inr (inr (inr (inr (inl h))))))) = of_json h (ap (λ t. bytes_eq t id) (sym h) ∙ e)
-by_id id r e _ _ _ _ _ _ _ of_reopen _ _ _ (inr (inr (inr (inr (inr (inr (inr (inl h)))))))) = of_reopen h (ap (λ t. bytes_eq t id) (sym h.0) ∙ e)
-by_id id r e _ _ _ _ _ _ _ _ of_at _ _ (inr (inr (inr (inr (inr (inr (inr (inr (inl h))))))))) = of_at h (ap (λ t. bytes_eq t id) (sym h) ∙ e)
-by_id id r e _ _ _ _ _ _ _ _ _ of_stop _ (inr (inr (inr (inr (inr (inr (inr (inr (inr (inl h)))))))))) = of_stop h (ap (λ t. bytes_eq t id) (sym h) ∙ e)
-by_id id r e _ _ _ _ _ _ _ _ _ _ of_clock (inr (inr (inr (inr (inr (inr (inr (inr (inr (inr h)))))))))) = of_clock h (ap (λ t. bytes_eq t id) (sym h) ∙ e)
+by_id id r e of_every _ _ _ _ _ _ _ _ _ _ _ (inl h) = of_every h (ap (λ t. bytes_eq t id) (sym h.0) ∙ e)
+by_id id r e _ of_tick _ _ _ _ _ _ _ _ _ _ (inr (inl h)) = of_tick h (ap (λ t. bytes_eq t id) (sym h.0) ∙ e)
+by_id id r e _ _ of_rounds _ _ _ _ _ _ _ _ _ (inr (inr (inl h))) = of_rounds h (ap (λ t. bytes_eq t id) (sym h.0) ∙ e)
+by_id id r e _ _ _ of_path _ _ _ _ _ _ _ _ (inr (inr (inr (inl h)))) = of_path h (ap (λ t. bytes_eq t id) (sym h.0) ∙ e)
+by_id id r e _ _ _ _ of_record _ _ _ _ _ _ _ (inr (inr (inr (inr (inl h))))) = of_record h (ap (λ t. bytes_eq t id) (sym h) ∙ e)
+by_id id r e _ _ _ _ _ of_format _ _ _ _ _ _ (inr (inr (inr (inr (inr (inl h)))))) = of_format h (ap (λ t. bytes_eq t id) (sym h) ∙ e)
+by_id id r e _ _ _ _ _ _ of_json _ _ _ _ _ (inr (inr (inr (inr (inr (inr (inl h))))))) = of_json h (ap (λ t. bytes_eq t id) (sym h) ∙ e)
+by_id id r e _ _ _ _ _ _ _ of_reopen _ _ _ _ (inr (inr (inr (inr (inr (inr (inr (inl h)))))))) = of_reopen h (ap (λ t. bytes_eq t id) (sym h.0) ∙ e)
+by_id id r e _ _ _ _ _ _ _ _ of_at _ _ _ (inr (inr (inr (inr (inr (inr (inr (inr (inl h))))))))) = of_at h (ap (λ t. bytes_eq t id) (sym h) ∙ e)
+by_id id r e _ _ _ _ _ _ _ _ _ of_stop _ _ (inr (inr (inr (inr (inr (inr (inr (inr (inr (inl h)))))))))) = of_stop h (ap (λ t. bytes_eq t id) (sym h) ∙ e)
+by_id id r e _ _ _ _ _ _ _ _ _ _ of_clock _ (inr (inr (inr (inr (inr (inr (inr (inr (inr (inr (inl h))))))))))) = of_clock h (ap (λ t. bytes_eq t id) (sym h) ∙ e)
+by_id id r e _ _ _ _ _ _ _ _ _ _ _ of_watch (inr (inr (inr (inr (inr (inr (inr (inr (inr (inr (inr h))))))))))) = of_watch h (ap (λ t. bytes_eq t id) (sym h.0) ∙ e)
 
 other : {X P : Type 0} → X → false ≡ true → P
 other h e = cc
 
 every_row : (r : Row) → Good r → bytes_eq r.id (codes "every") ≡ true → IsNumber (codes "every") 3600000 r
-every_row r good e = by_id (codes "every") r e (λ h e. h) other other other other other other other other other other good
+every_row r good e = by_id (codes "every") r e (λ h e. h) other other other other other other other other other other other good
 
 tick_row : (r : Row) → Good r → bytes_eq r.id (codes "tick") ≡ true → IsNumber (codes "tick") 60000 r
-tick_row r good e = by_id (codes "tick") r e other (λ h e. h) other other other other other other other other other good
+tick_row r good e = by_id (codes "tick") r e other (λ h e. h) other other other other other other other other other other good
+
+watch_row : (r : Row) → Good r → bytes_eq r.id (codes "watch") ≡ true → IsNumber (codes "watch") 86400 r
+watch_row r good e = by_id (codes "watch") r e other other other other other other other other other other other (λ h e. h) good
 
 rounds_row : (r : Row) → Good r → bytes_eq r.id (codes "rounds") ≡ true → IsNumber (codes "rounds") 1000 r
-rounds_row r good e = by_id (codes "rounds") r e other other (λ h e. h) other other other other other other other other good
+rounds_row r good e = by_id (codes "rounds") r e other other (λ h e. h) other other other other other other other other other good
 
 reopen_row : (r : Row) → Good r → bytes_eq r.id (codes "reopen") ≡ true → IsFlag (codes "reopen") r
-reopen_row r good e = by_id (codes "reopen") r e other other other other other other other (λ h e. h) other other other good
+reopen_row r good e = by_id (codes "reopen") r e other other other other other other other (λ h e. h) other other other other good
 
 path_values : (r : Row) → Good r → bytes_eq r.id (codes "path") ≡ true → (1 ≤ length r.values) × (length r.values ≤ 8)
-path_values r good e = by_id (codes "path") r e other other other (λ h e. (h.1, h.2)) other other other other other other other good
+path_values r good e = by_id (codes "path") r e other other other (λ h e. (h.1, h.2)) other other other other other other other other good
 
 abbrev GivesNumber : Text → ℕ → List Row → Type 0
 GivesNumber id most rows = (v : Text) × (one_of id rows ≡ Some v) × IsNumberUpTo most v
@@ -134,6 +139,7 @@ given_values rows h =
       every = milliseconds.1;
       every_fits = milliseconds.2;
       tick_fits = number_if_met (codes "tick") 60000 tick_row (find (λ r. bytes_eq r.id (codes "tick")) rows) rows refl h.0;
+      watch_fits = number_if_met (codes "watch") 86400 watch_row (find (λ r. bytes_eq r.id (codes "watch")) rows) rows refl h.0;
       rounds_fit = number_if_met (codes "rounds") 1000 rounds_row (find (λ r. bytes_eq r.id (codes "rounds")) rows) rows refl h.0;
       reopen_is = flag_given (codes "reopen") met_reopen.0 rows met_reopen.1 (reopen_row met_reopen.0 good_reopen.0 good_reopen.1);
       paths = met_path.0.values;

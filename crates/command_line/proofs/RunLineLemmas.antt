@@ -13,7 +13,7 @@ use Rattle.clap.specs.Words.{subcommand_of}
 use Rattle.clap.specs.declared.builder.value_parser.Reading.TheVariants.{AsWritten}
 use Rattle.clap.specs.declared.parser.matches.ValueSource.TheVariants.{DefaultValue}
 use Rattle.clap.proofs.OnLiterals.{clap_on_literals}
-use Rattle.command_line.specs.Command.{WordNames, at_place, clock, format, json_folder, path, record_file, reopen, replay, rounds, run, station, stop_pipe, tick}
+use Rattle.command_line.specs.Command.{WordNames, at_place, clock, format, json_folder, path, record_file, reopen, replay, rounds, run, station, stop_pipe, tick, watch}
 use Rattle.command_line.proofs.WalkedLemmas.{Keeps, both_empty, not_none, settles, walks}
 use Rattle.command_line.proofs.FoundLemmas.{Among, among, none_some, some_same}
 use Rattle.command_line.proofs.RunRowLemmas.{Fine, absent, fine_snoc, row_for}
@@ -55,6 +55,7 @@ finished_is names rows =
     let after = with_default rows (option reopen) in
     let of_every = either_way (has_row (codes "every") rows) rows in
     let of_tick = either_way (has_row (codes "tick") rows) rows in
+    let of_watch = either_way (has_row (codes "watch") rows) rows in
     let of_clock = either_way (has_row (codes "clock") rows) rows in
     let of_format = either_way (has_row (codes "format") rows) rows in
     let of_json = either_way (has_row (codes "json") rows) rows in
@@ -64,8 +65,9 @@ finished_is names rows =
     let of_at = either_way (has_row (codes "at") after) after in
     let of_path = either_way (has_row (codes "path") after) after in
     let of_help = either_way (has_row (codes "help") after) after in
-    ap (λ t. fold with_default t ((option tick) ∷ option (clock names) ∷ option (format names) ∷ (option json_folder) ∷ (option rounds) ∷ (option reopen) ∷ (option stop_pipe) ∷ (option record_file) ∷ (option at_place) ∷ (option path) ∷ help_flag ∷ [])) of_every
-    ∙ ap (λ t. fold with_default t (option (clock names) ∷ option (format names) ∷ (option json_folder) ∷ (option rounds) ∷ (option reopen) ∷ (option stop_pipe) ∷ (option record_file) ∷ (option at_place) ∷ (option path) ∷ help_flag ∷ [])) of_tick
+    ap (λ t. fold with_default t ((option tick) ∷ (option watch) ∷ option (clock names) ∷ option (format names) ∷ (option json_folder) ∷ (option rounds) ∷ (option reopen) ∷ (option stop_pipe) ∷ (option record_file) ∷ (option at_place) ∷ (option path) ∷ help_flag ∷ [])) of_every
+    ∙ ap (λ t. fold with_default t ((option watch) ∷ option (clock names) ∷ option (format names) ∷ (option json_folder) ∷ (option rounds) ∷ (option reopen) ∷ (option stop_pipe) ∷ (option record_file) ∷ (option at_place) ∷ (option path) ∷ help_flag ∷ [])) of_tick
+    ∙ ap (λ t. fold with_default t (option (clock names) ∷ option (format names) ∷ (option json_folder) ∷ (option rounds) ∷ (option reopen) ∷ (option stop_pipe) ∷ (option record_file) ∷ (option at_place) ∷ (option path) ∷ help_flag ∷ [])) of_watch
     ∙ ap (λ t. fold with_default t (option (format names) ∷ (option json_folder) ∷ (option rounds) ∷ (option reopen) ∷ (option stop_pipe) ∷ (option record_file) ∷ (option at_place) ∷ (option path) ∷ help_flag ∷ [])) of_clock
     ∙ ap (λ t. fold with_default t ((option json_folder) ∷ (option rounds) ∷ (option reopen) ∷ (option stop_pipe) ∷ (option record_file) ∷ (option at_place) ∷ (option path) ∷ help_flag ∷ [])) of_format
     ∙ ap (λ t. fold with_default t ((option rounds) ∷ (option reopen) ∷ (option stop_pipe) ∷ (option record_file) ∷ (option at_place) ∷ (option path) ∷ help_flag ∷ [])) of_json

@@ -18,14 +18,14 @@ IsNumber id most r = (r.id ≡ id) × (r.reading ≡ WithoutMinus) × ((v : Text
 abbrev pub IsFlag : Text → Row → Type 0
 IsFlag id r = (r.id ≡ id) × (r.reading ≡ AsWritten) × ((r.values ≡ codes "true" ∷ []) ⊎ (r.values ≡ codes "false" ∷ []))
 
--- the row of `--every`, `--tick`, `--rounds`, PATH, `--record`, `--format`, `--json`, `--reopen`, `--at`, `--stop` or `--clock`
--- after an accepted use or a default
+-- the row of `--every`, `--tick`, `--rounds`, PATH, `--record`, `--format`, `--json`, `--reopen`, `--at`, `--stop`, `--clock` or
+-- `--watch` after an accepted use or a default
 abbrev pub Good : Row → Type 0
 Good r = IsNumber (codes "every") 3600000 r
     ⊎ (IsNumber (codes "tick") 60000 r
     ⊎ (IsNumber (codes "rounds") 1000 r
     ⊎ (((r.id ≡ codes "path") × (1 ≤ length r.values) × (length r.values ≤ 8))
-    ⊎ ((r.id ≡ codes "record") ⊎ ((r.id ≡ codes "format") ⊎ ((r.id ≡ codes "json") ⊎ (IsFlag (codes "reopen") r ⊎ ((r.id ≡ codes "at") ⊎ ((r.id ≡ codes "stop") ⊎ (r.id ≡ codes "clock"))))))))))
+    ⊎ ((r.id ≡ codes "record") ⊎ ((r.id ≡ codes "format") ⊎ ((r.id ≡ codes "json") ⊎ (IsFlag (codes "reopen") r ⊎ ((r.id ≡ codes "at") ⊎ ((r.id ≡ codes "stop") ⊎ ((r.id ≡ codes "clock") ⊎ IsNumber (codes "watch") 86400 r))))))))))
 
 abbrev pub Fine : List Row → Type 0
 Fine [] = ⊤

@@ -11,7 +11,7 @@ use Rattle.clap.specs.declared.builder.action.ArgAction.TheVariants.{Set}
 use Rattle.clap.specs.declared.builder.value_parser.Reading.TheVariants.{WithoutMinus, AsWritten}
 use Rattle.clap.specs.declared.builder.value_parser.ValueParser.TheVariants.{Signed}
 use Rattle.clap.specs.declared.parser.matches.ValueSource.TheVariants.{CommandLine}
-use Rattle.command_line.specs.Command.{WordNames, at_place, clock, every, format, json_folder, path, record_file, reopen, rounds, stop_pipe, tick}
+use Rattle.command_line.specs.Command.{WordNames, at_place, clock, every, format, json_folder, path, record_file, reopen, rounds, stop_pipe, tick, watch}
 use Rattle.command_line.proofs.WalkedLemmas.{both_empty, not_none}
 use Rattle.command_line.proofs.FoundLemmas.{Among}
 use Rattle.command_line.proofs.RunRowLemmas.{Fine, Good, IsNumber, fine_snoc, row_for, set_adds}
@@ -65,6 +65,10 @@ keeps_every (v ∷ vs) rows e f = keeps_number (codes "every") 3600000 (λ r num
 keeps_tick : (values : List Text) (rows : List Row) → use_fault false (option tick) values rows ≡ [] → Fine rows → Fine (used (option tick) values rows)
 keeps_tick [] rows e f = absurd (not_none _ _ e)
 keeps_tick (v ∷ vs) rows e f = keeps_number (codes "tick") 60000 (λ r number. inr (inl number)) v vs rows e f
+
+keeps_watch : (values : List Text) (rows : List Row) → use_fault false (option watch) values rows ≡ [] → Fine rows → Fine (used (option watch) values rows)
+keeps_watch [] rows e f = absurd (not_none _ _ e)
+keeps_watch (v ∷ vs) rows e f = keeps_number (codes "watch") 86400 (λ r number. inr (inr (inr (inr (inr (inr (inr (inr (inr (inr (inr number))))))))))) v vs rows e f
 
 keeps_rounds : (values : List Text) (rows : List Row) → use_fault false (option rounds) values rows ≡ [] → Fine rows → Fine (used (option rounds) values rows)
 keeps_rounds [] rows e f = absurd (not_none _ _ e)
@@ -151,25 +155,26 @@ keeps_clock names [] rows e f = absurd (not_none _ _ e)
 keeps_clock names (v ∷ vs) rows e f =
     let counted = both_empty (range_kinds 1 1 (length (v ∷ vs))) (set_fault false (option (clock names)) (v ∷ vs) rows) e in
     let parts = both_empty (repeat_fault false (codes "clock") rows) (values_fault (option (clock names)) (v ∷ vs)) counted.1 in
-    adds (codes "clock") (v ∷ vs) rows parts.0 (inr (inr (inr (inr (inr (inr (inr (inr (inr (inr refl)))))))))) f
+    adds (codes "clock") (v ∷ vs) rows parts.0 (inr (inr (inr (inr (inr (inr (inr (inr (inr (inr (inl refl))))))))))) f
 
 keeps_help : (values : List Text) (rows : List Row) → use_fault false help_flag values rows ≡ [] → Fine rows → Fine (used help_flag values rows)
 keeps_help values rows e f = absurd (not_none _ _ (both_empty (range_kinds 0 0 (length values)) (kind.DisplayHelp ∷ []) e).1)
 
 abbrev pub run_rules : WordNames → List Rule
-run_rules names = (option every) ∷ (option tick) ∷ option (clock names) ∷ option (format names) ∷ (option json_folder) ∷ (option rounds) ∷ (option reopen) ∷ (option stop_pipe) ∷ (option record_file) ∷ (option at_place) ∷ (option path) ∷ help_flag ∷ []
+run_rules names = (option every) ∷ (option tick) ∷ (option watch) ∷ option (clock names) ∷ option (format names) ∷ (option json_folder) ∷ (option rounds) ∷ (option reopen) ∷ (option stop_pipe) ∷ (option record_file) ∷ (option at_place) ∷ (option path) ∷ help_flag ∷ []
 
 pub keeps_among : (names : WordNames) (a : Rule) (values : List Text) (rows : List Row) → Among a (run_rules names) → use_fault false a values rows ≡ [] → Fine rows → Fine (used a values rows)
 keeps_among names a values rows (inl same) e f = subst (λ b. Fine (used b values rows)) same (keeps_every values rows (subst (λ b. use_fault false b values rows ≡ []) (sym same) e) f)
 keeps_among names a values rows (inr (inl same)) e f = subst (λ b. Fine (used b values rows)) same (keeps_tick values rows (subst (λ b. use_fault false b values rows ≡ []) (sym same) e) f)
-keeps_among names a values rows (inr (inr (inl same))) e f = subst (λ b. Fine (used b values rows)) same (keeps_clock names values rows (subst (λ b. use_fault false b values rows ≡ []) (sym same) e) f)
-keeps_among names a values rows (inr (inr (inr (inl same)))) e f = subst (λ b. Fine (used b values rows)) same (keeps_format names values rows (subst (λ b. use_fault false b values rows ≡ []) (sym same) e) f)
-keeps_among names a values rows (inr (inr (inr (inr (inl same))))) e f = subst (λ b. Fine (used b values rows)) same (keeps_json values rows (subst (λ b. use_fault false b values rows ≡ []) (sym same) e) f)
-keeps_among names a values rows (inr (inr (inr (inr (inr (inl same)))))) e f = subst (λ b. Fine (used b values rows)) same (keeps_rounds values rows (subst (λ b. use_fault false b values rows ≡ []) (sym same) e) f)
-keeps_among names a values rows (inr (inr (inr (inr (inr (inr (inl same))))))) e f = subst (λ b. Fine (used b values rows)) same (keeps_reopen values rows (subst (λ b. use_fault false b values rows ≡ []) (sym same) e) f)
-keeps_among names a values rows (inr (inr (inr (inr (inr (inr (inr (inl same)))))))) e f = subst (λ b. Fine (used b values rows)) same (keeps_stop values rows (subst (λ b. use_fault false b values rows ≡ []) (sym same) e) f)
-keeps_among names a values rows (inr (inr (inr (inr (inr (inr (inr (inr (inl same))))))))) e f = subst (λ b. Fine (used b values rows)) same (keeps_record values rows (subst (λ b. use_fault false b values rows ≡ []) (sym same) e) f)
-keeps_among names a values rows (inr (inr (inr (inr (inr (inr (inr (inr (inr (inl same)))))))))) e f = subst (λ b. Fine (used b values rows)) same (keeps_at values rows (subst (λ b. use_fault false b values rows ≡ []) (sym same) e) f)
-keeps_among names a values rows (inr (inr (inr (inr (inr (inr (inr (inr (inr (inr (inl same))))))))))) e f = subst (λ b. Fine (used b values rows)) same (keeps_path values rows (subst (λ b. use_fault false b values rows ≡ []) (sym same) e) f)
-keeps_among names a values rows (inr (inr (inr (inr (inr (inr (inr (inr (inr (inr (inr (inl same)))))))))))) e f = subst (λ b. Fine (used b values rows)) same (keeps_help values rows (subst (λ b. use_fault false b values rows ≡ []) (sym same) e) f)
-keeps_among names a values rows (inr (inr (inr (inr (inr (inr (inr (inr (inr (inr (inr (inr none)))))))))))) e f = absurd none
+keeps_among names a values rows (inr (inr (inl same))) e f = subst (λ b. Fine (used b values rows)) same (keeps_watch values rows (subst (λ b. use_fault false b values rows ≡ []) (sym same) e) f)
+keeps_among names a values rows (inr (inr (inr (inl same)))) e f = subst (λ b. Fine (used b values rows)) same (keeps_clock names values rows (subst (λ b. use_fault false b values rows ≡ []) (sym same) e) f)
+keeps_among names a values rows (inr (inr (inr (inr (inl same))))) e f = subst (λ b. Fine (used b values rows)) same (keeps_format names values rows (subst (λ b. use_fault false b values rows ≡ []) (sym same) e) f)
+keeps_among names a values rows (inr (inr (inr (inr (inr (inl same)))))) e f = subst (λ b. Fine (used b values rows)) same (keeps_json values rows (subst (λ b. use_fault false b values rows ≡ []) (sym same) e) f)
+keeps_among names a values rows (inr (inr (inr (inr (inr (inr (inl same))))))) e f = subst (λ b. Fine (used b values rows)) same (keeps_rounds values rows (subst (λ b. use_fault false b values rows ≡ []) (sym same) e) f)
+keeps_among names a values rows (inr (inr (inr (inr (inr (inr (inr (inl same)))))))) e f = subst (λ b. Fine (used b values rows)) same (keeps_reopen values rows (subst (λ b. use_fault false b values rows ≡ []) (sym same) e) f)
+keeps_among names a values rows (inr (inr (inr (inr (inr (inr (inr (inr (inl same))))))))) e f = subst (λ b. Fine (used b values rows)) same (keeps_stop values rows (subst (λ b. use_fault false b values rows ≡ []) (sym same) e) f)
+keeps_among names a values rows (inr (inr (inr (inr (inr (inr (inr (inr (inr (inl same)))))))))) e f = subst (λ b. Fine (used b values rows)) same (keeps_record values rows (subst (λ b. use_fault false b values rows ≡ []) (sym same) e) f)
+keeps_among names a values rows (inr (inr (inr (inr (inr (inr (inr (inr (inr (inr (inl same))))))))))) e f = subst (λ b. Fine (used b values rows)) same (keeps_at values rows (subst (λ b. use_fault false b values rows ≡ []) (sym same) e) f)
+keeps_among names a values rows (inr (inr (inr (inr (inr (inr (inr (inr (inr (inr (inr (inl same)))))))))))) e f = subst (λ b. Fine (used b values rows)) same (keeps_path values rows (subst (λ b. use_fault false b values rows ≡ []) (sym same) e) f)
+keeps_among names a values rows (inr (inr (inr (inr (inr (inr (inr (inr (inr (inr (inr (inr (inl same))))))))))))) e f = subst (λ b. Fine (used b values rows)) same (keeps_help values rows (subst (λ b. use_fault false b values rows ≡ []) (sym same) e) f)
+keeps_among names a values rows (inr (inr (inr (inr (inr (inr (inr (inr (inr (inr (inr (inr (inr none))))))))))))) e f = absurd none

@@ -44,6 +44,14 @@ tick = record (new_rule (codes "tick")) {
   parser = Some (Signed (pos 1) (pos 60000));
 }
 
+-- `--watch S`: a whole number of seconds from 1 to 86,400, and not required
+abbrev pub watch : Rule
+watch = record (new_rule (codes "watch")) {
+  long = Some (codes "watch");
+  value_names = 1;
+  parser = Some (Signed (pos 1) (pos 86400));
+}
+
 -- `--rounds R`: a whole number from 1 to 1,000, and not required
 abbrev pub rounds : Rule
 rounds = record (new_rule (codes "rounds")) {
@@ -129,7 +137,7 @@ replay names = with_rule (with_rule (new_app (codes "replay")) (format names)) a
 
 -- `run` with its times, with its clock and the formats of its tables, with how it goes on and ends, with all its options, and then with PATH too
 abbrev pub run_times : App
-run_times = with_rule (with_rule (new_app (codes "run")) every) tick
+run_times = with_rule (with_rule (with_rule (new_app (codes "run")) every) tick) watch
 
 abbrev pub run_formats : WordNames → App
 run_formats names = with_rule (with_rule (with_rule run_times (clock names)) (format names)) json_folder
@@ -231,13 +239,14 @@ IsPlaceFault rows words_fault.NoMemory = ⊤
 IsPlaceFault rows (words_fault.NotAPlace text) = misplaced_text (first_of (codes "at") rows) ≡ Some (string_bytes text)
 IsPlaceFault rows _ = ⊥
 
--- the values of the options and of PATH in a command line of `run`: the paths in their order, a tick, a pipe and a file only if
--- they are given, one round if no rounds are given, and never both `--reopen` and `--rounds`
+-- the values of the options and of PATH in a command line of `run`: the paths in their order, a tick, a watch, a pipe and a file
+-- only if they are given, one round if no rounds are given, and never both `--reopen` and `--rounds`
 pub record GivesRun (rows : List Row) (arguments : RunArguments) : Type 0 where
   pub text : Text
   pub every : one_of (codes "every") rows ≡ Some text
   pub every_is : arguments.pace.every ≡ number_in text
   pub tick_is : arguments.pace.tick ≡ number_if_given (one_of (codes "tick") rows)
+  pub watch_is : arguments.watch ≡ number_if_given (one_of (codes "watch") rows)
   pub rounds_are : arguments.rounds ≡ unwrap_or (number_if_given (one_of (codes "rounds") rows)) 1
   pub reopens_is : arguments.reopens ≡ is_set (one_of (codes "reopen") rows)
   pub not_both : gives_both rows ≡ false
@@ -261,6 +270,7 @@ pub record IsGiven (rows : List Row) : Type 0 where
   pub every : one_of (codes "every") rows ≡ Some text
   pub every_fits : IsNumberUpTo 3600000 text
   pub tick_fits : IfSome (one_of (codes "tick") rows) (IsNumberUpTo 60000)
+  pub watch_fits : IfSome (one_of (codes "watch") rows) (IsNumberUpTo 86400)
   pub rounds_fit : IfSome (one_of (codes "rounds") rows) (IsNumberUpTo 1000)
   pub reopen_is : IsFlagText (one_of (codes "reopen") rows)
   pub paths : List Text
@@ -296,10 +306,11 @@ pub record IsPace (pace : Pace) : Type 0 where
   pub every_most : pace.every ≤ 3600000
   pub tick_fits : IfSome pace.tick (λ tick. (1 ≤ tick) × (tick ≤ 60000))
 
--- such a pace, 1 to 1,000 rounds, and 1 to 8 paths
+-- such a pace, 1 to 1,000 rounds, 1 to 8 paths, and a watch, if any, of 1 to 86,400 seconds
 abbrev pub AreInRange : RunArguments → Type 0
 AreInRange arguments = IsPace arguments.pace × (1 ≤ arguments.rounds) × (arguments.rounds ≤ 1000)
     × (1 ≤ length arguments.paths.items) × (length arguments.paths.items ≤ 8)
+    × IfSome arguments.watch (λ watch. (1 ≤ watch) × (watch ≤ 86400))
 
 abbrev pub IsInRange : Job → Type 0
 IsInRange (Replay tables site) = ⊤

@@ -1,7 +1,8 @@
-//! The commands that `clap` reads: their options, and what help says of them.
-ghost use Rattle.command_line.specs.Command.{IsArg, IsMade, at_place, clock, every, format, json_folder, path, record_file, reopen, replay, rounds, run, run_ends, run_formats, run_options, run_times, station, stop_pipe, tick};
+//! The commands that `clap` reads: their options, and what help says of each.
+ghost use Rattle.command_line.specs.Command.{IsArg, IsMade, at_place, clock, every, format, json_folder, path, record_file, reopen, replay, rounds, run, run_ends, run_formats, run_options, run_times, station, stop_pipe, tick, watch};
 ghost use Rattle.std.specs.Prelude.{◌≡◌, IfOk};
 
+use crate::help::{AFTER_HELP, AFTER_REPLAY_HELP, AFTER_RUN_HELP};
 use clap::builder::ValueParser;
 use clap::{Arg, ArgAction, Command, value_parser};
 use std::alloc::{AllocError, Global};
@@ -19,75 +20,6 @@ pub struct WordNames<'a> {
     /// Those of `--clock`.
     pub clocks: &'a [&'a str],
 }
-
-const AFTER_HELP: &str = concat!(
-    "Examples:\n",
-    "  groundstation replay < examples/klm1023.avr\n",
-    "  groundstation run --every 1000 <(nc -w 130 127.0.0.1 30002 < /dev/null)\n",
-    "\n",
-    "'groundstation help run' says more. The formats of lines and tables are in\n",
-    "docs/FORMATS.md; columns, counts and faults in docs/USING.md.",
-);
-
-const AFTER_REPLAY_HELP: &str = concat!(
-    "Lines of the input, one of each kind:\n",
-    "  *8D4840D6202CC371C32CE0576098;              frame, 14 or 28 hexadecimal digits\n",
-    "  @0123456789AB8D4840D6202CC371C32CE0576098;  frame behind a receiver's counter\n",
-    "  *0000;                                      heartbeat, passed over\n",
-    "  +61000                                      sets the clock, in milliseconds\n",
-    "  ?                                           writes the table\n",
-    "\n",
-    "Examples:\n",
-    "  groundstation replay < examples/traffic.avr\n",
-    "  (cat examples/klm1023.avr; echo +60000; echo '?') | groundstation replay\n",
-    "\n",
-    "Without + lines nothing ages. At the end of the input a line of counts goes to\n",
-    "standard error. For live receivers there is 'groundstation run'.\n",
-    "At a + line, once there are 12582912 accepted frames and + lines, those that\n",
-    "are more than 70 s old are forgotten. There is room for 16777216. When it is\n",
-    "full, all that comes is refused, and 'now' stands still.\n",
-    "With --at aircraft on the ground have positions too. LAT and LON are the place\n",
-    "of the receivers in degrees, right to some 100 km. A latitude of the south needs\n",
-    "the = sign: --at=-33.9,151.2\n",
-    "Formats: docs/FORMATS.md.",
-);
-
-const AFTER_RUN_HELP: &str = concat!(
-    "Lines of a path, one of each kind:\n",
-    "  *8D4840D6202CC371C32CE0576098;              frame, 14 or 28 hexadecimal digits\n",
-    "  @0123456789AB8D4840D6202CC371C32CE0576098;  frame behind a receiver's counter\n",
-    "  *0000;                                      heartbeat, passed over\n",
-    "\n",
-    "Examples, of a receiver that serves such lines, as dump1090 and readsb do:\n",
-    "  groundstation run --every 1000 <(nc -w 130 127.0.0.1 30002 < /dev/null)\n",
-    "  nc -w 130 127.0.0.1 30002 < /dev/null |\n",
-    "    groundstation run --every 1000 /dev/stdin\n",
-    "  groundstation run --every 1000 --record day.avr PATH\n",
-    "\n",
-    "The clock is the time since the start, and moves where a table is due: all that\n",
-    "is heard between two tables is dated to the earlier one. An MS of 1000 or so is\n",
-    "best: above 10000 positions may be wrong, above 60000 only the last table shows\n",
-    "aircraft. With --tick the clock also moves between tables: MS may be an hour.\n",
-    "What is heard is then recorded, and written for displays, once a second.\n",
-    "With --clock unix the clock is the time since 1970: a record has its dates.\n",
-    "When every path has ended, the last table is written, and a line of counts for\n",
-    "each path goes to standard error.\n",
-    "--json writes each table to DIR/aircraft.json too, which displays read.\n",
-    "--record writes all that was accepted to FILE, with a ? for each table:\n",
-    "'groundstation replay < FILE' prints the tables again, with the same --at.\n",
-    "With one of these a run goes on for it where standard output fails.\n",
-    "With --at aircraft on the ground have positions too. LAT and LON are the place\n",
-    "of the receivers in degrees, right to some 100 km. A latitude of the south needs\n",
-    "the = sign: --at=-33.9,151.2\n",
-    "With --reopen a path that has ended, or whose read failed, is opened again one\n",
-    "second later, for as long as the program runs. It can't go with --rounds.\n",
-    "With --stop the run ends as if all paths had ended, once somebody has written\n",
-    "to PIPE, or opened and closed it: 'mkfifo PIPE' before, and 'echo > PIPE'.\n",
-    "Once there are 12582912 accepted frames and ticks, those that are more than\n",
-    "70 s old are forgotten. There is room for 16777216. When it is full, all that\n",
-    "comes is refused, and 'now' stands still.\n",
-    "Formats: docs/FORMATS.md. Receivers that drop: docs/USING.md.",
-);
 
 /// The whole command line: one of the two jobs, help, or the version. `names` are the words of its options. Refused if out of
 /// memory.
@@ -164,11 +96,13 @@ fn run_with_times<'a>(alloc: Global) -> Result<Command<'a>, AllocError>
 {
     let every = every_arg(alloc);
     let tick = tick_arg(alloc);
+    let watch = watch_arg(alloc);
     let bare = Command::new(alloc, "run")
         .about("Reads 1 to 8 paths side by side, and writes one table every MS")
         .after_help(AFTER_RUN_HELP);
     let with_every = bare.arg(every)?;
-    with_every.arg(tick)
+    let with_tick = with_every.arg(tick)?;
+    with_tick.arg(watch)
 }
 
 // `--every MS`
@@ -194,6 +128,18 @@ fn tick_arg<'a>(alloc: Global) -> Arg<'a>
         .value_name("MS")
         .help("Milliseconds between ticks without a table, 1 to 60000")
         .value_parser(milliseconds)
+}
+
+// `--watch S`
+fn watch_arg<'a>(alloc: Global) -> Arg<'a>
+    ensures { IsArg watch result }
+{
+    let seconds = value_parser!(u32).range(1..=86_400);
+    Arg::new(alloc, "watch")
+        .long("watch")
+        .value_name("S")
+        .help("Report paths without frames for S seconds, 1 to 86400")
+        .value_parser(seconds)
 }
 
 // `--format FORMAT`

@@ -3,6 +3,7 @@
 
 mod clock_origin;
 mod commands;
+mod help;
 mod pace;
 mod site;
 mod table_format;

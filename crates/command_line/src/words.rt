@@ -34,6 +34,8 @@ pub struct RunArguments {
     pub pace: Pace,
     /// Where its clock begins.
     pub clock: ClockOrigin,
+    /// After how many seconds without a frame a path is reported to be silent, 1 to 86,400, where paths are watched.
+    pub watch: Option<u32>,
     /// How often the paths are read, 1 to 1,000.
     pub rounds: u16,
     /// Whether a path that has ended, or whose read failed, is opened again. Never where rounds are asked for.
@@ -187,6 +189,7 @@ fn read_run(
         unreachable!()
     };
     let tick = given.get_one::<u32>("tick");
+    let watch = given.get_one::<u32>("watch");
     let rounds = given.get_one::<u16>("rounds");
     let reopens = given.get_flag("reopen");
     let Some(texts) = given.get_strs("path") else {
@@ -201,6 +204,7 @@ fn read_run(
     Ok(RunArguments {
         pace: Pace { every, tick },
         clock,
+        watch,
         rounds: rounds.unwrap_or(1),
         reopens,
         stop,

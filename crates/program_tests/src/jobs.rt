@@ -20,6 +20,7 @@ mod limits;
 mod outputs;
 mod places;
 mod records;
+mod refused_words;
 mod replays;
 mod replies;
 mod rounds;

@@ -33,6 +33,7 @@ const RUN_HELP: &str = concat!(
     "Options:\n",
     "      --every <MS>       Milliseconds from one table to the next, 1 to 3600000\n",
     "      --tick <MS>        Milliseconds between ticks without a table, 1 to 60000\n",
+    "      --watch <S>        Report paths without frames for S seconds, 1 to 86400\n",
     "      --clock <CLOCK>    Beginning of the clock [possible values: start, unix]\n",
     "      --format <FORMAT>  How tables are written [possible values: text, json]\n",
     "      --json <DIR>       Folder for each table as aircraft.json, for displays\n",

@@ -27,6 +27,8 @@ returns-clause-options c =
     let read = reads_number 32 (λ t r. ParsesUnsigned 32 10 t r × ExplainsUnsignedError 10 t r × HasUnsignedDigitsIfOk t r) (one_text found (codes "every")) c.in-Some.every (λ t r g. g.0) c.in-Some.ensures.none c.in-Some.ensures.value in
     let tick_is = reads_if_given 32 60000 (λ t r. ParsesUnsigned 32 10 t r × ExplainsUnsignedError 10 t r × HasUnsignedDigitsIfOk t r) (one_text found (codes "tick")) c.get_one-tick.result (omega arith)
     (subst (λ o. IfSome o (IsNumberUpTo 60000)) (sym (one_text-rows found (codes "tick"))) given.tick_fits) (λ t r g. g.0) c.get_one-tick.ensures.none c.get_one-tick.ensures.value in
+    let watch_is = reads_if_given 32 86400 (λ t r. ParsesUnsigned 32 10 t r × ExplainsUnsignedError 10 t r × HasUnsignedDigitsIfOk t r) (one_text found (codes "watch")) c.get_one-watch.result (omega arith)
+    (subst (λ o. IfSome o (IsNumberUpTo 86400)) (sym (one_text-rows found (codes "watch"))) given.watch_fits) (λ t r g. g.0) c.get_one-watch.ensures.none c.get_one-watch.ensures.value in
     let rounds_are = reads_if_given 16 1000 (λ t r. ParsesUnsigned 16 10 t r × ExplainsUnsignedError 10 t r × HasUnsignedDigitsIfOk t r) (one_text found (codes "rounds")) c.get_one-rounds.result (omega arith)
     (subst (λ o. IfSome o (IsNumberUpTo 1000)) (sym (one_text-rows found (codes "rounds"))) given.rounds_fit) (λ t r g. g.0) c.get_one-rounds.ensures.none c.get_one-rounds.ensures.value in
     let flag_text = subst IsFlagText (sym (one_text-rows found (codes "reopen"))) given.reopen_is in
@@ -36,6 +38,7 @@ returns-clause-options c =
       every = sym (one_text-rows found (codes "every")) ∙ read.1;
       every_is = read.2;
       tick_is = tick_is ∙ ap number_if_given (one_text-rows found (codes "tick"));
+      watch_is = watch_is ∙ ap number_if_given (one_text-rows found (codes "watch"));
       rounds_are = c.unwrap_or.ensures ∙ ap (λ rounds. unwrap_or rounds 1) (rounds_are ∙ ap number_if_given (one_text-rows found (codes "rounds")));
       reopens_is = reopens_is ∙ ap is_set (one_text-rows found (codes "reopen"));
       not_both = c.requires.not_both;
@@ -57,6 +60,8 @@ returns-clause-range c =
     let every_is : c.in-Some.every ≡ number_in given.text = read.2 ∙ ap number_in text_is in
     let tick_is = reads_if_given 32 60000 (λ t r. ParsesUnsigned 32 10 t r × ExplainsUnsignedError 10 t r × HasUnsignedDigitsIfOk t r) (one_text found (codes "tick")) c.get_one-tick.result (omega arith)
     (subst (λ o. IfSome o (IsNumberUpTo 60000)) (sym (one_text-rows found (codes "tick"))) given.tick_fits) (λ t r g. g.0) c.get_one-tick.ensures.none c.get_one-tick.ensures.value in
+    let watch_is = reads_if_given 32 86400 (λ t r. ParsesUnsigned 32 10 t r × ExplainsUnsignedError 10 t r × HasUnsignedDigitsIfOk t r) (one_text found (codes "watch")) c.get_one-watch.result (omega arith)
+    (subst (λ o. IfSome o (IsNumberUpTo 86400)) (sym (one_text-rows found (codes "watch"))) given.watch_fits) (λ t r g. g.0) c.get_one-watch.ensures.none c.get_one-watch.ensures.value in
     let rounds_fit = subst (λ o. IfSome o (IsNumberUpTo 1000)) (sym (one_text-rows found (codes "rounds"))) given.rounds_fit in
     let rounds_are = reads_if_given 16 1000 (λ t r. ParsesUnsigned 16 10 t r × ExplainsUnsignedError 10 t r × HasUnsignedDigitsIfOk t r) (one_text found (codes "rounds")) c.get_one-rounds.result (omega arith)
     rounds_fit (λ t r g. g.0) c.get_one-rounds.ensures.none c.get_one-rounds.ensures.value in
@@ -66,5 +71,6 @@ returns-clause-range c =
     let count : length c.in_ok-paths.paths.items ≡ length given.paths =
     same_length _ _ c.in_ok-paths.paths.items texts c.in_ok-paths.ensures ∙ sym (length-map texts _) ∙ ap length texts_are in
     let ticks_fit = subst (λ o. IfSome o (λ n. (1 ≤ n) × (n ≤ 60000))) (sym (tick_is ∙ ap number_if_given (one_text-rows found (codes "tick")))) (fits_if_given 60000 _ given.tick_fits) in
+    let watch_fits = subst (λ o. IfSome o (λ n. (1 ≤ n) × (n ≤ 86400))) (sym (watch_is ∙ ap number_if_given (one_text-rows found (codes "watch")))) (fits_if_given 86400 _ given.watch_fits) in
     let pace_is : IsPace (record { every = c.in-Some.every; tick = c.get_one-tick.result }) = record { every_least = rw every_is given.every_fits.least; every_most = rw every_is given.every_fits.most; tick_fits = ticks_fit } in
-    (pace_is, rw c.unwrap_or.ensures in_range.0, rw c.unwrap_or.ensures in_range.1, rw count given.some, rw count given.few)
+    (pace_is, rw c.unwrap_or.ensures in_range.0, rw c.unwrap_or.ensures in_range.1, rw count given.some, rw count given.few, watch_fits)
