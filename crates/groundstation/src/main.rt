@@ -23,6 +23,7 @@ fn main(rt: HostRuntime) -> ExitCode {
         record: error_lines(&rt),
         displays: error_lines(&rt),
         limits: error_lines(&rt),
+        paths: error_lines(&rt),
     };
     let ended = exit_code(
         &rt,

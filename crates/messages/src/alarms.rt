@@ -11,4 +11,6 @@ pub struct Alarms<A> {
     pub displays: A,
     /// For a full journal or a full table.
     pub limits: A,
+    /// For a change of a path that is watched.
+    pub paths: A,
 }

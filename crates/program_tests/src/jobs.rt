@@ -29,6 +29,7 @@ mod sleeps;
 mod staged;
 mod through_time;
 mod ticks;
+mod watching;
 mod words;
 
 use crate::comparing::{holds, same};
@@ -111,6 +112,7 @@ struct Ran {
     record_alarm: Vec<u8>,
     display_alarm: Vec<u8>,
     limit_alarm: Vec<u8>,
+    path_alarm: Vec<u8>,
 }
 
 impl Ran {
@@ -123,6 +125,7 @@ impl Ran {
             record_alarm: Vec::new(alloc),
             display_alarm: Vec::new(alloc),
             limit_alarm: Vec::new(alloc),
+            path_alarm: Vec::new(alloc),
         }
     }
 }
@@ -176,6 +179,7 @@ impl<R: System, W: Own> Trials<'_, R, W> {
             record: &mut ran.record_alarm,
             displays: &mut ran.display_alarm,
             limits: &mut ran.limit_alarm,
+            paths: &mut ran.path_alarm,
         };
         let mut told = StandardError::new(&mut err);
         let status = obey(rt, own, alloc, words, ORIGIN, input, out, alarms, &mut told).status;
@@ -205,6 +209,7 @@ impl<R: System, W: Own> Trials<'_, R, W> {
             record: io::sink(),
             displays: io::sink(),
             limits: io::sink(),
+            paths: io::sink(),
         };
         let mut told = StandardError::new(&mut err);
         let (origin, told) = (milliseconds_since_1970(rt), &mut told);

@@ -43,6 +43,7 @@ pub fn program<
         record: err,
         displays: err,
         limits: err,
+        paths: err,
     };
     obey(rt, own, alloc, words, origin, input, out, alarms, &mut last).status
 }

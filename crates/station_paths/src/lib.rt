@@ -11,5 +11,7 @@ pub mod system;
 pub use opened::{Opened, OpenedPath};
 pub use path_ends::tell_ends;
 pub use path_host::{PathEvent, PathHost};
-pub use paths::{Input, PathThread, Paths, ReaderHandle, Started, open, open_all, start_all};
+pub use paths::{
+    Input, Opening, PathThread, Paths, ReaderHandle, Started, open, open_all, start_all,
+};
 pub use system::{Host, PathSystem, System};

@@ -8,7 +8,7 @@ ghost use Rattle.station_paths.specs.Inputs.{HasNoLines};
 ghost use Rattle.station_paths.specs.Faults.{IsUnopened, IsUnstarted};
 
 use crate::opened::{Opened, OpenedPath};
-use crate::reopening::Reopening;
+use crate::reopening::{OpeningLater, Reopening};
 use crate::system::{Host, PathSystem};
 use messages::{Answer, Fault};
 use station_lines::Tally;
@@ -44,13 +44,23 @@ pub struct Paths<'p, I: Read + Drop> {
     pub requests: Requests,
 }
 
-/// Opens the paths in order, up to the first that can't be opened. If they are opened again later, a pipe is first opened by
-/// the thread that reads it, as that waits for a writer.
+/// How paths are opened.
+#[derive(Clone, Copy, Debug, PartialEq, Eq)]
+pub enum Opening {
+    /// Once, before the round begins, which waits for the writers of pipes.
+    Once,
+    /// Once, but a pipe by the thread that reads it, as that waits for a writer.
+    Later,
+    /// The same, and again each time that it ends.
+    Again,
+}
+
+/// Opens the paths in order, up to the first that can't be opened.
 pub fn open_all<'p, R: Files<File = File>>(
     rt: &R,
     alloc: Global,
     paths: &'p Vec<String>,
-    reopens: bool,
+    opening: Opening,
 ) -> Result<Vec<OpenedPath<'p>>, Fault<'p>>
     ensures opened { IfOk result (λ files. map (λ f. path_of f.opened) files.items ≡ map string_bytes paths.now.items) }
     ensures named { IfOk result (λ files. map (λ f. string_bytes f.path.now) files.items ≡ map string_bytes paths.now.items) }
@@ -59,7 +69,7 @@ pub fn open_all<'p, R: Files<File = File>>(
 {
     let mut files = Vec::new(alloc);
     for path in paths {
-        let file = open(rt, alloc, path, reopens)?;
+        let file = open(rt, alloc, path, opening)?;
         if files.push(file).is_err() {
             return Err(Fault::NoMemory);
         }
@@ -67,20 +77,20 @@ pub fn open_all<'p, R: Files<File = File>>(
     Ok(files)
 }
 
-/// Opens a path. If it is opened again later, a pipe isn't opened yet.
+/// Opens a path. A pipe that its thread opens isn't opened yet.
 pub fn open<'p, R: Files<File = File>>(
     rt: &R,
     alloc: Global,
     path: &'p String,
-    reopens: bool,
+    opening: Opening,
 ) -> Result<OpenedPath<'p>, Fault<'p>>
     ensures path { IfOk result (λ file. path_of file.opened ≡ string_bytes path.entry.now) }
     ensures named { IfOk result (λ file. file.path.now ≡ path.entry.now) }
     ensures unopened { IfErr result (λ fault.
         (paths : List Text) → Contains paths (string_bytes path.entry.now) → IsUnopened paths fault) }
 {
-    match open_or_wait(rt, path, reopens) {
-        Ok(opened) if !reopens => Ok(OpenedPath { path, opened }),
+    match open_or_wait(rt, path, opening != Opening::Once) {
+        Ok(opened) if opening != Opening::Again => Ok(OpenedPath { path, opened }),
         Ok(opened) => match opened.opened_again(alloc, path) {
             Ok(opened) => Ok(OpenedPath { path, opened }),
             Err(_) => Err(Fault::NoMemory),
@@ -164,30 +174,42 @@ fn start<'a, 'p, R: Threads, W: PathSystem>(
         return Err(Fault::NoMemory);
     };
     let OpenedPath { path, opened } = file;
-    match start_reader(host, reader, opened) {
+    match start_reader(host, reader, path, opened) {
         Ok(handle) => Ok((PathThread { path, handle }, input, hand_over)),
         Err(error) if error.kind() == ErrorKind::OutOfMemory => Err(Fault::NoMemory),
         Err(_) => Err(Fault::ThreadNotStarted),
     }
 }
 
-// Starts the thread that reads a file, and opens its path again each time that it ends, if that is asked for.
+// Starts the thread that reads a file. It opens the path first where that isn't open, and again each time that it ends, if that
+// is asked for.
 fn start_reader<R: Threads, W: PathSystem>(
     host: &Host<'_, R, W>,
     reader: PathReader,
+    path: &String,
     file: Opened,
 ) -> io::Result<ReaderHandle<Opened>>
     ensures path { IfOk result (λ handle. path_of handle.promise.from.value ≡ path_of file) }
     ensures reader { IfOk result (λ handle. handle.promise.reader.value ≡ reader) }
 {
     let mut file = file;
-    let Some(path) = file.again.take() else {
+    if let Some(path) = file.again.take() {
+        let again = Reopening {
+            own: host.own,
+            path,
+            is_first: !file.is_open(),
+        };
+        return reader.start_again(host.rt, host.own, file, again);
+    }
+    if file.is_open() {
         return reader.start(host.rt, host.own, file);
+    }
+    let Ok(path) = String::from_str(host.alloc, path.as_str()) else {
+        return Err(ErrorKind::OutOfMemory.into());
     };
-    let again = Reopening {
+    let later = OpeningLater {
         own: host.own,
         path,
-        is_first: !file.is_open(),
     };
-    reader.start_again(host.rt, host.own, file, again)
+    reader.start_later(host.rt, host.own, file, later)
 }

@@ -1,15 +1,40 @@
-//! The request for a hand-over, and how the two ends of a source wake each other.
+//! What the two ends of a source share: the request for a hand-over, how they wake each other, and the state of the path.
 
+use crate::message::PathEnd;
 use std::sync::Wait;
-use std::sync::atomic::{AtomicBool, Ordering};
+use std::sync::atomic::{AtomicBool, AtomicU8, Ordering};
 use std::thread::Parker;
 
-/// Ends the portion that a source is giving. One thread at a time may read the source.
+/// Ends the portion that a source is giving, and shows the state of its path. One thread at a time may read the source.
 #[derive(Drop)]
 pub struct HandOver {
     is_requested: AtomicBool,
+    state: AtomicU8,
     message: Parker,
     buffer: Parker,
+}
+
+/// The state of a path, as the thread that reads it last found it.
+#[derive(Clone, Copy, Debug, PartialEq, Eq)]
+pub enum PathState {
+    /// It is read.
+    Open,
+    /// It isn't open, as a pipe that waits for its writer.
+    Waiting,
+    /// It has ended.
+    Ended,
+    /// A read of it failed.
+    Failed,
+}
+
+impl PathState {
+    // That of a path that was read to this end.
+    pub(crate) fn after(end: PathEnd) -> PathState {
+        match end {
+            PathEnd::AtEnd => PathState::Ended,
+            PathEnd::ReadFailed => PathState::Failed,
+        }
+    }
 }
 
 /// Shows that a hand-over was requested. Only [`HandOver::requested`] makes one.
@@ -23,6 +48,7 @@ impl HandOver {
     pub(crate) fn new() -> HandOver {
         HandOver {
             is_requested: AtomicBool::new(false),
+            state: AtomicU8::new(0),
             message: Parker::new(),
             buffer: Parker::new(),
         }
@@ -50,6 +76,27 @@ impl HandOver {
             return None;
         }
         Some(Requested { seen: () })
+    }
+
+    /// The state of the path.
+    pub fn state(&self) -> PathState {
+        match self.state.load(Ordering::SeqCst) {
+            0 => PathState::Open,
+            1 => PathState::Waiting,
+            2 => PathState::Ended,
+            _ => PathState::Failed,
+        }
+    }
+
+    // Shows the state of the path.
+    pub(crate) fn show(&self, state: PathState) {
+        let number = match state {
+            PathState::Open => 0,
+            PathState::Waiting => 1,
+            PathState::Ended => 2,
+            PathState::Failed => 3,
+        };
+        self.state.store(number, Ordering::SeqCst);
     }
 
     // Wakes the source: a message was sent.

@@ -14,10 +14,11 @@ mod message;
 mod path_reader;
 mod portions;
 mod reopen;
+mod starting;
 
 pub use connecting::connect;
 pub use finished_path::{FinishedPath, WholePath};
-pub use hand_over::HandOver;
+pub use hand_over::{HandOver, PathState};
 pub use laws::{a_path_given_to_its_end_has_its_lines, portions_have_the_lines_of_the_whole};
 pub use message::PathEnd;
 pub use path_reader::PathReader;

@@ -3,17 +3,14 @@ ghost use Rattle.std.specs.Prelude.{◌≡◌, ◌++◌, ◌∷◌, []};
 ghost use Rattle.rtrb.specs.Ring.{SameProducer, sent};
 
 use crate::backlog::Backlog;
-use crate::finished_path::{FinishedPath, WholePath};
-use crate::hand_over::HandOver;
+use crate::finished_path::FinishedPath;
+use crate::hand_over::{HandOver, PathState};
 use crate::message::{Buffer, Message, PathEnd};
 use crate::reopen::Reopen;
 use rtrb::{Consumer, Producer, PushError};
 use std::alloc::Global;
 use std::io::{self, Read};
-use std::snapshot::Snapshot;
 use std::sync::{Arc, Wait};
-use std::thread;
-use std::thread::{PromisedHandle, Threads};
 
 /// Reads a path and sends whole lines, each once and in order.
 #[derive(Drop)]
@@ -63,6 +60,7 @@ impl PathReader {
     ghost use Rattle.station_portions.specs.Sending.{SendsOn, SendsOpening, SendsPath, SentSoFar};
     ghost use Rattle.station_portions.specs.Whole.{SendsWhole};
     ghost use Rattle.station_portions.specs.declared.message.Message.TheVariants.{Over};
+    ghost use Rattle.station_portions.specs.declared.message.PathEnd.{PathEnd};
 
     // Sends the lines that a line feed ended.
     fn send_ended<R: Wait>(&mut self, rt: &R)
@@ -144,11 +142,12 @@ impl PathReader {
     }
 
     // Sends a path, and that it is over.
-    fn run<R: Wait, I: Read>(self, rt: &R, from: I) -> FinishedPath<I>
+    pub(crate) fn run<R: Wait, I: Read>(self, rt: &R, from: I) -> FinishedPath<I>
         ensures { SendsWhole (I.remaining from) (I.remaining result.from) self.messages result.end result.messages }
     {
         let (mut reader, mut from) = (self, from);
         let end = reader.send_path(rt, &mut from);
+        reader.hand_over.show(PathState::after(end));
         reader.send_over(rt, end);
         let PathReader {
             messages,
@@ -178,11 +177,32 @@ impl PathReader {
         let mut opening = from;
         let end = self.send_path(rt, &mut opening);
         drop(opening);
-        again.reopen(end)
+        self.hand_over.show(PathState::Waiting);
+        let opening = again.reopen(end);
+        self.hand_over.show(PathState::Open);
+        opening
+    }
+
+    // Opens a path that isn't open yet, sends it, and that it is over.
+    pub(crate) fn run_later<R: Wait, I: Read + Drop, O: Reopen<I> + Drop>(
+        self,
+        rt: &R,
+        from: I,
+        later: O,
+    ) -> FinishedPath<I>
+        requires same { (end : PathEnd) (opened : I) (new : O) → O.opens later end opened new → I.remaining opened ≡ I.remaining from }
+        ensures { SendsWhole (I.remaining from) (I.remaining result.from) self.messages result.end result.messages }
+    {
+        let (reader, mut later) = (self, later);
+        reader.hand_over.show(PathState::Waiting);
+        drop(from);
+        let opened = later.reopen(PathEnd::AtEnd);
+        reader.hand_over.show(PathState::Open);
+        reader.run(rt, opened)
     }
 
     // Sends one opening of a path after another, for as long as the program runs.
-    fn run_again<R: Wait, I: Read + Drop, O: Reopen<I>>(
+    pub(crate) fn run_again<R: Wait, I: Read + Drop, O: Reopen<I>>(
         self,
         rt: &R,
         from: I,
@@ -195,64 +215,5 @@ impl PathReader {
             from = reader.send_opening(rt, from, &mut again);
         }
         unreachable!()
-    }
-
-    /// Starts the thread that reads `from` to its end, or to a read that fails. It needn't be joined: it ends with its
-    /// path, or with the program. An error where no thread can be started.
-    pub fn start<R: Threads, W: Wait + Copy + Send + 'static, I: Read + Send + Drop + 'static>(
-        self,
-        rt: &R,
-        own: W,
-        from: I,
-    ) -> io::Result<PromisedHandle<FinishedPath<I>, WholePath<I>>>
-        ensures { IfOk result (λ h. (h.promise.from.value ≡ from) × (h.promise.reader.value ≡ self)) }
-    {
-        let promise = WholePath {
-            from: Snapshot::of(&from),
-            reader: Snapshot::of(&self),
-        };
-        let reader = self;
-        let handle = thread::spawn_with(
-            rt,
-            promise,
-            move || -> FinishedPath<I>
-                ensures { SendsWhole (I.remaining from) (I.remaining result.from)
-                    reader.messages result.end result.messages }
-            { reader.run(&own, from) },
-        )?;
-        Ok(handle)
-    }
-
-    /// Starts the thread that reads `from`, and whatever it is opened again as, each to its end or to a read that fails. A
-    /// last line without line feed gets one at the end, and is dropped after a failed read. The thread ends with the program.
-    /// An error where no thread can be started.
-    pub fn start_again<
-        R: Threads,
-        W: Wait + Copy + Send + 'static,
-        I: Read + Send + Drop + 'static,
-        O: Reopen<I> + Send + Drop + 'static,
-    >(
-        self,
-        rt: &R,
-        own: W,
-        from: I,
-        again: O,
-    ) -> io::Result<PromisedHandle<FinishedPath<I>, WholePath<I>>>
-        ensures { IfOk result (λ h. (h.promise.from.value ≡ from) × (h.promise.reader.value ≡ self)) }
-    {
-        let promise = WholePath {
-            from: Snapshot::of(&from),
-            reader: Snapshot::of(&self),
-        };
-        let reader = self;
-        let handle = thread::spawn_with(
-            rt,
-            promise,
-            move || -> FinishedPath<I>
-                ensures { SendsWhole (I.remaining from) (I.remaining result.from)
-                    reader.messages result.end result.messages }
-            { reader.run_again(&own, from, again) },
-        )?;
-        Ok(handle)
     }
 }

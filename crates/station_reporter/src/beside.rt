@@ -5,18 +5,21 @@ ghost use Rattle.station_reporter.specs.LimitAlarms.{TellsLimits, limits_told, m
 use crate::displays::Displays;
 use crate::limit_alarm::LimitAlarm;
 use crate::recorder::Recorder;
+use crate::requests::Requests;
 use crate::schedule::RunClock;
 use station_shared::LimitsMet;
+use station_watch::Watch;
 use std::io::Write;
 use std::time::Clock;
 use streams::Sink;
 
-/// A record and a folder for displays, each only where it was asked for, and what reports full limits.
+/// A record, a folder for displays and a watch of the paths, each only where it was asked for, and what reports full limits.
 #[derive(Drop)]
 pub struct Beside<T: Sink, A: Write> {
     pub record: Option<Recorder<T, A>>,
     pub displays: Option<Displays<A>>,
     pub limits: LimitAlarm<A>,
+    pub watch: Option<Watch<A>>,
 }
 
 impl<T: Sink, A: Write> Beside<T, A> {
@@ -26,6 +29,24 @@ impl<T: Sink, A: Write> Beside<T, A> {
         ensures told { TellsLimits (limits_told A.contents self.old.limits) (met_limits met) (limits_told A.contents self.new.limits) }
     {
         self.limits.report(met);
+    }
+
+    /// Reports the changes of the paths at `now`, in milliseconds of the run's clock, if they are watched.
+    pub fn look_at_paths(&mut self, requests: &Requests, now: u64)
+        ensures { self.new.record ≡ self.old.record }
+    {
+        if let Some(watch) = &mut self.watch {
+            watch.look(&requests.hand_overs, now);
+        }
+    }
+
+    /// The same at the time of the last look.
+    pub fn look_again(&mut self, requests: &Requests)
+        ensures { self.new.record ≡ self.old.record }
+    {
+        if let Some(watch) = &mut self.watch {
+            watch.look_again(&requests.hand_overs);
+        }
     }
 
     /// Reads anew when the clock of the tables for displays began, if that follows the system's clock. Now it shows `at`.

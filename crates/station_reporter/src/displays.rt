@@ -9,31 +9,29 @@ ghost use Rattle.messages.specs.Status.{fault_status};
 ghost use Rattle.messages.specs.Telling.{told_of};
 
 use crate::schedule::milliseconds;
+use crate::shown_file::{ShownFile, file_in, write_readable};
 use command_line::VERSION;
 use messages::{Fault, Reason, StandardError, tell};
 use modes_cpr::{Degrees, Position, Reference};
 use station_report::{Format, latitude_field, longitude_field, table_as};
 use station_shared::{Look, StationName};
+use station_watch::Watch;
 use std::alloc::{AllocError, Global};
-use std::fs::{self, File, Permissions};
+use std::fs::{self, File};
 use std::io::Write;
-use std::os::unix::fs::PermissionsExt;
 use std::rt::Files;
 use std::time::Clock;
 use streams::{ToWrite, WriteFault};
-
-// Who may read a file for displays, whatever the mask of the process: all. Its owner may write it.
-const READABLE: u32 = 0o644;
 
 /// The folder in which displays find the tables, as JSON.
 #[derive(Drop)]
 pub struct Displays<A> {
     alloc: Global,
-    // The file that displays read, and the one that is written beside it and then renamed over it.
-    table: String,
-    beside: String,
+    table: ShownFile,
+    // What is known of the receivers, where they are watched.
+    receivers: ShownFile,
     // The file that displays read first, and its text.
-    receiver: String,
+    first: String,
     about: Vec<u8>,
     // The time at which the clock of the tables begins, in milliseconds since 1970.
     origin: u64,
@@ -61,15 +59,15 @@ impl<A: Write + Drop> Displays<A> {
         site: Option<Reference>,
         alarm: StandardError<A>,
     ) -> Result<Self, AllocError>
-        ensures table { IfOk result (λ d. string_bytes d.table ≡ in_folder folder.now (codes "aircraft.json")) }
+        ensures table { IfOk result (λ d. string_bytes d.table.path ≡ in_folder folder.now (codes "aircraft.json")) }
         ensures origin { IfOk result (λ d. d.origin ≡ origin) }
         ensures follows { IfOk result (λ d. d.follows ≡ follows) }
     {
         let mut displays = Displays {
             alloc,
-            table: file_in(alloc, folder, "aircraft.json")?,
-            beside: file_in(alloc, folder, "aircraft.json.new")?,
-            receiver: file_in(alloc, folder, "receiver.json")?,
+            table: ShownFile::at(alloc, folder, "aircraft.json")?,
+            receivers: ShownFile::at(alloc, folder, "receivers.json")?,
+            first: file_in(alloc, folder, "receiver.json")?,
             about: receiver_text(alloc, VERSION, every, site)?,
             origin,
             follows,
@@ -77,7 +75,7 @@ impl<A: Write + Drop> Displays<A> {
             is_failing: false,
             alarm,
         };
-        let written = displays.write_receiver(rt);
+        let written = displays.write_first(rt);
         displays.report_write(written);
         Ok(displays)
     }
@@ -101,19 +99,29 @@ impl<A: Write> Displays<A> {
     }
 
     // Writes what displays read first.
-    fn write_receiver<R: Files<File = File>>(&self, rt: &R) -> Result<(), Reason> {
-        write_readable(rt, self.receiver.as_str(), self.about.as_slice())
+    fn write_first<R: Files<File = File>>(&self, rt: &R) -> Result<(), Reason> {
+        write_readable(rt, self.first.as_str(), self.about.as_slice())
     }
 
-    // Writes a table beside the one that displays read, and renames it over that. What displays read first is written again
-    // where it may be missing.
-    fn replace<R: Files<File = File>>(&self, rt: &R, text: &[u8]) -> Result<(), Reason> {
-        if self.is_failing || !fs::exists(rt, self.receiver.as_str()).unwrap_or(false) {
-            self.write_receiver(rt)?;
+    // Writes a table, and what is known of the receivers, if they are watched. What displays read first is written again where
+    // it may be missing.
+    fn replace<R: Files<File = File>>(
+        &self,
+        rt: &R,
+        text: &[u8],
+        watch: &Option<Watch<A>>,
+    ) -> Result<(), Reason> {
+        if self.is_failing || !fs::exists(rt, self.first.as_str()).unwrap_or(false) {
+            self.write_first(rt)?;
         }
-        let beside = self.beside.as_str();
-        write_readable(rt, beside, text)?;
-        fs::rename(rt, beside, self.table.as_str()).map_err(|error| Reason::of(&error))
+        self.table.replace(rt, text)?;
+        let Some(watch) = watch else {
+            return Ok(());
+        };
+        match watch.text(self.alloc, self.origin) {
+            Ok(text) => self.receivers.replace(rt, text.as_slice()),
+            Err(_) => Err(Reason::NoMemory),
+        }
     }
 
     // Reports a write that failed, unless the one before did, and one that went well after one that failed.
@@ -121,7 +129,7 @@ impl<A: Write> Displays<A> {
         ensures table { self.new.table ≡ self.old.table }
         ensures origin { self.new.origin ≡ self.old.origin }
         ensures follows { self.new.follows ≡ self.old.follows }
-        ensures reported { HasReportedWrite (string_bytes self.old.table) written
+        ensures reported { HasReportedWrite (string_bytes self.old.table.path) written
             (shown_of A.contents self.old) (shown_of A.contents self.new) }
     {
         let was_failing = self.is_failing;
@@ -129,31 +137,20 @@ impl<A: Write> Displays<A> {
         self.has_failed = self.has_failed || written.is_err();
         match written {
             Ok(()) if was_failing => {
-                tell(&mut self.alarm, Fault::WritesAgain(self.table.as_str()));
+                tell(
+                    &mut self.alarm,
+                    Fault::WritesAgain(self.table.path.as_str()),
+                );
             }
             Err(reason) if !was_failing => {
                 tell(
                     &mut self.alarm,
-                    Fault::CannotWrite(self.table.as_str(), reason),
+                    Fault::CannotWrite(self.table.path.as_str(), reason),
                 );
             }
             _ => {}
         }
     }
-}
-
-// Writes a file that all may read. Where its mode can't be set, as that of another's file, it stays as it is.
-fn write_readable<R: Files<File = File>>(rt: &R, path: &str, text: &[u8]) -> Result<(), Reason> {
-    let mut file = File::create(rt, path).map_err(|error| Reason::of(&error))?;
-    let _ = file.set_permissions(Permissions::from_mode(READABLE));
-    file.write_all(text).map_err(|error| Reason::of(&error))
-}
-
-// The path of a file in a folder.
-fn file_in(alloc: Global, folder: &str, name: &str) -> Result<String, AllocError>
-    ensures { IfOk result (λ path. string_bytes path ≡ in_folder folder.now name.now) }
-{
-    format!(in alloc; "{folder}/{name}")
 }
 
 // What displays read first: the version of the program, the milliseconds from one table to the next, and the place of the
@@ -227,16 +224,17 @@ pub fn table_for<const N: usize, L: StationName, A: Write>(
     }
 }
 
-/// Puts a table where displays find it, if there are any. A failed write is reported once, and so is the next one that doesn't
+/// Puts a table where displays find it, if there are any, with what is known of the receivers, if they are watched. A failed write is reported once, and so is the next one that doesn't
 /// fail.
 pub fn put_table<R: Files<File = File>, A: Write>(
     displays: &mut Option<Displays<A>>,
+    watch: &Option<Watch<A>>,
     rt: &R,
     table: Option<Result<Vec<u8>, WriteFault>>,
 ) {
     if let (Some(displays), Some(table)) = (displays, table) {
         let written = match table {
-            Ok(text) => displays.replace(rt, text.as_slice()),
+            Ok(text) => displays.replace(rt, text.as_slice(), watch),
             Err(_) => Err(Reason::NoMemory),
         };
         displays.report_write(written);

@@ -15,6 +15,7 @@ pub mod recorder;
 mod reporter;
 mod requests;
 mod schedule;
+mod shown_file;
 mod stop;
 
 pub use bell::{Bell, Bells};

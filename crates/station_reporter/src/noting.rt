@@ -70,7 +70,7 @@ fn note<const N: usize, L: StationName, R: Wait + Clock + Files<File = File>, T:
             let for_displays = table_for(&beside.displays, &look);
             let seat = look.done();
             record_look(&mut beside.record, rt, station, &seat, count, false);
-            put_table(&mut beside.displays, rt, for_displays);
+            put_table(&mut beside.displays, &beside.watch, rt, for_displays);
             *written_at = Some(at);
             seat
         }

@@ -172,6 +172,7 @@ fn report_at<
             return (reported, true);
         }
         now = moments.now();
+        reported.beside.look_at_paths(requests, now);
         let act = act_at(now, reported.due, duties.tables.pace);
         reported = do_act(rt, station, bells, duties.tables.format, act, reported);
     }
@@ -281,7 +282,7 @@ pub fn print_and_record<
             let for_displays = table_for(&beside.displays, &look);
             let seat = out.print(look, format);
             record_look(&mut beside.record, rt, station, &seat, count, true);
-            put_table(&mut beside.displays, rt, for_displays);
+            put_table(&mut beside.displays, &beside.watch, rt, for_displays);
             seat
         }
         Err(seat) => seat,

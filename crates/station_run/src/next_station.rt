@@ -254,7 +254,7 @@ pub fn begin_round<
     ensures out { IfOk result (λ stage. stage.out ≡ carried.out) }
     ensures beside { IfOk result (λ stage. stage.beside ≡ carried.beside) }
 {
-    let files = open_all(host.rt, host.alloc, asked.paths, asked.reopens)?;
+    let files = open_all(host.rt, host.alloc, asked.paths, asked.opening())?;
     let started = start_all(host, files, carried.stop)?;
     let duties = Duties::first(
         asked.tables,

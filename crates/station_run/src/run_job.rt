@@ -21,6 +21,7 @@ use station_reporter::{
     Beside, Displays, Kept, LimitAlarm, Printer, RecordFile, Recorder, RunClock, record_to,
     writing_interval,
 };
+use station_watch::Watch;
 use std::alloc::Global;
 use std::fs::File;
 use std::io::{BufWriter, Write};
@@ -118,8 +119,10 @@ fn first_stage<'a, 'p, R: System, W: PathSystem, O: Write + Drop, A: Write + Dro
         record,
         displays,
         limits,
+        paths,
     } = alarms;
-    let beside = begin_beside(host.rt, host.alloc, asked, displays, record, limits)?;
+    let watch = begin_watch(host.alloc, asked, paths)?;
+    let beside = begin_beside(host.rt, host.alloc, asked, displays, record, limits, watch)?;
     let goes_on = asked.record.is_some() || asked.displays.is_some();
     let Ok(buffered) = BufWriter::with_capacity(host.alloc, TABLE_ROOM, out) else {
         return Err(Fault::NoMemory);
@@ -135,7 +138,7 @@ fn first_stage<'a, 'p, R: System, W: PathSystem, O: Write + Drop, A: Write + Dro
     begin_round(host, asked, carried)
 }
 
-// What a run writes beside its output: the folder for displays and the record, each if it is asked for.
+// What a run writes beside its output: the folder for displays and the record, each if it is asked for. Its paths may be watched.
 fn begin_beside<'p, R: Files<File = File>, A: Write + Drop>(
     rt: &R,
     alloc: Global,
@@ -143,6 +146,7 @@ fn begin_beside<'p, R: Files<File = File>, A: Write + Drop>(
     display_alarm: A,
     record_alarm: A,
     limit_alarm: A,
+    watch: Option<Watch<A>>,
 ) -> Result<Beside<Output<RecordFile>, A>, Fault<'p>>
     ensures refused { IfErr result (CannotStart (plan_of asked.entry)) }
     ensures record { IfOk result (λ beside. IsBlank (option_map string_bytes asked.entry.record.now) (A.contents record_alarm) beside.record) }
@@ -153,7 +157,26 @@ fn begin_beside<'p, R: Files<File = File>, A: Write + Drop>(
         record,
         displays,
         limits: LimitAlarm::new(limit_alarm),
+        watch,
     })
+}
+
+// What watches the paths, if that is asked for.
+fn begin_watch<'p, A: Write + Drop>(
+    alloc: Global,
+    asked: RunOptions<'p>,
+    alarm: A,
+) -> Result<Option<Watch<A>>, Fault<'p>>
+    ensures { IfErr result (IsEarly (map string_bytes asked.entry.paths.now.items)) }
+{
+    let Some(seconds) = asked.watch else {
+        return Ok(None);
+    };
+    let (begins_at, alarm) = (asked.begins_at, StandardError::new(alarm));
+    match Watch::begin(alloc, asked.paths, seconds, begins_at, alarm) {
+        Ok(watch) => Ok(Some(watch)),
+        Err(_) => Err(Fault::NoMemory),
+    }
 }
 
 // The folder for displays, if it is asked for.

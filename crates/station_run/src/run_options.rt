@@ -6,6 +6,7 @@ ghost use Rattle.station_run.specs.Stations.{plan_of};
 use crate::limits::FORGET_AT;
 use command_line::{ClockOrigin, RunArguments};
 use modes_cpr::Reference;
+use station_paths::Opening;
 use station_reporter::Tables;
 
 /// The options of a run.
@@ -17,6 +18,8 @@ pub struct RunOptions<'a> {
     pub rounds: u16,
     /// Whether a path that has ended, or whose read failed, is opened again. Then there is one round.
     pub reopens: bool,
+    /// After how many seconds without a frame a path is reported to be silent, 1 to 86,400, where paths are watched.
+    pub watch: Option<u32>,
     /// The named pipe that ends the run once it is written to, if one is given.
     pub stop: &'a Option<String>,
     /// Where the clock begins, in milliseconds: 0 at the start of the run, or the time since 1970.
@@ -56,6 +59,7 @@ impl<'a> RunOptions<'a> {
             },
             rounds: arguments.rounds,
             reopens: arguments.reopens,
+            watch: arguments.watch,
             stop: &arguments.stop,
             begins_at,
             origin,
@@ -65,5 +69,16 @@ impl<'a> RunOptions<'a> {
             hand_over_at: FORGET_AT,
             site: arguments.site,
         }
+    }
+
+    /// How its paths are opened.
+    pub fn opening(self) -> Opening {
+        if self.reopens {
+            return Opening::Again;
+        }
+        if self.watch.is_some() {
+            return Opening::Later;
+        }
+        Opening::Once
     }
 }

@@ -122,7 +122,15 @@ fn run_named<
         station,
         receivers,
         seat,
-    } = begin::<L, _>(rt, alloc, stage.kept, stage.inputs, blank, places)?;
+    } = begin::<L, _, _>(
+        rt,
+        alloc,
+        stage.kept,
+        stage.inputs,
+        &stage.beside.watch,
+        blank,
+        places,
+    )?;
     let reporter = Reporter {
         duties,
         seat,
@@ -139,6 +147,7 @@ fn run_named<
         report: mut reported,
     } = left;
     reported.beside.report_limits(station.limits_met());
+    reported.beside.look_again(&paths.requests);
     let hands_over = hands_over(reported.asked_at, &receivers);
     learn_from_all(&mut reported.seat, &receivers);
     let format = duties.tables.format;

@@ -4,7 +4,7 @@ ghost use Rattle.station_run.specs.Stations.{CannotStart, plan_of};
 
 use crate::run_options::RunOptions;
 use messages::Fault;
-use station_paths::{Host, Opened, PathEvent, PathHost, PathSystem, open};
+use station_paths::{Host, Opened, Opening, PathEvent, PathHost, PathSystem, open};
 use station_reporter::{Requests, Stop, Stopped};
 use std::alloc::{AllocError, Global};
 use std::fs::File;
@@ -25,7 +25,7 @@ pub fn begin_stop<'p, R: Threads + Files<File = File>, W: PathSystem>(
     let Some(pipe) = asked.stop else {
         return Ok(None);
     };
-    let opened = match open(host.rt, host.alloc, pipe, true) {
+    let opened = match open(host.rt, host.alloc, pipe, Opening::Later) {
         Ok(file) => file.opened,
         Err(fault) => return Err(fault),
     };

@@ -9,6 +9,7 @@ ghost use Rattle.station_shared.specs.Workers.{SeatSteps};
 ghost use mathlib.Core.List.{IsPrefix};
 
 use crate::counted_desk::CountedDesk;
+use crate::counts::Reasons;
 use crate::limits_met::LimitFlags;
 use crate::seat::Seat;
 use crate::station::Station;
@@ -20,10 +21,11 @@ use station_lines::pumping::stop_after;
 use station_lines::{ParsedLine, Tally};
 use std::sync::Wait;
 
-// Feeds a frame, and notes the limit that it meets.
+// Feeds a frame, and notes the limit that it meets, and why it is refused.
 fn feed<const N: usize, L: StationName, R: Wait>(
     rt: &R,
     flags: &LimitFlags,
+    reasons: &mut Reasons,
     desk: &mut CountedDesk<N, L>,
     seat: &mut Seat<N, L>,
     heard: &CheckedFrame,
@@ -36,6 +38,7 @@ fn feed<const N: usize, L: StationName, R: Wait>(
         Ok(_) => Ok(()),
         Err(refusal) => {
             flags.note(refusal);
+            reasons.note(refusal);
             Err(refusal)
         }
     }
@@ -45,6 +48,7 @@ fn feed<const N: usize, L: StationName, R: Wait>(
 fn take_frame<const N: usize, L: StationName, R: Wait>(
     rt: &R,
     flags: &LimitFlags,
+    reasons: &mut Reasons,
     desk: &mut CountedDesk<N, L>,
     seat: &mut Seat<N, L>,
     tally: &mut Tally,
@@ -55,7 +59,7 @@ fn take_frame<const N: usize, L: StationName, R: Wait>(
     ensures met { IsPrefix seat.new.seen desk.new.log.entries }
     ensures pumps { PumpsFrame (SeatSteps L.start) seat.old seat.new heard.now tally.old tally.new result }
 {
-    let answer = feed(rt, flags, desk, seat, heard);
+    let answer = feed(rt, flags, reasons, desk, seat, heard);
     tally.frame(answer.is_ok());
     stop_after(answer)
 }
@@ -64,6 +68,7 @@ fn take_frame<const N: usize, L: StationName, R: Wait>(
 fn take_line<const N: usize, L: StationName, R: Wait>(
     rt: &R,
     flags: &LimitFlags,
+    reasons: &mut Reasons,
     desk: &mut CountedDesk<N, L>,
     seat: &mut Seat<N, L>,
     tally: &mut Tally,
@@ -78,7 +83,7 @@ fn take_line<const N: usize, L: StationName, R: Wait>(
         (record { feed = seat.new; tally = tally.new }) }
 {
     match parsed {
-        ParsedLine::Frame(heard) => return take_frame(rt, flags, desk, seat, tally, heard),
+        ParsedLine::Frame(heard) => return take_frame(rt, flags, reasons, desk, seat, tally, heard),
         ParsedLine::ModeAc => tally.mode_ac(),
         ParsedLine::Blank => tally.blank(),
         ParsedLine::Tick(_) | ParsedLine::Show | ParsedLine::Fault => tally.fault(),
@@ -90,6 +95,7 @@ fn take_line<const N: usize, L: StationName, R: Wait>(
 fn take_parsed<const N: usize, L: StationName, R: Wait>(
     rt: &R,
     flags: &LimitFlags,
+    reasons: &mut Reasons,
     desk: &mut CountedDesk<N, L>,
     seat: &mut Seat<N, L>,
     tally: &mut Tally,
@@ -104,7 +110,7 @@ fn take_parsed<const N: usize, L: StationName, R: Wait>(
         (record { feed = seat.new; tally = tally.new }) [] }
 {
     for parsed in ahead {
-        take_line(rt, flags, desk, seat, tally, parsed)?;
+        take_line(rt, flags, reasons, desk, seat, tally, parsed)?;
     }
     Ok(())
 }
@@ -114,6 +120,7 @@ fn take_parsed<const N: usize, L: StationName, R: Wait>(
 pub(crate) fn take_held<const N: usize, L: StationName, R: Wait>(
     rt: &R,
     station: &Station<N, L>,
+    reasons: &mut Reasons,
     seat: &mut Seat<N, L>,
     tally: &mut Tally,
     ahead: &[ParsedLine],
@@ -132,7 +139,7 @@ pub(crate) fn take_held<const N: usize, L: StationName, R: Wait>(
     let mut desk = station.releases.lock(rt, &station.locked);
     desk.take_page(page, ahead.len());
     desk.confirm_prefix(seat);
-    let taken = take_parsed(rt, &station.flags, &mut *desk, seat, tally, ahead);
+    let taken = take_parsed(rt, &station.flags, reasons, &mut *desk, seat, tally, ahead);
     station.releases.free(desk);
     taken
 }

@@ -3,6 +3,7 @@
 
 pub mod close;
 mod counted_desk;
+pub mod counts;
 mod held_lines;
 mod held_pump;
 pub mod limits_met;
@@ -17,6 +18,7 @@ pub mod station_name;
 pub mod worker;
 
 pub use close::{Closed, Missing};
+pub use counts::{Counts, Refusals, SharedCounts};
 pub use limits_met::LimitsMet;
 pub use look::Look;
 pub use receipt::Receipt;

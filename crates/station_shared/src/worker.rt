@@ -2,6 +2,7 @@
 ghost use Rattle.std.specs.Prelude.{◌≡◌, ◌<◌, ℕ, length, slice_index_or};
 ghost use Rattle.station_shared.specs.Workers.{Worked};
 
+use crate::counts::SharedCounts;
 use crate::held_pump::pump_held;
 use crate::seat::Seat;
 use crate::station::Station;
@@ -9,12 +10,13 @@ use crate::station_name::StationName;
 use crossbeam_utils::rule::Protocol;
 use station_desk::{Mark, PublishRule, PublishedTable};
 use station_lines::{PumpFault, Tally};
-use std::sync::Wait;
+use std::alloc::Global;
+use std::sync::{Arc, Wait};
 use std::thread;
 use std::thread::Threads;
 use streams::Source;
 
-/// A seat, the source of its lines, and what its pump answered, once it ran.
+/// A seat, the source of its lines, what it counts if that is watched, and what its pump answered, once it ran.
 #[derive(Drop)]
 pub struct Worker<const N: usize, S: Source, L: StationName>
 where
@@ -22,7 +24,19 @@ where
 {
     pub seat: Seat<N, L>,
     pub source: S,
+    pub counts: Option<Arc<SharedCounts, Global>>,
     pub answer: Option<Result<Tally, PumpFault>>,
+}
+
+// Where a worker shows what it counts: where nobody sees it, if it isn't watched.
+fn shown_of<'a>(
+    counts: &'a Option<Arc<SharedCounts, Global>>,
+    unseen: &'a SharedCounts,
+) -> &'a SharedCounts {
+    match counts {
+        Some(counts) => counts,
+        None => unseen,
+    }
 }
 
 // Pumps the one worker of a chunk.
@@ -39,7 +53,10 @@ fn run_part<const N: usize, S: Source, L: StationName, R: Wait>(
         Worked L.start old.seat new.seat (S.state old.source) (S.state new.source) turns new.answer }
 {
     let worker = &mut part[0];
-    let answer = pump_held(rt, station, &mut worker.seat, &mut worker.source, turns);
+    let unseen = SharedCounts::new();
+    let shown = shown_of(&worker.counts, &unseen);
+    let (seat, source) = (&mut worker.seat, &mut worker.source);
+    let answer = pump_held(rt, station, seat, shown, source, turns);
     worker.answer = Some(answer);
 }
 

@@ -110,6 +110,7 @@ fn worker<const N: usize, S: Source, L: StationName>(
     Worker {
         seat,
         source,
+        counts: None,
         answer: None,
     }
 }

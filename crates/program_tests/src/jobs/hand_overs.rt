@@ -189,6 +189,7 @@ impl<R: System, W: Own> Trials<'_, R, W> {
             tables: tables_each(every),
             rounds: 1,
             reopens: false,
+            watch: None,
             stop: &None,
             begins_at: 0,
             origin: 0,
@@ -204,6 +205,7 @@ impl<R: System, W: Own> Trials<'_, R, W> {
             record: &mut ran.record_alarm,
             displays: &mut ran.display_alarm,
             limits: &mut ran.limit_alarm,
+            paths: &mut ran.path_alarm,
         };
         let mut told = StandardError::new(&mut err);
         let status = run(&host, options, out, alarms, &mut told).status;

@@ -139,6 +139,7 @@ fn part<'a, L: StationName, R: Wait>(
             seat,
             source,
             answer,
+            ..
         } = receiver;
         let Some(answer) = answer else { unreachable!() };
         seats.push(seat)?;

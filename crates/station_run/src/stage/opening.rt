@@ -10,10 +10,12 @@ use messages::Fault;
 use station_journal::{NoMemory, ResumeFault};
 use station_paths::Input;
 use station_reporter::Kept;
-use station_shared::{Places, Seat, Station, StationName, Worker};
+use station_shared::{Places, Seat, SharedCounts, Station, StationName, Worker};
+use station_watch::Watch;
 use std::alloc::Global;
-use std::sync::Wait;
+use std::io::Write;
 use std::sync::ledger::Blank;
+use std::sync::{Arc, Wait};
 
 /// A station that is begun, with those who have its seats.
 pub(super) struct Crew<'a, L: StationName, R: Wait> {
@@ -24,12 +26,14 @@ pub(super) struct Crew<'a, L: StationName, R: Wait> {
     pub seat: Seat<AIRCRAFT, L>,
 }
 
-/// Makes the station that goes on from the kept entries. Refused if out of memory.
-pub(super) fn begin<'a, L: StationName, R: Wait>(
+/// Makes the station that goes on from the kept entries. Its receivers show what they count, if they are watched. Refused if
+/// out of memory.
+pub(super) fn begin<'a, L: StationName, R: Wait, A: Write>(
     rt: &R,
     alloc: Global,
     kept: Kept,
     inputs: Vec<Input<'a, R>>,
+    watch: &Option<Watch<A>>,
     blank: Blank,
     places: Places<AIRCRAFT>,
 ) -> Result<Crew<'a, L, R>, Fault<'static>>
@@ -64,7 +68,7 @@ pub(super) fn begin<'a, L: StationName, R: Wait>(
     let Some(seat) = seats.pop() else {
         unreachable!()
     };
-    match receivers(alloc, seats, inputs) {
+    match receivers(alloc, seats, inputs, watch) {
         Ok(receivers) => Ok(Crew {
             station,
             receivers,
@@ -78,10 +82,11 @@ pub(super) fn begin<'a, L: StationName, R: Wait>(
 }
 
 // Makes a receiver for each input, with a seat of its own.
-fn receivers<'a, L: StationName, R: Wait>(
+fn receivers<'a, L: StationName, R: Wait, A: Write>(
     alloc: Global,
     seats: Vec<Seat<AIRCRAFT, L>>,
     inputs: Vec<Input<'a, R>>,
+    watch: &Option<Watch<A>>,
 ) -> Result<Vec<Receiver<'a, R, L>>, NoMemory>
     requires { length seats.items ≡ length inputs.items }
     ensures seats { IfOk result (λ made. map (λ r. r.seat) made.items ≡ seats.items) }
@@ -89,11 +94,24 @@ fn receivers<'a, L: StationName, R: Wait>(
 {
     let mut receivers = Vec::new(alloc);
     for (seat, source) in seats.into_iter().zip(inputs) {
+        let counts = counts_at(watch, receivers.len())?;
         receivers.push(Worker {
             seat,
             source,
+            counts,
             answer: None,
         })?;
     }
     Ok(receivers)
+}
+
+// Where the receiver at this place shows what it counts, if it is watched.
+fn counts_at<A: Write>(
+    watch: &Option<Watch<A>>,
+    place: usize,
+) -> Result<Option<Arc<SharedCounts, Global>>, NoMemory> {
+    match watch {
+        Some(watch) => watch.counts_at(place),
+        None => Ok(None),
+    }
 }

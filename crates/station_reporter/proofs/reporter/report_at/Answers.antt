@@ -16,7 +16,7 @@ loop-preserved g c =
     record {
       asked = never_asks (λ b. b.record) c.args.reporter.duties.tables.format g.L.StationName.start c.act_at-act.result _ _ c.do_act-reported.ensures ∙ c.loop.invariant.asked;
       so_far = one_more_act (λ b. b.record) g.L.StationName.start c.args.reporter.duties.tables c.args.reporter.duties.due c.now-now.result _ _ _ _ _ _ c.act_at-act.result _ _
-          (rw c.report_limits.ensures.record so_far) (sym c.is_broken.ensures ∙ c.if-is_broken.false) c.now-now.ensures c.act_at-act.ensures c.do_act-reported.ensures;
+          (rw c.look_at_paths.ensures (rw c.report_limits.ensures.record so_far)) (sym c.is_broken.ensures ∙ c.if-is_broken.false) c.now-now.ensures c.act_at-act.ensures c.do_act-reported.ensures;
     }
 
 pub returns-then-not-is_ending-clause-reports : goal.returns-then-not-is_ending-clause-reports

@@ -22,7 +22,7 @@ close-requires g c =
       many = omega (arith, c.requires.many, made.many, worked.many);
       numbered = are_numbered start entries (λ r. r.seat) (λ r. r.source) (λ r. r.answer) c.args.stage.inputs.items c.in_ok-station.field-0.receivers.items c.in-Some.left.receivers.items _ _ _
           made.seats made.sources worked (omega (arith, c.requires.may.seats_are.1)) made.reporter
-          (last_numbered (λ b. b.record) _ _ _ (record { seat = c.learn_from_all.new.seat; out = c.in-Some.left.report.out; beside = c.report_limits.new.self; due = c.in-Some.left.report.due; asked_at = c.in-Some.left.report.asked_at; written_at = c.in-Some.left.report.written_at }) c.print_last-report.result c.print_last-report.ensures ∙ learned_number _ _ _ c.learn_from_all.ensures ∙ reporter_numbered _ _ _ _ _ _ _ _ _ _ c.in-Some.ensures.reporter);
+          (last_numbered (λ b. b.record) _ _ _ (record { seat = c.learn_from_all.new.seat; out = c.in-Some.left.report.out; beside = c.look_again.new.self; due = c.in-Some.left.report.due; asked_at = c.in-Some.left.report.asked_at; written_at = c.in-Some.left.report.written_at }) c.print_last-report.result c.print_last-report.ensures ∙ learned_number _ _ _ c.learn_from_all.ensures ∙ reporter_numbered _ _ _ _ _ _ _ _ _ _ c.in-Some.ensures.reporter);
     }
 
 pub returns-clause-ran : goal.returns-clause-ran
@@ -52,9 +52,9 @@ returns-clause-ran g c =
         failed = all_fail_between c.in_ok-leaving.leaving.inputs.items;
         sums = adds_each stage.answers.items found.0 c.in_ok-leaving.leaving.answers.items (subst (λ os. AddsAll stage.answers.items os c.in_ok-leaving.leaving.answers.items) found.1 left.sums);
         closed = left.closed;
-        shows = shows (λ b. b.record) _ _ _ _ _ _ _ _ _ _ _ c.in-Some.left.report.seat (record { seat = c.learn_from_all.new.seat; out = c.in-Some.left.report.out; beside = c.report_limits.new.self; due = c.in-Some.left.report.due; asked_at = c.in-Some.left.report.asked_at; written_at = c.in-Some.left.report.written_at }) c.print_last-report.result _ refl
+        shows = shows (λ b. b.record) _ _ _ _ _ _ _ _ _ _ _ c.in-Some.left.report.seat (record { seat = c.learn_from_all.new.seat; out = c.in-Some.left.report.out; beside = c.look_again.new.self; due = c.in-Some.left.report.due; asked_at = c.in-Some.left.report.asked_at; written_at = c.in-Some.left.report.written_at }) c.print_last-report.result _ refl
             (c.hands_over-hands_over.ensures ∙ ap (λ b. is_some c.in-Some.left.report.asked_at && b) (work-on (λ r. r.source) (λ r. r.answer) new found.0 found.1 ∙ ap (λ ss. may_go_on ss found.0) (sym left.inputs)))
-            (c.learn_from_all.ensures, rw (← c.report_limits.ensures.record) at (reports_from _ _ _ _ _ _ _ _ _ _ _ first c.in-Some.ensures.reporter))
+            (c.learn_from_all.ensures, rw (← (c.look_again.ensures ∙ c.report_limits.ensures.record)) at (reports_from _ _ _ _ _ _ _ _ _ _ _ first c.in-Some.ensures.reporter))
             c.print_last-report.ensures;
         duties = refl;
         rounds_left = refl;

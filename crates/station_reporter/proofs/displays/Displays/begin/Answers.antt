@@ -3,7 +3,7 @@ use Rattle.station_reporter.proofs.displays.Displays.begin.Goals as goal
 
 pub returns : goal.returns
 returns g c = record {
-  table = ap string_bytes c.report_write.ensures.table ∙ c.in_ok-file_in.ensures;
+  table = ap (λ file. string_bytes file.path) c.report_write.ensures.table ∙ c.in_ok-at.ensures;
   origin = c.report_write.ensures.origin;
   follows = c.report_write.ensures.follows;
 }

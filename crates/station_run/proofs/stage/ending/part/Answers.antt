@@ -5,6 +5,22 @@ use Rattle.station_paths.proofs.FedLemmas.{no_items}
 use Rattle.station_run.proofs.PartLemmas.{all_done, all_sums, one_more, one_more_sum, rest_answered}
 use Rattle.station_run.proofs.stage.ending.part.Goals as goal
 
+pub loop-receiver-preserved-in_ok-push-4 : goal.loop-receiver-preserved-in_ok-push-4
+loop-receiver-preserved-in_ok-push-4 g c =
+    let was = c.loop-receiver.invariant in
+    let split : into_iter_items c.loop-receiver.receiver-iterator.a ≡ c.in-Some.receiver ∷ into_iter_items c.next.new.self.a = search rules in
+    let split_before : into_iter_items c.loop-receiver.receiver-iterator.b ≡ c.in-Some.before ∷ into_iter_items c.next.new.self.b = search rules in
+    let seat_pushed : c.push-in-loop-receiver.new.self.items ≡ c.loop-receiver.seats.items ++ c.in-Some.receiver.seat ∷ [] = search rules in
+    let input_pushed : c.push-in-loop-receiver-2.new.self.items ≡ c.loop-receiver.inputs.items ++ c.in-Some.receiver.source ∷ [] = search rules in
+    let sum_pushed : c.push-in-loop-receiver-3.new.self.items ≡ c.loop-receiver.answers.items ++ c.added.result ∷ [] = search rules in
+    record {
+      seats = one_more (λ r. r.seat) _ _ _ c.in-Some.receiver _ _ split seat_pushed was.seats;
+      inputs = one_more (λ r. r.source) _ _ _ c.in-Some.receiver _ _ split input_pushed was.inputs;
+      many = omega (arith, ap length split, ap length split_before, was.many);
+      answered = rest_answered (λ r. r.answer) _ _ c.in-Some.receiver split was.answered;
+      sums = one_more_sum (λ r. r.answer) _ _ _ _ c.in-Some.before _ _ c.in-Some.receiver c.in-Some-answer.answer c.added.result _ _ split_before split c.in-Some-answer.is c.added.ensures sum_pushed was.sums;
+    }
+
 pub loop-receiver-preserved : goal.loop-receiver-preserved
 loop-receiver-preserved g c =
     let was = c.loop-receiver.invariant in
