@@ -45,8 +45,8 @@ fn read_and_end<R: Host>(
 }
 
 impl<R: Host, W: Own> Trials<'_, R, W> {
-    // Runs through these times with a tick each 400 ms, a record and displays, while no table is due.
-    fn run_noted(&self, moments: &[u64], folder: &str, clock: &str) -> Result<Noted, Fail> {
+    // Runs through the times of this clock with a tick each 400 ms, a record and displays, while no table is due.
+    fn run_noted(&self, staged: &Staged<'_, R>, folder: &str, clock: &str) -> Result<Noted, Fail> {
         let (rt, alloc) = (self.rt, self.alloc);
         let record = format!(in alloc; "{folder}/record")?;
         let table = format!(in alloc; "{folder}/aircraft.json")?;
@@ -56,8 +56,7 @@ impl<R: Host, W: Own> Trials<'_, R, W> {
         )?;
         let lasting = self.lasting_path()?;
         let (lines, path) = (lasting.lines, lasting.path.as_str());
-        let staged = Staged::new(rt, moments);
-        let (trials, flag) = (self.over(&staged), &staged.has_ended);
+        let (trials, flag) = (self.over(staged), &staged.has_ended);
         let (line, mut out) = (line.as_str(), Vec::new(alloc));
         let (read, ran) = join(
             rt,
@@ -73,8 +72,8 @@ impl<R: Host, W: Own> Trials<'_, R, W> {
     fn the_files_for_displays_follow_the_clock_of_the_system(self) -> Result<(), Fail> {
         let (rt, folder) = (self.rt, self.new_folder()?);
         let path = format!(in self.alloc; "{}/aircraft.json", folder.as_str())?;
-        let moments = [1_000_000, 1_000_500, 1_001_000];
-        let noted = self.run_noted(moments.as_slice(), folder.as_str(), "start")?;
+        let staged = Staged::new(rt, [1_000_000, 1_000_500, 1_001_000].as_slice());
+        let noted = self.run_noted(&staged, folder.as_str(), "start")?;
         same(rt, text(&noted.shown), TICKS);
         let last = fs::read(rt, path.as_str())?;
         holds(rt, text(&last).starts_with("{\"now\":1700000000.000,"));
@@ -84,8 +83,8 @@ impl<R: Host, W: Own> Trials<'_, R, W> {
     // A tick is due at once, and the next to be written comes a second later.
     fn a_clock_of_unix_time_follows_no_clock(self) -> Result<(), Fail> {
         let (rt, folder) = (self.rt, self.new_folder()?);
-        let moments = [1_000_000, 1_000_000, 1_001_000];
-        let noted = self.run_noted(moments.as_slice(), folder.as_str(), "unix")?;
+        let staged = Staged::new(rt, [1_000_000, 1_000_000, 1_001_000].as_slice());
+        let noted = self.run_noted(&staged, folder.as_str(), "unix")?;
         same(rt, text(&noted.lines), "+1700000000000\n+1700000001000\n");
         same(rt, text(&noted.shown), DATED_TICKS);
         same(rt, noted.ran.status, 0);
@@ -95,8 +94,8 @@ impl<R: Host, W: Own> Trials<'_, R, W> {
     // The second tick comes too soon after the first to be written. All is written at the end, and shown again.
     fn what_is_heard_is_written_once_a_second_without_a_table(self) -> Result<(), Fail> {
         let (rt, folder) = (self.rt, self.new_folder()?);
-        let moments = [1_000_000, 1_000_400, 1_000_800];
-        let noted = self.run_noted(moments.as_slice(), folder.as_str(), "start")?;
+        let staged = Staged::new(rt, [1_000_000, 1_000_400, 1_000_800].as_slice());
+        let noted = self.run_noted(&staged, folder.as_str(), "start")?;
         same(rt, text(&noted.lines), "+400\n");
         same(rt, text(&noted.shown), TICKS);
         let record = format!(in self.alloc; "{}/record", folder.as_str())?;
@@ -110,8 +109,11 @@ impl<R: Host, W: Own> Trials<'_, R, W> {
 
     fn a_second_later_it_is_written_again(self) -> Result<(), Fail> {
         let (rt, folder) = (self.rt, self.new_folder()?);
-        let moments = [1_000_000, 1_000_400, 1_000_800, 1_001_199, 1_001_400];
-        let noted = self.run_noted(moments.as_slice(), folder.as_str(), "start")?;
+        let staged = Staged::new(
+            rt,
+            [1_000_000, 1_000_400, 1_000_800, 1_001_199, 1_001_400].as_slice(),
+        );
+        let noted = self.run_noted(&staged, folder.as_str(), "start")?;
         same(rt, text(&noted.lines), "+400\n+800\n+1400\n");
         same(rt, text(&noted.shown), MORE_TICKS);
         same(rt, noted.ran.status, 0);
