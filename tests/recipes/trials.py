@@ -1,4 +1,6 @@
 """trials.py - one function for each trial of tests/recipes/try, of tables and of receivers. Its name says what is tried."""
+import json
+import os
 import re
 import time
 
@@ -150,6 +152,25 @@ def a_receiver_that_drops(it):
         it.expect("kill %1 ends the loop", terminal.is_over() and comes(lambda: len(list(terminal.processes())) == 1),
                   list(terminal.processes()))
         it.expect("it connected twice", receiver.connections == 2, receiver.connections)
+
+
+def receivers_that_are_watched(it):
+    """With pipes that this script writes, and 60 seconds of one."""
+    recipe = it.recipe(RUN + "--reopen --watch 60 --json /run/groundstation north south")
+    for name in ("north", "south"):
+        os.mkfifo(it.folder / name)
+    (it.folder / "shown").mkdir()
+    terminal = begin(it, recipe.replace("60", "1").replace("/run/groundstation", "shown"))
+    with open(it.folder / "north", "w") as north:
+        print("*%s;" % KLM, file=north, flush=True)
+        shows(it, terminal)
+        it.expect("the silence is reported, and the pipe without a writer",
+                  terminal.waits("^groundstation: north silent") and terminal.waits("^groundstation: south not open"), terminal.said())
+        print("*%s;" % OTHER, file=north, flush=True)
+        it.expect("it is heard again", terminal.waits("^groundstation: north heard"), terminal.said())
+        north_now = lambda: json.loads((it.folder / "shown/receivers.json").read_text())["receivers"][0]
+        it.expect("a page sees what it has counted", comes(lambda: north_now()["accepted"] == 2), north_now())
+    stops(it, terminal)
 
 
 def a_key_in_the_background(it):
