@@ -20,6 +20,7 @@ fn main(rt: HostRuntime) -> ExitCode {
     let mut err = StandardError::new(error_lines(&rt));
     let alarms = Alarms {
         output: error_lines(&rt),
+        stalls: error_lines(&rt),
         record: error_lines(&rt),
         displays: error_lines(&rt),
         limits: error_lines(&rt),

@@ -55,9 +55,15 @@ cannot_record path reason = codes "cannot record to " ++ path ++ reason_text rea
 abbrev pub unfinished_words : List ℕ → List ℕ
 unfinished_words path = path ++ codes " not read to its end"
 
+-- what is printed once an output takes tables again, after this many were left out
+abbrev pub goes_on_words : ℕ → List ℕ
+goes_on_words count = codes "output goes on, " ++ decimal count ++ codes " tables left out"
+
 abbrev pub fault_words : Fault → List ℕ
 fault_words fault.Read = codes "read failed"
 fault_words fault.Write = codes "write failed"
+fault_words fault.OutputStalled = codes "output stalled"
+fault_words (fault.OutputGoesOn count) = goes_on_words count
 fault_words fault.TooManyReads = codes "too many reads"
 fault_words fault.NoMemory = codes "no memory"
 fault_words (fault.CannotOpen path) = cannot_open path.now

@@ -5,6 +5,8 @@
 pub struct Alarms<A> {
     /// For a failed write of the output, where the job goes on without it.
     pub output: A,
+    /// For an output that nobody reads, and one that is read again.
+    pub stalls: A,
     /// For a failed write of the record.
     pub record: A,
     /// For a failed write for displays.

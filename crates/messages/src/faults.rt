@@ -15,6 +15,10 @@ pub enum Fault<'a> {
     Read,
     /// The output couldn't be written.
     Write,
+    /// The output is read too slowly: tables are left out. It ends no job.
+    OutputStalled,
+    /// The output takes tables again, after as many were left out. It ends no job.
+    OutputGoesOn(u64),
     /// An input hasn't ended after 2^32 - 1 reads.
     TooManyReads,
     /// An allocation was refused.
@@ -49,6 +53,8 @@ impl Display for Fault<'_> {
         match self {
             Fault::Read => f.write_str("read failed"),
             Fault::Write => f.write_str("write failed"),
+            Fault::OutputStalled => f.write_str("output stalled"),
+            Fault::OutputGoesOn(count) => { write!(f, "output goes on, {count} tables left out") }
             Fault::TooManyReads => f.write_str("too many reads"),
             Fault::NoMemory => f.write_str("no memory"),
             Fault::CannotOpen(path) => write!(f, "cannot open {path}"),

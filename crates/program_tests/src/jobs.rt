@@ -109,6 +109,7 @@ struct Ran {
     out: Vec<u8>,
     err: Vec<u8>,
     output_alarm: Vec<u8>,
+    stall_alarm: Vec<u8>,
     record_alarm: Vec<u8>,
     display_alarm: Vec<u8>,
     limit_alarm: Vec<u8>,
@@ -122,6 +123,7 @@ impl Ran {
             out: Vec::new(alloc),
             err: Vec::new(alloc),
             output_alarm: Vec::new(alloc),
+            stall_alarm: Vec::new(alloc),
             record_alarm: Vec::new(alloc),
             display_alarm: Vec::new(alloc),
             limit_alarm: Vec::new(alloc),
@@ -176,6 +178,7 @@ impl<R: System, W: Own> Trials<'_, R, W> {
         let (mut ran, mut err) = (Ran::nothing(alloc), stream(alloc)?);
         let alarms = Alarms {
             output: &mut ran.output_alarm,
+            stalls: &mut ran.stall_alarm,
             record: &mut ran.record_alarm,
             displays: &mut ran.display_alarm,
             limits: &mut ran.limit_alarm,
@@ -206,6 +209,7 @@ impl<R: System, W: Own> Trials<'_, R, W> {
         let (out, mut err) = (Vec::new(alloc), Vec::new(alloc));
         let alarms = Alarms {
             output: io::sink(),
+            stalls: io::sink(),
             record: io::sink(),
             displays: io::sink(),
             limits: io::sink(),

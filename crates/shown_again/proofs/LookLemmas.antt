@@ -9,7 +9,7 @@ use Rattle.station_history.specs.Start.{Start, log_of}
 use Rattle.station_shared.specs.Seats.{Seated, Looks, newcomer}
 use Rattle.station_record.specs.Record.{Grows, RecordedLook, last_after, seen_lists, shown_lists}
 use Rattle.station_reporter.proofs.PrefixLemmas.{begins-same, begins-trans}
-use Rattle.station_reporter.proofs.Common.{seen_by, IsLater, MayHandOver, Showing, Showings, Ticks, looks_of, recorded_by, recorded_look, seat_after, shown_look, text_of, texts}
+use Rattle.station_reporter.proofs.Common.{seen_by, IsLater, MayHandOver, Showing, Showings, Ticks, is_shown, looks_of, recorded_by, recorded_look, seat_after, text_of, texts}
 use Rattle.station_reporter.specs.declared.duties.Duties.{Duties}
 use Rattle.station_reporter.specs.declared.schedule.Due.{Due}
 use Rattle.station_run.proofs.Common.{LastLook, LearnsFrom, Shows, Station}
@@ -108,7 +108,7 @@ last-recorded (Some l ∷ looks) = ap (λ (lists : List (List Entry)). l.seen �
 
 all-recorded : (showings : List Showing) (last : List (Option Seated)) → seen_lists (recorded_by showings ++ recorded_last last) ≡ seen_by (all_looks showings ++ last)
 all-recorded [] last = last-recorded last
-all-recorded (s ∷ rest) last = by-look (all-recorded rest last) s.acting.has_table s.look
+all-recorded (s ∷ rest) last = by-look (all-recorded rest last) (is_shown s) s.look
   where
     by-look : seen_lists (recorded_by rest ++ recorded_last last) ≡ seen_by (all_looks rest ++ last)
         → (shown : Bool) (look : Option Seated) → seen_lists ((recorded_look shown look ++ recorded_by rest) ++ recorded_last last) ≡ seen_by (look ∷ (all_looks rest ++ last))
@@ -123,7 +123,7 @@ last-shown (Some l ∷ looks) = ap (λ (lists : List (List Entry)). l.seen ∷ l
 -- those that are shown are the tables
 pub shown-recorded : (showings : List Showing) (last : List (Option Seated)) → shown_lists (recorded_by showings ++ recorded_last last) ≡ seen_by (looks_of showings ++ last)
 shown-recorded [] last = last-shown last
-shown-recorded (s ∷ rest) last = by-look (shown-recorded rest last) s.acting.has_table s.look
+shown-recorded (s ∷ rest) last = by-look (shown-recorded rest last) (is_shown s) s.look
   where
     by-look : shown_lists (recorded_by rest ++ recorded_last last) ≡ seen_by (looks_of rest ++ last)
         → (shown : Bool) (look : Option Seated) → shown_lists ((recorded_look shown look ++ recorded_by rest) ++ recorded_last last) ≡ seen_by (cond shown look None ∷ (looks_of rest ++ last))

@@ -19,6 +19,7 @@ use Rattle.messages.proofs.Common.{fault_status, status_of, Told}
 use Rattle.messages.specs.Telling.{Alarmed}
 use Rattle.station_reporter.proofs.Common.{Recording, record_status}
 use Rattle.station_reporter.specs.declared.schedule.Tables.{Tables}
+use Rattle.streams.specs.Source.{RingName}
 use Rattle.station_run.specs.Stations.{IsBlank, new_output}
 use Rattle.station_run.proofs.Common.{Begun, IsFirst, RoundStart, RunEnd, RunPlan, Runs, RunsOn, RunsStation, RunsStations, Station, Streams, forget_at, most_between_ticks, no_start, program_limits}
 use Rattle.shown_again.proofs.Common.{HasPrinted, HasRecorded, HasRoom, IsOneStation, ReplayPrints}
@@ -63,10 +64,10 @@ first-zero x y e = grind (arith)
 abbrev ShowsAgain : (site : Site) (before : Option (List ℕ)) (after : Option (Option (List ℕ))) (blank left : Option Recording) → Type 0 → Type 0
 ShowsAgain site before after blank left only = (text lines : List ℕ) × HasPrinted before after text × HasRecorded blank left lines × (unlimited_output (empty_log (program_limits site)) (cuts lines) ≡ text) × (only → HasRoom site lines) × (HasRoom site lines → ReplayPrints site lines text)
 
-module _ (asked : RunPlan) (before told : Option (List ℕ)) (after : Option (Option (List ℕ))) (blank : Recording) (err_old : Told) (end : RunEnd) (is_text : asked.tables.format ≡ Text) (none : blank.recorded ≡ 0)
+module _ (asked : RunPlan) (ring : Option RingName) (before told : Option (List ℕ)) (after : Option (Option (List ℕ))) (blank : Recording) (err_old : Told) (end : RunEnd) (is_text : asked.tables.format ≡ Text) (none : blank.recorded ≡ 0)
     (left : end.out ≡ after) (ended : end.status ≡ 0) (well : record_status end.recording ≡ 0) where
   abbrev old : Streams
-  old = record { out = new_output asked before told; recording = Some blank; err = err_old }
+  old = record { out = new_output asked ring before told; recording = Some blank; err = err_old }
 
   from-first : (begun : Begun) (station : Station) (stations : List Station) → begun.given ≡ no_start asked.site → IsFirst asked begun → station.begun ≡ begun → station.old ≡ old → RunsStation station → RunsOn asked station stations end
       → ShowsAgain asked.site before after (Some blank) end.recording (IsOneStation (station ∷ stations))
@@ -103,7 +104,7 @@ run-replayed asked before after alarm err_old err_new is_text has_file run =
     let leaves = run.leaves in
     let blank = blank-of asked.file alarm.of_record run.blank has_file run.is_blank in
     let both = first-zero _ _ leaves.status_is in
-    let runs : Runs asked (record { out = new_output asked before alarm.of_output; recording = Some blank.0; err = err_old }) run.stations leaves.end =
-    subst (λ (o : Option Recording). Runs asked (record { out = new_output asked before alarm.of_output; recording = o; err = err_old }) run.stations leaves.end) blank.1 leaves.ends_so in
+    let runs : Runs asked (record { out = new_output asked run.ring before alarm.of_output; recording = Some blank.0; err = err_old }) run.stations leaves.end =
+    subst (λ (o : Option Recording). Runs asked (record { out = new_output asked run.ring before alarm.of_output; recording = o; err = err_old }) run.stations leaves.end) blank.1 leaves.ends_so in
     subst (λ (o : Option Recording). ShowsAgain asked.site before after o leaves.end.recording (IsOneStation run.stations)) (sym blank.1)
-    (by-stations asked before alarm.of_output after blank.0 err_old leaves.end is_text blank.2 leaves.out (first-zero _ _ (sym both)) (second-zero _ _ (sym both)) run.stations runs)
+    (by-stations asked run.ring before alarm.of_output after blank.0 err_old leaves.end is_text blank.2 leaves.out (first-zero _ _ (sym both)) (second-zero _ _ (sym both)) run.stations runs)

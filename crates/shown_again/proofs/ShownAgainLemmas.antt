@@ -11,7 +11,7 @@ use Rattle.station_record.specs.ReadBack.{new_log}
 use Rattle.station_record.proofs.RoundLemmas.{first-continues}
 use Rattle.messages.proofs.Common.{Told, fault_status}
 use Rattle.station_reporter.proofs.Common.{IfRecording, Printing, Recording, looks_of, record_status}
-use Rattle.station_reporter.proofs.PrintingLemmas.{unfailed-before}
+use Rattle.station_output.proofs.PrintingLemmas.{unfailed-before}
 use Rattle.station_reporter.specs.declared.duties.Duties.{Duties}
 use Rattle.station_reporter.specs.declared.schedule.Tables.{Tables}
 use Rattle.station_run.proofs.Common.{BeginsRound, Begun, EndsRun, HandsOver, KeepsRecent, RunEnd, RunPlan, RunsOn, RunsStation, Station, no_start, program_limits}

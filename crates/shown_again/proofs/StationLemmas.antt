@@ -1,7 +1,6 @@
 -- What a station printed and recorded, whose output and record have not failed.
 use Rattle.std.proofs.Common.{rules, ◌≡◌, ◌∙◌, ℕ, Bool, true, false, List, [], ◌++◌, Option, Some, None, refl, sym, ap, subst, append-nil, arith, max, flat_map}
 use Rattle.std.specs.Io.KnownBytes.{Appends, Keeps, append_known}
-use Rattle.station_journal.specs.declared.entry.Entry.{Entry}
 use Rattle.station_report.specs.declared.formats.Format.{Format}
 use Rattle.station_report.specs.declared.formats.Format.TheVariants.{Text}
 use Rattle.std.proofs.KnownBytes.{Appends-kept}

@@ -6,6 +6,7 @@ use Rattle.messages.specs.Telling.{Alarmed, fault_words}
 use Rattle.messages.specs.declared.faults.Fault.TheVariants as fault
 use Rattle.station_reporter.proofs.Common.{Recording, is_broken, record_status}
 use Rattle.station_run.proofs.Common.{Begun, EndsRun, IsLost, IsOver, Left, RunEnd, RunPlan, Runs, RunsFrom, RunsOn, RunsStation, Station, Streams}
+use Rattle.streams.specs.Source.{RingName}
 use Rattle.station_run.specs.Stations.{IsBlank, NoRoundAfter, RunsAsked, new_output}
 use Rattle.station_main.specs.Statuses.{ReportsAtOnce, ReportsRecord, StatusOfRun, TellsLines, ToldLine, new_alarm, worst_line}
 use Rattle.station_main.proofs.StatusLemmas.{fault-told, lines-then, no-lines, output-text, output-worst, output_line, round-told, worst-most, worst-then}
@@ -164,8 +165,8 @@ blank-reports (Some file) alarm blank (new, is, is_new) =
     subst (λ (r : Option Recording). ReportsIf (new_alarm alarm) r) (sym is) here
 
 module _ (asked : RunPlan) (before : Option (List ℕ)) (alarm : Alarmed) (err_old err_new : Told) where
-  begins : (blank : Option Recording) → IsBlank asked.file alarm.of_record blank → SoFar asked alarm err_old (record { out = new_output asked before alarm.of_output; recording = blank; err = err_old })
-  begins blank is = record {
+  begins : (ring : Option RingName) (blank : Option Recording) → IsBlank asked.file alarm.of_record blank → SoFar asked alarm err_old (record { out = new_output asked ring before alarm.of_output; recording = blank; err = err_old })
+  begins ring blank is = record {
     lines = [];
     told = no-lines err_old;
     fine = refl;
@@ -195,8 +196,8 @@ module _ (asked : RunPlan) (before : Option (List ℕ)) (alarm : Alarmed) (err_o
   }
   status-of-run after status (inr runs) =
       let leaves = runs.leaves in
-      let old : Streams = record { out = new_output asked before alarm.of_output; recording = runs.blank; err = err_old } in
-      let ended = ends-all asked alarm err_old old runs.stations leaves.end (begins runs.blank runs.is_blank) leaves.ends_so in
+      let old : Streams = record { out = new_output asked runs.ring before alarm.of_output; recording = runs.blank; err = err_old } in
+      let ended = ends-all asked alarm err_old old runs.stations leaves.end (begins runs.ring runs.blank runs.is_blank) leaves.ends_so in
       record {
         lines = ended.lines;
         told = subst (λ (t : Told). TellsLines err_old t ended.lines) leaves.err ended.told;

@@ -40,6 +40,7 @@ pub fn program<
     let mut last = StandardError::new(err);
     let alarms = Alarms {
         output: err,
+        stalls: err,
         record: err,
         displays: err,
         limits: err,
@@ -68,7 +69,7 @@ pub fn obey<
     I: Read + Drop,
     O: Write + Send + Drop,
     A: Write + Send + Drop,
-    E: Write,
+    E: Write + Drop,
 >(
     rt: &R,
     own: W,
@@ -109,7 +110,7 @@ fn do_job<
     I: Read + Drop,
     O: Write + Send + Drop,
     A: Write + Send + Drop,
-    E: Write,
+    E: Write + Drop,
 >(
     host: &Host<'_, R, W>,
     job: Job,

@@ -35,7 +35,7 @@ pub fn exit_code<
     I: Read + Drop,
     O: Write + Send + Drop,
     A: Write + Send + Drop,
-    E: Write,
+    E: Write + Drop,
 >(
     rt: &R,
     own: W,
@@ -82,7 +82,7 @@ fn obey_owned<
     I: Read + Drop,
     O: Write + Send + Drop,
     A: Write + Send + Drop,
-    E: Write,
+    E: Write + Drop,
 >(
     rt: &R,
     own: W,

@@ -1,6 +1,5 @@
 pub mod Common
 pub mod PrefixLemmas
-pub mod PrintingLemmas
 pub mod RecordedLemmas
 pub mod ReportLemmas
 mod ReportTimeLemmas

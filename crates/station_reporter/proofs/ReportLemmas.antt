@@ -7,8 +7,8 @@ use Rattle.station_journal.specs.declared.refusal.Refusal.{Refusal}
 use Rattle.station_report.specs.declared.formats.Format.{Format}
 use Rattle.station_history.proofs.Common.{Start, Known}
 use Rattle.station_shared.specs.Seats.{Seated, Accepted, Refused, Looks}
-use Rattle.station_reporter.proofs.Common.{Acting, AreApart, DoesAct, IsActAt, IsShowing, IsLater, NotesTick, Reports, Showing, Showings, Ticks, TicksAlone, after_table, after_tick, due_moments, has_come, is_writing_due, last_writing, looks_of, seat_after, shown_look, IfRecording, PrintsAndRecords, Recording, Records, recorded_by, recorded_look, Due, Tables, Printing, TakesTexts, is_broken}
-use Rattle.station_reporter.proofs.PrintingLemmas.{takes-nothing, takes-refused, takes-then}
+use Rattle.station_reporter.proofs.Common.{Acting, AreApart, DoesAct, IsActAt, IsShowing, IsLater, LeavesOut, MayNote, NotesTick, Reports, Showing, Showings, ShowsTable, Ticks, TicksAlone, after_table, after_tick, due_moments, has_come, is_shown, is_writing_due, last_writing, looks_of, seat_after, shown_look, IfRecording, PrintsAndRecords, Recording, Records, recorded_by, recorded_look, Due, Tables, MayFail, Printing, TakesTexts, is_broken}
+use Rattle.station_output.proofs.PrintingLemmas.{takes-failure, takes-nothing, takes-refused, takes-then}
 use Rattle.station_reporter.specs.declared.reporter.ReporterResult.{ReporterResult}
 use Rattle.station_reporter.specs.declared.schedule.Act.{Act}
 use Rattle.station_reporter.specs.declared.schedule.Act.TheVariants as act
@@ -45,7 +45,41 @@ apart_snoc : (last : Option ℕ) (showings : List Showing) (showing : Showing) �
 apart_snoc last [] showing apart due = (due, tt)
 apart_snoc last (r ∷ rs) showing apart due = (apart.0, apart_snoc (last_writing last r) rs showing apart.1 due)
 
--- one more table, by what its printing ensures
+-- one more table, which is printed or left out
+pub record ShowsOne (format : Format) (station : Start) (looks : List (Option Seated)) (old new : Seated) (first after : Printing) (was is : Option Recording) : Type 0 where
+  pub look : Option Seated
+  pub has_room : Bool
+  pub looked : (look ≡ None) × (new ≡ old) ⊎ (look ≡ Some new) × Looks station old new
+  pub takes : TakesTexts format station (looks ++ cond has_room look None ∷ []) first after
+  pub records : IfRecording (Records (recorded_look has_room look)) was is
+
+pub shown_at_most : (format : Format) (station : Start) (looks : List (Option Seated)) (old new : Seated) (first before after : Printing) (was is : Option Recording)
+    → TakesTexts format station looks first before → is_broken before ≡ false → ShowsTable format station old new before after was is
+    → ShowsOne format station looks old new first after was is
+shown_at_most format station looks old new first before after was is so_far well (inl (inl (prints, records))) = record {
+  look = Some new;
+  has_room = true;
+  looked = inr (refl, prints.looks);
+  takes = takes-then format station looks (Some new ∷ []) first before after so_far prints.takes;
+  records = records;
+}
+shown_at_most format station looks old new first before after was is so_far well (inl (inr (passes, unchanged))) = record {
+  look = None;
+  has_room = true;
+  looked = inl (refl, passes.same_seat);
+  takes = takes-then format station looks (None ∷ []) first before after so_far (takes-refused format station before after passes.same_output well);
+  records = no-more-records was is unchanged;
+}
+shown_at_most format station looks old new first before after was is so_far well (inr out) = by-notes out.is_noted out.notes
+  where
+    takes : TakesTexts format station (looks ++ None ∷ []) first after
+    takes = takes-then format station looks (None ∷ []) first before after so_far (takes-refused format station before after out.same well)
+
+    by-notes : (is_noted : Bool) → MayNote station old new was is is_noted → ShowsOne format station looks old new first after was is
+    by-notes true noted = record { look = Some new; has_room = false; looked = inr (refl, noted.looks); takes = takes; records = noted.records }
+    by-notes false refused = record { look = None; has_room = false; looked = inl (refl, refused.0); takes = takes; records = no-more-records was is refused.1 }
+
+-- a table that is printed after the showings
 pub record PrintsOne (format : Format) (station : Start) (looks : List (Option Seated)) (old new : Seated) (first after : Printing) (was is : Option Recording) : Type 0 where
   pub look : Option Seated
   pub looked : (look ≡ None) × (new ≡ old) ⊎ (look ≡ Some new) × Looks station old new
@@ -134,15 +168,15 @@ one_more_sleep station tables first due now given given_before given_now old new
 -- a tick alone, at a time at which only that is due, and what it shows and records
 module _ (station : Start) (tables : Tables) (first : Due) (due : Due) (now : ℕ) (given given_before given_now : Option (List ℕ)) (old mid ticked new : Seated) (look : Option Seated) (start before : Printing) (from was is : Option Recording) (last next : Option ℕ) where
   one_alone : ReportsTo station tables first due given given_before old mid start before from was last → is_broken before ≡ false → Appends given_before given_now (now ∷ []) → now < due.table → has_come due.tick now ≡ true
-      → (shows : (from : Seated) → IsLater station from mid → IsShowing station from (record { acting = record { at = now; has_table = false }; ticked = ticked; look = look }))
-      → seat_after (record { acting = record { at = now; has_table = false }; ticked = ticked; look = look }) ≡ new
-      → (is_some look ≡ true → is_writing_due last now ≡ true) → next ≡ last_writing last (record { acting = record { at = now; has_table = false }; ticked = ticked; look = look })
+      → (shows : (from : Seated) → IsLater station from mid → IsShowing station from (record { acting = record { at = now; has_table = false }; ticked = ticked; look = look; has_room = true }))
+      → seat_after (record { acting = record { at = now; has_table = false }; ticked = ticked; look = look; has_room = true }) ≡ new
+      → (is_some look ≡ true → is_writing_due last now ≡ true) → next ≡ last_writing last (record { acting = record { at = now; has_table = false }; ticked = ticked; look = look; has_room = true })
       → IfRecording (Records (recorded_look false look)) was is
       → ReportsTo station tables first (after_tick tables.pace due now) given given_now old new start before from is next
   one_alone so_far well gives early come shows end is_due next_is records =
       let more = tick-due tables.pace due now early come in
       let showings = so_far.reports.showings in
-      let showing : Showing = record { acting = record { at = now; has_table = false }; ticked = ticked; look = look } in
+      let showing : Showing = record { acting = record { at = now; has_table = false }; ticked = ticked; look = look; has_room = true } in
       record {
         moments = so_far.moments ++ now ∷ [];
         are_given = Appends-trans given given_before given_now _ _ so_far.are_given gives;
@@ -178,14 +212,14 @@ one_more_tick station tables first due now given given_before given_now old mid 
     (λ shown later.
     let accepted = accepted_later station shown mid noted.ticked now noted.receipt later noted.accepted in
     record { ticks = inl (noted.receipt, accepted); looks = noted.notes.looks; alone = λ _. inr (noted.receipt, accepted) })
-    refl (λ _. noted.due) noted.notes.next_is noted.notes.records
+    refl (λ _. noted.due) noted.next_is noted.notes.records
 
 end_of : (station : Start) (ticked new : Seated) (at : ℕ) (look : Option Seated) → (look ≡ None) × (new ≡ ticked) ⊎ (look ≡ Some new) × Looks station ticked new
-    → seat_after (record { acting = record { at = at; has_table = true }; ticked = ticked; look = look }) ≡ new
-end_of station ticked new at None (inl p) = sym p.1
-end_of station ticked new at None (inr p) = absurd (search rules)
-end_of station ticked new at (Some look) (inl p) = absurd (search rules)
-end_of station ticked new at (Some look) (inr p) = cc
+    → (has_room : Bool) → seat_after (record { acting = record { at = at; has_table = true }; ticked = ticked; look = look; has_room = has_room }) ≡ new
+end_of station ticked new at None (inl p) has_room = sym p.1
+end_of station ticked new at None (inr p) has_room = absurd (search rules)
+end_of station ticked new at (Some look) (inl p) has_room = absurd (search rules)
+end_of station ticked new at (Some look) (inr p) has_room = cc
 
 looked_is : (station : Start) (ticked new : Seated) (look : Option Seated) → (look ≡ None) × (new ≡ ticked) ⊎ (look ≡ Some new) × Looks station ticked new → IfSome look (λ l. Looks station ticked l)
 looked_is station ticked new None p = tt
@@ -200,13 +234,13 @@ ticks_of station old new at name n (Err refusal) accepted refused = inr (refusal
 
 pub one_more_showing : (station : Start) (tables : Tables) (first : Due) (due : Due) (now : ℕ) (given given_before given_now : Option (List ℕ)) (old mid ticked new : Seated) (start before after : Printing) (from was is : Option Recording) (last : Option ℕ)
     → ReportsTo station tables first due given given_before old mid start before from was last → is_broken before ≡ false → Appends given_before given_now (now ∷ []) → due.table ≤ now
-    → Ticks station mid now ticked → PrintsAndRecords tables.format station ticked new before after was is
+    → Ticks station mid now ticked → ShowsTable tables.format station ticked new before after was is
     → ReportsTo station tables first (after_table tables.pace now) given given_now old new start after from is (Some now)
 one_more_showing station tables first due now given given_before given_now old mid ticked new start before after from was is last so_far well gives late ticks prints =
     let more = table-due tables.pace due now late in
     let showings = so_far.reports.showings in
-    let p = printed_at_most tables.format station (looks_of showings) ticked new start before after was is so_far.reports.takes well prints in
-    let showing : Showing = record { acting = record { at = now; has_table = true }; ticked = ticked; look = p.look } in
+    let p = shown_at_most tables.format station (looks_of showings) ticked new start before after was is so_far.reports.takes well prints in
+    let showing : Showing = record { acting = record { at = now; has_table = true }; ticked = ticked; look = p.look; has_room = p.has_room } in
     let shows : IsShowing station so_far.reports.shown showing = record { ticks = ticks_later station so_far.reports.shown mid _ now so_far.reports.later ticks; looks = looked_is station ticked new p.look p.looked; alone = λ (e : true ≡ false). absurd (search rules) } in
     record {
       moments = so_far.moments ++ now ∷ [];
@@ -219,7 +253,7 @@ one_more_showing station tables first due now given given_before given_now old m
         keeps = record {
           acts = acts_snoc showings showing ∙ ap (λ (acts : List Acting). acts ++ showing.acting ∷ []) so_far.reports.keeps.acts
               ∙ sym (acts-then tables.pace first due (after_table tables.pace now) now so_far.moments _ so_far.reports.next_is more);
-          walk = subst (Showings station old (showings ++ showing ∷ [])) (end_of station ticked new now p.look p.looked)
+          walk = subst (Showings station old (showings ++ showing ∷ [])) (end_of station ticked new now p.look p.looked p.has_room)
               (Showings_snoc station old so_far.reports.shown showings showing so_far.reports.keeps.walk shows);
           apart = apart_snoc None showings showing so_far.reports.keeps.apart (λ (e : true ≡ false). absurd (search rules));
         };
@@ -228,6 +262,24 @@ one_more_showing station tables first due now given given_before given_now old m
       };
       written_is = sym (last_snoc None showings showing);
     }
+
+-- it is learned that a write failed, if one did
+pub one_more_failure : (station : Start) (tables : Tables) (first : Due) (due : Due) (given given_now : Option (List ℕ)) (old new : Seated) (before mid after : Printing) (was is : Option Recording) (written : Option ℕ)
+    → ReportsTo station tables first due given given_now old new before mid was is written → MayFail mid after → ReportsTo station tables first due given given_now old new before after was is written
+one_more_failure station tables first due given given_now old new before mid after was is written so_far fails = record {
+  moments = so_far.moments;
+  are_given = so_far.are_given;
+  reports = record {
+    showings = so_far.reports.showings;
+    shown = so_far.reports.shown;
+    keeps = so_far.reports.keeps;
+    later = so_far.reports.later;
+    next_is = so_far.reports.next_is;
+    takes = takes-failure tables.format station (looks_of so_far.reports.showings) before mid after so_far.reports.takes fails;
+    records = so_far.reports.records;
+  };
+  written_is = so_far.written_is;
+}
 
 -- a look that shows nothing
 pub one_more_look : (station : Start) (tables : Tables) (first : Due) (due : Due) (given given_now : Option (List ℕ)) (old mid new : Seated) (before after : Printing) (was is : Option Recording) (written : Option ℕ)

@@ -3,4 +3,3 @@ pub mod LimitAlarmLaws
 pub mod LimitAlarms
 pub mod Recorded
 pub mod Reporter
-pub mod Tables

@@ -11,7 +11,7 @@ use Rattle.station_history.specs.Start.{Start}
 use Rattle.station_shared.specs.Seats.{Seated, Accepted, Refused, Looks}
 use Rattle.station_record.specs.Record.{RecordedLook}
 use Rattle.station_reporter.specs.Recorded.{IfRecording, PrintsAndRecords, Recording, Records, recorded_look}
-use Rattle.station_reporter.specs.Tables.{Printing, TakesTexts, is_broken}
+use Rattle.station_output.specs.Tables.{Printing, TakesTexts, is_broken}
 use Rattle.station_reporter.specs.declared.schedule.Act.{Act}
 use Rattle.station_reporter.specs.declared.schedule.Act.TheVariants as act
 use Rattle.station_reporter.specs.declared.schedule.Due.{Due}
@@ -94,26 +94,31 @@ writing_interval pace = option_map_or (λ tick. min pace.every (max tick 1000)) 
 
 -- ---- what it prints
 
--- a tick alone or with a table: its time, the seat after the tick, and the seat after the look, unless there was none. Only a
--- look with a table is shown
+-- a tick alone or with a table: its time, the seat after the tick, and the seat after the look, unless there was none; and whether the
+-- output had room for the table
 pub record Showing : Type 0 where
   pub acting : Acting
   pub ticked : Seated
   pub look : Option Seated
+  pub has_room : Bool
 
 abbrev pub seat_after : Showing → Seated
 seat_after showing = unwrap_or showing.look showing.ticked
 
+-- only a look with a table is shown, for which the output had room
+abbrev pub is_shown : Showing → Bool
+is_shown showing = showing.acting.has_table && showing.has_room
+
 -- the look that is shown
 abbrev pub shown_look : Showing → Option Seated
-shown_look showing = cond showing.acting.has_table showing.look None
+shown_look showing = cond (is_shown showing) showing.look None
 
 abbrev pub looks_of : List Showing → List (Option Seated)
 looks_of showings = map shown_look showings
 
 -- all looks as they are recorded
 abbrev pub recorded_by : List Showing → List RecordedLook
-recorded_by showings = flat_map (λ (showing : Showing). recorded_look showing.acting.has_table showing.look) showings
+recorded_by showings = flat_map (λ (showing : Showing). recorded_look (is_shown showing) showing.look) showings
 
 -- the time at which what is heard was last written, if it was: with a table, or by a look after a tick alone
 abbrev pub last_writing : Option ℕ → Showing → Option ℕ
@@ -124,15 +129,15 @@ abbrev pub Ticks : Start → Seated → ℕ → Seated → Type 0
 Ticks start old at new =
     ((receipt : Known) × Accepted start old new (Tick old.number at) receipt) ⊎ ((refusal : Refusal) × Refused start old new (Tick old.number at) refusal)
 
--- at this time the seat looks, and what it has seen is recorded without a `?`
-pub record Notes (start : Start) (at : ℕ) (old new : Seated) (was is : Option Recording) (next : Option ℕ) : Type 0 where
+-- the seat looks, and what it has seen is recorded without a `?`
+pub record Notes (start : Start) (old new : Seated) (was is : Option Recording) : Type 0 where
   pub looks : Looks start old new
   pub records : IfRecording (Records (recorded_look false (Some new))) was is
-  pub next_is : next ≡ Some at
 
--- or the look is refused, and nothing is done
-abbrev pub MayNote : Start → (at : ℕ) → Seated → Seated → Option Recording → Option Recording → (last next : Option ℕ) → Type 0
-MayNote start at old new was is last next = Notes start at old new was is next ⊎ ((new ≡ old) × (is ≡ was) × (next ≡ last))
+-- that, or the look is refused, and nothing is done
+abbrev pub MayNote : Start → Seated → Seated → Option Recording → Option Recording → (is_noted : Bool) → Type 0
+MayNote start old new was is true = Notes start old new was is
+MayNote start old new was is false = (new ≡ old) × (is ≡ was)
 
 -- a tick alone is accepted where a writing is due, and what the seat has seen is noted
 pub record NotesTick (start : Start) (at : ℕ) (old new : Seated) (was is : Option Recording) (last next : Option ℕ) : Type 0 where
@@ -140,20 +145,31 @@ pub record NotesTick (start : Start) (at : ℕ) (old new : Seated) (was is : Opt
   pub receipt : Known
   pub accepted : Accepted start old ticked (Tick old.number at) receipt
   pub due : is_writing_due last at ≡ true
-  pub notes : Notes start at ticked new was is next
+  pub notes : Notes start ticked new was is
+  pub next_is : next ≡ Some at
 
 -- it ticks alone, and notes nothing or what it has seen
 abbrev pub TicksAlone : Start → (at : ℕ) → Seated → Seated → Option Recording → Option Recording → (last next : Option ℕ) → Type 0
 TicksAlone start at old new was is last next = (Ticks start old at new × (is ≡ was) × (next ≡ last)) ⊎ NotesTick start at old new was is last next
 
--- what a reporter does: it sleeps; or it ticks alone; or it ticks, and the table is printed and recorded
+-- where the output has no room, a table is left out: what the seat sees is recorded without a `?`, unless the look is refused
+pub record LeavesOut (start : Start) (old new : Seated) (before after : Printing) (was is : Option Recording) : Type 0 where
+  pub same : after ≡ before
+  pub is_noted : Bool
+  pub notes : MayNote start old new was is is_noted
+
+-- a table that is due is printed and recorded, or it is left out
+abbrev pub ShowsTable : Format → Start → Seated → Seated → Printing → Printing → Option Recording → Option Recording → Type 0
+ShowsTable format start old new before after was is = PrintsAndRecords format start old new before after was is ⊎ LeavesOut start old new before after was is
+
+-- what a reporter does: it sleeps; or it ticks alone; or it ticks, and the table is shown
 abbrev pub DoesAct : {K : Type 0} → (K → Option Recording) → Format → Start → Act → ReporterResult Seated Printing K → ReporterResult Seated Printing K → Type 0
 DoesAct record_of format start (act.Sleep pause) old new = new ≡ old
 DoesAct record_of format start (act.Tick at next) old new =
     TicksAlone start at old.seat new.seat (record_of old.beside) (record_of new.beside) old.written_at new.written_at
     × (new.out ≡ old.out) × (new.due ≡ next) × (new.asked_at ≡ old.asked_at)
 DoesAct record_of format start (act.Print at next) old new =
-    (ticked : Seated) × Ticks start old.seat at ticked × PrintsAndRecords format start ticked new.seat old.out new.out (record_of old.beside) (record_of new.beside)
+    (ticked : Seated) × Ticks start old.seat at ticked × ShowsTable format start ticked new.seat old.out new.out (record_of old.beside) (record_of new.beside)
     × (new.due ≡ next) × (new.asked_at ≡ old.asked_at) × (new.written_at ≡ Some at)
 
 -- the seat ticks, and then may look; after a tick alone it looks only if that was accepted

@@ -5,10 +5,10 @@ ghost use Rattle.station_reporter.specs.Reporter.{MayNote, TicksAlone};
 use crate::bell::Bells;
 use crate::beside::Beside;
 use crate::displays::{put_table, table_for};
-use crate::printer::Printer;
 use crate::recorder::record_look;
 use crate::reporter::ReporterResult;
 use crate::schedule::is_writing_due;
+use station_output::Printer;
 use station_shared::{Seat, Station, StationName};
 use std::fs::File;
 use std::io::Write;
@@ -23,7 +23,6 @@ pub(crate) fn tick_alone<
     const N: usize,
     L: StationName,
     R: Wait + Clock + Files<File = File>,
-    S: Sink,
     T: Sink,
     A: Write,
 >(
@@ -31,8 +30,8 @@ pub(crate) fn tick_alone<
     station: &Station<N, L>,
     bells: &Bells,
     at: u64,
-    mut reported: ReporterResult<Seat<N, L>, Printer<S, A>, Beside<T, A>>,
-) -> ReporterResult<Seat<N, L>, Printer<S, A>, Beside<T, A>>
+    mut reported: ReporterResult<Seat<N, L>, Printer<A>, Beside<T, A>>,
+) -> ReporterResult<Seat<N, L>, Printer<A>, Beside<T, A>>
     ensures ticks { TicksAlone L.start at reported.seat result.seat reported.beside.record result.beside.record
         reported.written_at result.written_at }
     ensures out { result.out ≡ reported.out }
@@ -43,37 +42,37 @@ pub(crate) fn tick_alone<
     match ticked {
         Ok(_) if is_writing_due(reported.written_at, at) => {
             let seat = reported.seat;
-            let (beside, written_at) = (&mut reported.beside, &mut reported.written_at);
-            reported.seat = note(rt, station, at, seat, beside, written_at);
+            reported.beside.date(rt, at);
+            let (seat, is_noted) = note(rt, station, seat, &mut reported.beside);
+            reported.seat = seat;
+            if is_noted {
+                reported.written_at = Some(at);
+            }
             reported
         }
         _ => reported,
     }
 }
 
-// Records what the seat sees, without a `?`, if there is a record, and puts its table where displays find it, if that is asked.
-// Does nothing where the look is refused.
-fn note<const N: usize, L: StationName, R: Wait + Clock + Files<File = File>, T: Sink, A: Write>(
+/// Records what the seat sees, without a `?`, if there is a record, and puts its table where displays find it, if that is asked.
+/// Does nothing where the look is refused. Answers whether it wasn't.
+pub(crate) fn note<const N: usize, L: StationName, R: Wait + Files<File = File>, T: Sink, A: Write>(
     rt: &R,
     station: &Station<N, L>,
-    at: u64,
     seat: Seat<N, L>,
     beside: &mut Beside<T, A>,
-    written_at: &mut Option<u64>,
-) -> Seat<N, L>
-    ensures { MayNote L.start at seat result beside.old.record beside.new.record written_at.old written_at.new }
+) -> (Seat<N, L>, bool)
+    ensures { MayNote L.start seat result.0 beside.old.record beside.new.record result.1 }
 {
     match seat.look() {
         Ok(look) => {
             let count = look.entries();
-            beside.date(rt, at);
             let for_displays = table_for(&beside.displays, &look);
             let seat = look.done();
             record_look(&mut beside.record, rt, station, &seat, count, false);
             put_table(&mut beside.displays, &beside.watch, rt, for_displays);
-            *written_at = Some(at);
-            seat
+            (seat, true)
         }
-        Err(seat) => seat,
+        Err(seat) => (seat, false),
     }
 }

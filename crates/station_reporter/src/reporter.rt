@@ -2,20 +2,20 @@
 ghost use Rattle.std.specs.Prelude.{◌≡◌, ◌≤◌, ℕ, List, None, false, length, true};
 ghost use Rattle.std.specs.Io.KnownBytes.{Appends};
 ghost use Rattle.station_reporter.specs.Recorded.{PrintsAndRecords};
-ghost use Rattle.station_reporter.specs.Reporter.{DoesAct, IsLater, Reports, ReportsByAClock};
-ghost use Rattle.station_reporter.specs.Tables.{is_broken};
+ghost use Rattle.station_reporter.specs.Reporter.{DoesAct, IsLater, Reports, ReportsByAClock, ShowsTable};
+ghost use Rattle.station_output.specs.Tables.{is_broken};
 
 use crate::bell::{Bell, Bells};
 use crate::beside::Beside;
 use crate::displays::{put_table, table_for};
 use crate::duties::Duties;
-use crate::noting::tick_alone;
-use crate::printer::Printer;
+use crate::noting::{note, tick_alone};
 use crate::recorder::record_look;
 use crate::requests::Requests;
 use crate::schedule::{
     Act, Due, ElapsedClock, LONGEST_SLEEP, Moments, RunClock, act_at, after_tick,
 };
+use station_output::Printer;
 use station_report::Format;
 use station_shared::{Seat, Station, StationName};
 use std::fs::File;
@@ -54,9 +54,9 @@ pub struct Reporter<S, O, K> {
 #[derive(Drop)]
 pub struct ReportsFrom<S, O, K>(pub Snapshot<Reporter<S, O, K>>);
 
-impl<const N: usize, L: StationName, S: Sink, T: Sink, A: Write> Promise<
-    ReporterResult<Seat<N, L>, Printer<S, A>, Beside<T, A>>,
-> for ReportsFrom<Seat<N, L>, Printer<S, A>, Beside<T, A>> {
+impl<const N: usize, L: StationName, T: Sink, A: Write> Promise<
+    ReporterResult<Seat<N, L>, Printer<A>, Beside<T, A>>,
+> for ReportsFrom<Seat<N, L>, Printer<A>, Beside<T, A>> {
     ghost use Rattle.station_reporter.specs.Reporter.{HasReported};
 
     ghost kept_by = { λ given reported. HasReported (λ b. b.record) L.start given.0.value reported };
@@ -74,7 +74,6 @@ pub fn report<
     const N: usize,
     L: StationName,
     R: Wait + Clock + Files<File = File>,
-    S: Sink,
     T: Sink,
     A: Write,
 >(
@@ -83,8 +82,8 @@ pub fn report<
     bells: &Bells,
     requests: &Requests,
     clock: RunClock,
-    reporter: Reporter<Seat<N, L>, Printer<S, A>, Beside<T, A>>,
-) -> ReporterResult<Seat<N, L>, Printer<S, A>, Beside<T, A>>
+    reporter: Reporter<Seat<N, L>, Printer<A>, Beside<T, A>>,
+) -> ReporterResult<Seat<N, L>, Printer<A>, Beside<T, A>>
     ensures { ReportsByAClock L.start reporter.duties result.due result.asked_at reporter.seat result.seat
         reporter.out result.out reporter.beside.record result.beside.record }
 {
@@ -136,7 +135,6 @@ fn report_at<
     const N: usize,
     L: StationName,
     R: Wait + Clock + Files<File = File>,
-    S: Sink,
     T: Sink,
     A: Write,
     M: Moments,
@@ -145,12 +143,9 @@ fn report_at<
     station: &Station<N, L>,
     bells: &Bells,
     requests: &Requests,
-    reporter: Reporter<Seat<N, L>, Printer<S, A>, Beside<T, A>>,
+    reporter: Reporter<Seat<N, L>, Printer<A>, Beside<T, A>>,
     moments: &mut M,
-) -> (
-    ReporterResult<Seat<N, L>, Printer<S, A>, Beside<T, A>>,
-    bool,
-)
+) -> (ReporterResult<Seat<N, L>, Printer<A>, Beside<T, A>>, bool)
     ensures reports { (given : List ℕ) × Appends (M.given moments.old) (M.given moments.new) given
         × Reports L.start reporter.duties.tables reporter.duties.due result.0.due given reporter.seat result.0.seat
         reporter.out result.0.out reporter.beside.record result.0.beside.record }
@@ -161,6 +156,7 @@ fn report_at<
     let duties = reporter.duties;
     let (mut reported, mut now) = (begin(reporter), 0);
     for _ in rt.forever() {
+        reported.out.learn();
         if reported.out.is_broken() || bells.ended.has_rung() {
             break;
         }
@@ -199,21 +195,14 @@ fn begin<S, O, K>(reporter: Reporter<S, O, K>) -> ReporterResult<S, O, K>
 }
 
 // Sleeps, ticks alone, or ticks and prints the table.
-fn do_act<
-    const N: usize,
-    L: StationName,
-    R: Wait + Clock + Files<File = File>,
-    S: Sink,
-    T: Sink,
-    A: Write,
->(
+fn do_act<const N: usize, L: StationName, R: Wait + Clock + Files<File = File>, T: Sink, A: Write>(
     rt: &R,
     station: &Station<N, L>,
     bells: &Bells,
     format: Format,
     act: Act,
-    mut reported: ReporterResult<Seat<N, L>, Printer<S, A>, Beside<T, A>>,
-) -> ReporterResult<Seat<N, L>, Printer<S, A>, Beside<T, A>>
+    mut reported: ReporterResult<Seat<N, L>, Printer<A>, Beside<T, A>>,
+) -> ReporterResult<Seat<N, L>, Printer<A>, Beside<T, A>>
     ensures { DoesAct (λ b. b.record) format L.start act reported result }
 {
     match act {
@@ -231,12 +220,31 @@ fn do_act<
             let seat = reported.seat;
             let (out, beside) = (&mut reported.out, &mut reported.beside);
             beside.date(rt, at);
-            reported.seat = print_and_record(rt, station, seat, format, out, beside);
+            reported.seat = show(rt, station, seat, format, out, beside);
             reported.due = next_due;
             reported.written_at = Some(at);
         }
     }
     reported
+}
+
+// Prints the table as the seat sees it, or leaves it out where the output has no room for it. Either is recorded, and the table is
+// put where displays find it, if that is asked.
+fn show<const N: usize, L: StationName, R: Wait + Clock + Files<File = File>, T: Sink, A: Write>(
+    rt: &R,
+    station: &Station<N, L>,
+    seat: Seat<N, L>,
+    format: Format,
+    out: &mut Printer<A>,
+    beside: &mut Beside<T, A>,
+) -> Seat<N, L>
+    ensures { ShowsTable format L.start seat result out.old out.new beside.old.record beside.new.record }
+{
+    if out.has_room(rt) {
+        return print_and_record(rt, station, seat, format, out, beside);
+    }
+    out.leave_out();
+    note(rt, station, seat, beside).0
 }
 
 // How many entries the journal has by a look, which prints nothing. 0 if the look is refused.
@@ -260,7 +268,6 @@ pub fn print_and_record<
     const N: usize,
     L: StationName,
     R: Wait + Files<File = File>,
-    S: Sink,
     T: Sink,
     A: Write,
 >(
@@ -268,7 +275,7 @@ pub fn print_and_record<
     station: &Station<N, L>,
     seat: Seat<N, L>,
     format: Format,
-    out: &mut Printer<S, A>,
+    out: &mut Printer<A>,
     beside: &mut Beside<T, A>,
 ) -> Seat<N, L>
     ensures { PrintsAndRecords format L.start seat result out.old out.new beside.old.record beside.new.record }
@@ -280,7 +287,7 @@ pub fn print_and_record<
         Ok(look) => {
             let count = look.entries();
             let for_displays = table_for(&beside.displays, &look);
-            let seat = out.print(look, format);
+            let seat = out.print(rt, look, format);
             record_look(&mut beside.record, rt, station, &seat, count, true);
             put_table(&mut beside.displays, &beside.watch, rt, for_displays);
             seat

@@ -51,7 +51,7 @@ learned_number old (seat ∷ seats) new (mid, learned, rest) = learned_number mi
 
 pub last_numbered : {K : Type 0} (record_of : K → Option Recording) (format : Format) (start : Start) (none : Bool) (old new : ReporterResult Seated Printing K) → PrintsLast record_of format start none old new → new.seat.number ≡ old.seat.number
 last_numbered record_of format start true old new same = ap (λ (r : ReporterResult Seated Printing _). r.seat.number) same
-last_numbered record_of format start false old new (prints, due, asked) = printed_number format start old.seat new.seat old.out new.out (record_of old.beside) (record_of new.beside) prints
+last_numbered record_of format start false old new (printed, prints, fails, due, asked) = printed_number format start old.seat new.seat old.out printed (record_of old.beside) (record_of new.beside) prints
   where
     printed_number : (format : Format) (start : Start) (old new : Seated) (before after : Printing) (was is : Option Recording) → PrintsAndRecords format start old new before after was is → new.number ≡ old.number
     printed_number format start old new before after was is (inl prints) = prints.0.looks.number

@@ -17,7 +17,10 @@ use Rattle.messages.specs.declared.faults.Fault.TheVariants as fault
 use Rattle.station_paths.specs.Faults.{IsUnopened}
 use Rattle.station_run.specs.Stations.{CannotStart, ClosesOutput, IsBlank, NoRoundAfter}
 use Rattle.station_run.proofs.ReceiverLemmas.{pumped-take}
-use Rattle.station_reporter.proofs.Common.{IfRecording, Recording, Records, MayHandOver, Printing, ReportsByAClock, is_broken, looks_of, recorded_by, TakesTexts}
+use Rattle.station_reporter.proofs.Common.{IfRecording, PrintsAndRecords, Recording, Records, MayHandOver, Printing, ReportsByAClock, is_broken, looks_of, recorded_by, TakesTexts}
+use Rattle.station_output.proofs.Common.{based, put_after}
+use Rattle.station_output.proofs.PrintingLemmas.{based-fails, based-takes, same-ring, takes-failure}
+use Rattle.station_report.specs.declared.formats.Format.{Format}
 use Rattle.station_reporter.proofs.RecordedLemmas.{last-record}
 use Rattle.station_reporter.proofs.ReportLemmas.{printed_at_most}
 use Rattle.station_reporter.specs.declared.duties.Duties.{Duties}
@@ -118,11 +121,11 @@ module _ {K : Type 0} (record_of : K → Option Recording) (begun : Begun) (star
 
   shows-last : (ended : Seated) (report last : ReporterResult Seated Printing K) → false ≡ (hands_over || is_broken report.out) → hands_over ≡ (is_some report.asked_at && may_go_on sources counted) → HasShown ended report
       → PrintsLast record_of begun.duties.tables.format start false report last → Shows (reported last)
-  shows-last ended report last none hands (learns, by_clock) (prints, due_is, asked_is) =
+  shows-last ended report last none hands (learns, by_clock) (printed, prints, fails, due_is, asked_is) =
       let well : is_broken report.out ≡ false = none_broken hands_over (is_broken report.out) none in
       let reports = by_clock.reports in
       let looks = looks_of reports.showings in
-      let p = printed_at_most begun.duties.tables.format start looks report.seat last.seat before report.out last.out (record_of report.beside) (record_of last.beside) reports.takes well prints in
+      let p = printed_at_most begun.duties.tables.format start looks report.seat last.seat before report.out printed (record_of report.beside) (record_of last.beside) reports.takes well prints in
       let asks = subst (λ (b : Bool). MayHandOver start begun.duties report.asked_at by_clock.due report.due by_clock.mid ended b) well by_clock.hands_over in
       record {
         moments = by_clock.moments;
@@ -143,7 +146,7 @@ module _ {K : Type 0} (record_of : K → Option Recording) (begun : Begun) (star
         looks = subst (λ (b : Bool). LastLook start report.seat last.seat b (p.look ∷ [])) (none ∙ ap (λ (b : Bool). hands_over || b) well) (one_look start report.seat last.seat p.look p.looked);
         broken = λ none_is. absurd (let bad : false ≡ true = none ∙ ap (λ (b : Bool). hands_over || b) well ∙ none_is in search rules);
         is_broken = refl;
-        takes = p.takes;
+        takes = takes-failure begun.duties.tables.format start (looks ++ p.look ∷ []) before printed last.out p.takes fails;
         records = last-record (recorded_by reports.showings) p.look was (record_of report.beside) (record_of last.beside) reports.records p.records;
       }
 
@@ -151,6 +154,65 @@ module _ {K : Type 0} (record_of : K → Option Recording) (begun : Begun) (star
       → PrintsLast record_of begun.duties.tables.format start none report last → Shows (reported last)
   shows ended report last true none hands by_clock prints = subst (λ r. Shows (reported r)) (sym prints) (shows-none ended report none hands by_clock)
   shows ended report last false none hands by_clock prints = shows-last ended report last none hands by_clock prints
+
+-- ---- an output that had taken bytes before
+
+-- the same with what its output had taken before
+abbrev pub based_result : {K : Type 0} → Option (List ℕ) → ReporterResult Seated Printing K → ReporterResult Seated Printing K
+based_result before report = record { seat = report.seat; out = based before report.out; beside = report.beside; due = report.due; asked_at = report.asked_at; written_at = report.written_at }
+
+pub based-clock : (taken : Option (List ℕ)) (start : Start) (duties : Duties) (next : Due) (asked_at : Option ℕ) (old new : Seated) (first before after : Printing) (was is : Option Recording) → first ≡ based taken before
+    → ReportsByAClock start duties next asked_at old new before after was is → ReportsByAClock start duties next asked_at old new first (based taken after) was is
+based-clock taken start duties next asked_at old new first before after was is same by_clock =
+    let reports = by_clock.reports in
+    subst (λ (o : Printing). ReportsByAClock start duties next asked_at old new o (based taken after) was is) (sym same)
+    (record {
+      moments = by_clock.moments;
+      due = by_clock.due;
+      mid = by_clock.mid;
+      reports = record {
+        showings = reports.showings;
+        shown = reports.shown;
+        keeps = reports.keeps;
+        later = reports.later;
+        next_is = reports.next_is;
+        takes = based-takes taken duties.tables.format start (looks_of reports.showings) before after reports.takes;
+        records = reports.records;
+      };
+      hands_over = by_clock.hands_over;
+    })
+
+based-prints : (taken : Option (List ℕ)) (format : Format) (start : Start) (old new : Seated) (before after : Printing) (was is : Option Recording) → PrintsAndRecords format start old new before after was is
+    → PrintsAndRecords format start old new (based taken before) (based taken after) was is
+based-prints taken format start old new before after was is (inl (prints, records)) = inl (record { looks = prints.looks; takes = based-takes taken format start (Some new ∷ []) before after prints.takes }, records)
+based-prints taken format start old new before after was is (inr (passes, same)) = inr (record { same_seat = passes.same_seat; same_output = ap (based taken) passes.same_output }, same)
+
+pub based-last : {K : Type 0} (record_of : K → Option Recording) (taken : Option (List ℕ)) (format : Format) (start : Start) (none : Bool) (old new : ReporterResult Seated Printing K) → PrintsLast record_of format start none old new
+    → PrintsLast record_of format start none (based_result taken old) (based_result taken new)
+based-last record_of taken format start true old new same = ap (based_result taken) same
+based-last record_of taken format start false old new (printed, prints, fails, due, asked) = (
+  based taken printed,
+  based-prints taken format start old.seat new.seat old.out printed (record_of old.beside) (record_of new.beside) prints,
+  based-fails taken printed new.out fails,
+  due,
+  asked,
+)
+
+-- ---- the ring by which tables go
+
+printed-ring : (format : Format) (start : Start) (old new : Seated) (before after : Printing) (was is : Option Recording) → PrintsAndRecords format start old new before after was is → after.ring ≡ before.ring
+printed-ring format start old new before after was is (inl (prints, records)) = prints.takes.ring
+printed-ring format start old new before after was is (inr (passes, same)) = ap (λ (o : Printing). o.ring) passes.same_output
+
+pub last-ring : {K : Type 0} (record_of : K → Option Recording) (format : Format) (start : Start) (none : Bool) (old new : ReporterResult Seated Printing K) → PrintsLast record_of format start none old new → new.out.ring ≡ old.out.ring
+last-ring record_of format start true old new same = ap (λ (r : ReporterResult Seated Printing _). r.out.ring) same
+last-ring record_of format start false old new (printed, prints, fails, due, asked) =
+    same-ring printed new.out fails ∙ printed-ring format start old.seat new.seat old.out printed (record_of old.beside) (record_of new.beside) prints
+
+-- bytes before none are those alone
+pub none-after : (before : Option (List ℕ)) → put_after before (Some []) ≡ before
+none-after None = refl
+none-after (Some bytes) = ap Some (append-nil bytes)
 
 -- the same of a seat that equals the one that it began with
 pub reports_from : (start : Start) (duties : Duties) (due : Due) (asked_at : Option ℕ) (old first new : Seated) (before after : Printing) (was is : Option Recording) → old ≡ first
@@ -302,6 +364,8 @@ cannot_wait asked pipe (fault.CannotOpen path) is (zero, inside, same) = is ∙ 
 cannot_wait asked pipe (fault.CannotOpen path) is (suc k, inside, same) = absurd (omega (arith, inside))
 cannot_wait asked pipe fault.Read is why = absurd why
 cannot_wait asked pipe fault.Write is why = absurd why
+cannot_wait asked pipe fault.OutputStalled is why = absurd why
+cannot_wait asked pipe (fault.OutputGoesOn count) is why = absurd why
 cannot_wait asked pipe fault.TooManyReads is why = absurd why
 cannot_wait asked pipe fault.ThreadNotStarted is why = absurd why
 cannot_wait asked pipe (fault.CannotRecord path reason) is why = absurd why

@@ -17,7 +17,7 @@ use Rattle.station_lines.specs.declared.tally.Tally.{Tally}
 use Rattle.station_run.specs.Limits.{most_reads}
 use Rattle.station_reporter.specs.declared.reporter.ReporterResult.{ReporterResult}
 use Rattle.station_reporter.specs.Recorded.{PrintsAndRecords, Recording}
-use Rattle.station_reporter.specs.Tables.{Printing}
+use Rattle.station_output.specs.Tables.{MayFail, Printing}
 
 -- ---- the receivers
 
@@ -93,11 +93,13 @@ abbrev pub LearnsFrom : Seated → List Seated → Seated → Type 0
 LearnsFrom old [] new = new ≡ old
 LearnsFrom old (seat ∷ seats) new = (mid : Seated) × HasLearned old mid seat.seen × LearnsFrom mid seats new
 
--- what a reporter leaves after the last table, as its seat sees it; or, where none is printed, as it was
+-- what a reporter leaves after the last table, as its seat sees it, once that is written or a write failed; or, where none is printed,
+-- as it was
 abbrev pub PrintsLast : {K : Type 0} → (K → Option Recording) → Format → Start → (none : Bool) → ReporterResult Seated Printing K → ReporterResult Seated Printing K → Type 0
 PrintsLast record_of format start true old new = new ≡ old
 PrintsLast record_of format start false old new =
-    PrintsAndRecords format start old.seat new.seat old.out new.out (record_of old.beside) (record_of new.beside) × (new.due ≡ old.due) × (new.asked_at ≡ old.asked_at)
+    (printed : Printing) × PrintsAndRecords format start old.seat new.seat old.out printed (record_of old.beside) (record_of new.beside) × MayFail printed new.out
+    × (new.due ≡ old.due) × (new.asked_at ≡ old.asked_at)
 
 -- the looks of the seat after the last showing: one, where a last table is printed
 abbrev pub LastLook : Start → Seated → Seated → (none : Bool) → List (Option Seated) → Type 0

@@ -3,7 +3,7 @@ use Rattle.std.specs.Prelude.{◌≡◌, ◌≤◌, ◌<◌, ◌⊎◌, ◌&&◌
 use Rattle.std.specs.List.{flat_map}
 use Rattle.std.specs.String.{string_bytes}
 use Rattle.station_portions.specs.Giving.{state_of}
-use Rattle.streams.specs.Source.{SourceState}
+use Rattle.streams.specs.Source.{RingName, SourceState}
 use Rattle.clap.specs.Words.{Text}
 use Rattle.command_line.specs.Command.{format_since}
 use Rattle.command_line.specs.declared.clock_origin.ClockOrigin.{ClockOrigin}
@@ -25,7 +25,7 @@ use Rattle.station_reporter.specs.Recorded.{IfRecording, IsNewRecord, Recording,
 use Rattle.messages.specs.Status.{fault_status, status_of}
 use Rattle.station_run.specs.Output.{GivesBack}
 use Rattle.station_reporter.specs.Reporter.{IsLater, KeepsTime, MayHandOver, Showing, due_after, due_from, looks_of, not_before, recorded_by}
-use Rattle.station_reporter.specs.Tables.{Printing, TakesTexts, is_broken}
+use Rattle.station_output.specs.Tables.{Printing, TakesTexts, is_broken}
 use Rattle.station_run.specs.Run.{Closing, HavePumped, IsClosed, LastLook, LearnsFrom, may_go_on}
 use Rattle.station_paths.specs.Faults.{IsEarly}
 use Rattle.messages.specs.Sums.{AddsEach}
@@ -62,7 +62,7 @@ pub record RunPlan : Type 0 where
   pub has_displays : Bool
   pub stop : Option Text
 
--- what a run writes to: its output, in its buffer and out of it, the record if there is one, and standard error
+-- what a run writes to: its output with the tables that wait for it, the record if there is one, and standard error
 pub record Streams : Type 0 where
   pub out : Printing
   pub recording : Option Recording
@@ -265,7 +265,7 @@ NoRoundAfter rounds_left stopped err_old err_new of_round status =
     (((rounds_left ≡ 0) ⊎ ((of_round ≡ 1) ⊎ (stopped ≡ true))) × (err_new ≡ err_old) × (status ≡ of_round))
     ⊎ ((of_round ≡ 0) × Tells err_old err_new (fault_line fault.NoMemory) × (status ≡ 1))
 
--- the last round is over, and the output is out of its buffer. Unless a table failed before, all was written, or a failed write is
+-- the last round is over, and no table waits for the output. Unless a write failed before, all was written, or a failed write is
 -- printed
 pub record IsOver (asked : RunPlan) (left : Left) (old : Streams) (end : RunEnd) : Type 0 where
   pub err_round : Told
@@ -330,11 +330,11 @@ pub record StartsNothing (asked : RunPlan) (after : Option (Option (List ℕ))) 
   pub told : Tells err_old err_new (fault_line fault)
   pub status_is : status ≡ 1
 
--- the output at the start of a run: no table failed; the run goes on without it where a record or displays are asked for
-abbrev pub new_output : RunPlan → (taken alarm : Option (List ℕ)) → Printing
-new_output asked taken alarm = record {
+-- the output at the start of a run: no write failed; the run goes on without it where a record or displays are asked for
+abbrev pub new_output : RunPlan → Option RingName → (taken alarm : Option (List ℕ)) → Printing
+new_output asked ring taken alarm = record {
+  ring = ring;
   taken = taken;
-  failures = 0;
   has_failed = false;
   goes_on = is_some asked.file || asked.has_displays;
   alarm = record { taken = alarm; has_failed = false };
@@ -359,8 +359,9 @@ pub record Leaves (has_displays : Bool) (ends : RunEnd → Type 0) (after : Opti
 pub record RunsStations (asked : RunPlan) (before : Option (List ℕ)) (after : Option (Option (List ℕ))) (alarm : Alarmed) (err_old err_new : Told) (status : ℕ) : Type 0 where
   pub blank : Option Recording
   pub is_blank : IsBlank asked.file alarm.of_record blank
+  pub ring : Option RingName
   pub stations : List Station
-  pub leaves : Leaves asked.has_displays (Runs asked (record { out = new_output asked before alarm.of_output; recording = blank; err = err_old }) stations) after err_new status
+  pub leaves : Leaves asked.has_displays (Runs asked (record { out = new_output asked ring before alarm.of_output; recording = blank; err = err_old }) stations) after err_new status
 
 -- what was asked is done
 abbrev pub RunsAsked : RunPlan → Option (List ℕ) → Option (Option (List ℕ)) → Alarmed → Told → Told → ℕ → Type 0

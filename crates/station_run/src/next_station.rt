@@ -19,16 +19,18 @@ use crate::stage::{Stage, StationEnd};
 use crate::stopping::stopped;
 use crate::threads::Output;
 use messages::{Fault, StandardError, tell, tell_end};
+use station_output::OpenOutput;
 use station_paths::{Host, Opened, PathSystem, Paths, System, open_all, start_all, tell_ends};
 use station_reporter::{
-    Beside, Displays, Duties, Kept, Printer, RecordFile, RunClock, Stop, displays, recorder,
+    Beside, Displays, Duties, Kept, RecordFile, RunClock, Stop, displays, recorder,
 };
 use std::alloc::Global;
 use std::fs::File;
 use std::io::{Read, Write};
 use std::rt::Files;
-use std::sync::Arc;
+use std::sync::{Arc, Wait};
 use std::thread::Threads;
+use streams::ToWrite;
 
 /// What comes after a station.
 #[derive(Drop)]
@@ -49,7 +51,7 @@ pub struct Carried<O: Write + Drop, A: Write + Drop> {
     pub kept: Kept,
     /// The end of the run, where somebody may ask for it.
     pub stop: Option<Arc<Stop, Global>>,
-    pub out: Printer<Output<O>, A>,
+    pub out: OpenOutput<ToWrite<O>, A>,
     pub beside: Beside<Output<RecordFile>, A>,
 }
 
@@ -161,19 +163,19 @@ fn end_round<
     let told = tell_end(err, &answers, out.is_broken());
     let status = tell_ends(host.rt, inputs, threads, stopped, told, err);
     if rounds_left == 0 {
-        return Err(end_run(asked, status, out, beside, err));
+        return Err(end_run(host.rt, asked, status, out, beside, err));
     }
     if status > 0 {
-        return Err(end_run(asked, status, out, beside, err));
+        return Err(end_run(host.rt, asked, status, out, beside, err));
     }
     if stopped.is_some() {
-        return Err(end_run(asked, status, out, beside, err));
+        return Err(end_run(host.rt, asked, status, out, beside, err));
     }
     let kept = match keep(host.alloc, &journal, &mut beside) {
         Ok(kept) => kept,
         Err(fault) => {
             let status = tell(err, fault);
-            return Err(end_run(asked, status, out, beside, err));
+            return Err(end_run(host.rt, asked, status, out, beside, err));
         }
     };
     Ok(Carried {
@@ -186,12 +188,12 @@ fn end_round<
     })
 }
 
-// Ends a run: its output comes out of its buffer. The status is the worst of that so far, the output's, the record's and the
-// displays'.
-fn end_run<O: Write + Drop, A: Write + Drop, E: Write>(
+// Ends a run: waits for its output. The status is the worst of that so far, the output's, the record's and the displays'.
+fn end_run<R: Threads + Wait, O: Write + Drop, A: Write + Drop, E: Write>(
+    rt: &R,
     asked: RunOptions<'_>,
     status: u8,
-    out: Printer<Output<O>, A>,
+    out: OpenOutput<ToWrite<O>, A>,
     beside: Beside<Output<RecordFile>, A>,
     err: &mut StandardError<E>,
 ) -> JobResult<O>
@@ -201,7 +203,7 @@ fn end_run<O: Write + Drop, A: Write + Drop, E: Write>(
         (told_of E.contents err.old) (told_of E.contents err.new) status (option_map (λ left. O.contents left) result.out) result.status }
 {
     let failed_before = out.has_failed();
-    let closed = give_back(out.into_inner().into_inner(), failed_before, err);
+    let closed = give_back(rt, out, err);
     let written = write_status(failed_before, closed.has_failed);
     let recorded = recorder::status_of(&beside.record);
     let shown = display_status(asked, &beside.displays);
@@ -209,7 +211,7 @@ fn end_run<O: Write + Drop, A: Write + Drop, E: Write>(
     let with_record = with_output.max(recorded);
     JobResult {
         status: with_record.max(shown),
-        out: Some(closed.out),
+        out: Some(closed.out.into_inner()),
     }
 }
 

@@ -5,7 +5,11 @@ ghost use Rattle.station_run.specs.Output.{GivesBack};
 ghost use Rattle.messages.specs.Telling.{Tells, fault_line, output_lines, told_of};
 
 use messages::{Fault, StandardError, tell};
+use station_output::{OpenOutput, WrittenOutput};
 use std::io::{BufWriter, Write};
+use std::sync::Wait;
+use std::thread::Threads;
+use streams::Sink;
 
 /// What a job leaves.
 #[derive(Drop)]
@@ -36,29 +40,30 @@ pub fn without_output<O, E: Write>(err: &mut StandardError<E>, fault: Fault<'_>)
     }
 }
 
-/// Takes the output of a run out of its buffer. If a write failed before, what is left there is dropped. Else it is written,
-/// and a write that fails is reported. Answers whether that failed.
-pub fn give_back<O: Write + Drop, E: Write>(
-    out: BufWriter<O>,
-    failed_before: bool,
+/// Waits until the output of a run has all its tables, and takes it back. A failed write is reported, unless it was before.
+/// Answers whether one is reported.
+pub fn give_back<R: Threads + Wait, S: Sink + Drop, A: Write + Drop, E: Write>(
+    rt: &R,
+    output: OpenOutput<S, A>,
     err: &mut StandardError<E>,
-) -> ClosedOutput<O>
-    ensures once { failed_before ≡ true → result.has_failed ≡ false }
-    ensures bytes { GivesBack (writer_contents O.contents out) (O.contents result.out) (failed_before || result.has_failed) }
+) -> ClosedOutput<S>
+    ensures once { output.has_failed ≡ true → result.has_failed ≡ false }
+    ensures bytes { GivesBack output.taken (S.state result.out).taken (output.has_failed || result.has_failed) }
     ensures told { Tells (told_of E.contents err.old) (told_of E.contents err.new) (output_lines result.has_failed) }
 {
-    if failed_before {
-        let ClosedOutput { out, .. } = drop_unwritten(out);
+    let failed_before = output.has_failed();
+    let WrittenOutput { out, has_failed } = output.close(rt);
+    if failed_before || !has_failed {
         return ClosedOutput {
             out,
             has_failed: false,
         };
     }
-    let closed = unbuffered(out);
-    if closed.has_failed {
-        tell(err, Fault::Write);
+    tell(err, Fault::Write);
+    ClosedOutput {
+        out,
+        has_failed: true,
     }
-    closed
 }
 
 /// Writes what is left in the buffer, and takes the output out of it.

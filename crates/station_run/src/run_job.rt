@@ -1,10 +1,12 @@
 //! The job `run`: one station after another.
-ghost use Rattle.std.specs.Prelude.{◌≡◌, ◌⊎◌, ◌≤◌, ◌-◌, List, IfErr, IfOk, is_some, length, map, option_map, reverse};
+ghost use Rattle.std.specs.Prelude.{◌≡◌, ◌⊎◌, ◌≤◌, ◌-◌, [], List, IfErr, IfOk, is_some, length, map, option_map, reverse};
 ghost use Rattle.std.specs.String.{string_bytes};
 ghost use Rattle.station_journal.specs.Resume.{IsSound};
 ghost use Rattle.station_portions.specs.Giving.{state_of};
 ghost use Rattle.station_run.specs.Limits.{program_limits};
-ghost use Rattle.station_paths.specs.Faults.{IsEarly};
+ghost use Rattle.station_output.specs.Queued.{queue_ring, sent_texts, taken_before, thread_ring};
+ghost use Rattle.station_paths.specs.Faults.{IsEarly, IsUnstarted};
+ghost use Rattle.station_run.specs.Output.{sink_of};
 ghost use Rattle.station_run.specs.Stations.{AreRead, CannotStart, IsBlank, IsFirst, Leaves, RunsAsked, RunsFrom, Station, begun_of, new_output, no_start, plan_of, start_of, streams_of};
 ghost use Rattle.messages.specs.Telling.{alarmed_by, told_of};
 
@@ -15,17 +17,19 @@ use crate::run_options::RunOptions;
 use crate::stage::{Stage, run_station};
 use crate::stopping::begin_stop;
 use crate::threads::Output;
+use core::mem::replace_with;
 use messages::{Alarms, Fault, StandardError};
+use station_output::{OpenOutput, OutputThread, Printer, QueueFault, StallAlarm, TableQueue};
 use station_paths::{Host, Opened, PathSystem, System};
 use station_reporter::{
-    Beside, Displays, Kept, LimitAlarm, Printer, RecordFile, Recorder, RunClock, record_to,
-    writing_interval,
+    Beside, Displays, Kept, LimitAlarm, RecordFile, Recorder, RunClock, record_to, writing_interval,
 };
 use station_watch::Watch;
 use std::alloc::Global;
 use std::fs::File;
-use std::io::{BufWriter, Write};
+use std::io::Write;
 use std::rt::Files;
+use std::thread::{self, Scope};
 use streams::ToWrite;
 
 /// Runs one station after another. A station hands over to the next while its paths go on. Else its round is over, and the
@@ -40,7 +44,13 @@ use streams::ToWrite;
 /// ends the record or the displays alone, and the status is 1. Where a record or displays are asked for the same holds of a
 /// failed write of the output. Else that ends the run. Where a pipe is given for it, the run is ended by that, as if all paths had
 /// ended between two lines. Answers the output, unless a station couldn't begin or be closed.
-pub fn run<R: System, W: PathSystem, O: Write + Send + Drop, A: Write + Send + Drop, E: Write>(
+pub fn run<
+    R: System,
+    W: PathSystem,
+    O: Write + Send + Drop,
+    A: Write + Send + Drop,
+    E: Write + Drop,
+>(
     host: &Host<'_, R, W>,
     asked: RunOptions<'_>,
     out: O,
@@ -53,10 +63,86 @@ pub fn run<R: System, W: PathSystem, O: Write + Send + Drop, A: Write + Send + D
     ensures runs { RunsAsked (plan_of asked.entry) (O.contents out) (option_map (λ left. O.contents left) result.out) (alarmed_by A.contents alarms)
         (told_of E.contents err.old) (told_of E.contents err.new) result.status }
 {
-    match first_stage(host, asked, out, alarms) {
-        Ok(stage) => run_stations(host, asked, stage, err),
-        Err(fault) => without_output(err, fault),
-    }
+    replace_with(
+        err,
+        (host, asked, out, alarms),
+        |err, parts: (&Host<'_, R, W>, RunOptions<'_>, O, Alarms<A>)| -> (_, JobResult<O>)
+            requires rounds { 1 ≤ parts.1.rounds }
+            requires paths { length parts.1.paths.now.items ≤ 8 }
+            ensures most { result.1.status ≤ 1 }
+            ensures runs { RunsAsked (plan_of parts.entry.1) (O.contents parts.entry.2) (option_map (λ left. O.contents left) result.1.out) (alarmed_by A.contents parts.entry.3)
+                (told_of E.contents err) (told_of E.contents result.0) result.1.status }
+        { run_beside(parts.0, parts.1, parts.2, parts.3, err) },
+    )
+}
+
+// Runs one station after another, beside the thread that writes to the output.
+fn run_beside<
+    R: System,
+    W: PathSystem,
+    O: Write + Send + Drop,
+    A: Write + Send + Drop,
+    E: Write + Drop,
+>(
+    host: &Host<'_, R, W>,
+    asked: RunOptions<'_>,
+    out: O,
+    alarms: Alarms<A>,
+    err: StandardError<E>,
+) -> (StandardError<E>, JobResult<O>)
+    requires rounds { 1 ≤ asked.rounds }
+    requires paths { length asked.paths.now.items ≤ 8 }
+    ensures most { result.1.status ≤ 1 }
+    ensures runs { RunsAsked (plan_of asked.entry) (O.contents out) (option_map (λ left. O.contents left) result.1.out) (alarmed_by A.contents alarms)
+        (told_of E.contents err) (told_of E.contents result.0) result.1.status }
+{
+    let lent = &asked;
+    thread::scope(
+        thread::scope_env(),
+        host.rt,
+        move |scope| -> (StandardError<E>, JobResult<O>)
+            requires rounds { 1 ≤ lent.now.rounds }
+            requires paths { length lent.now.paths.now.items ≤ 8 }
+            ensures most { result.1.status ≤ 1 }
+            ensures runs { RunsAsked (plan_of lent.entry.now) (O.contents out) (option_map (λ left. O.contents left) result.1.out) (alarmed_by A.contents alarms)
+                (told_of E.contents err) (told_of E.contents result.0) result.1.status }
+        { run_in(scope, host, *lent, out, alarms, err) },
+    )
+}
+
+// Runs one station after another, in a scope of the thread that writes to the output.
+fn run_in<
+    's,
+    'e: 's,
+    R: System,
+    W: PathSystem,
+    O: Write + Send + Drop + 'e,
+    A: Write + Send + Drop,
+    E: Write + Drop,
+>(
+    scope: &Scope<'s, &'e ()>,
+    host: &Host<'e, R, W>,
+    asked: RunOptions<'_>,
+    out: O,
+    alarms: Alarms<A>,
+    err: StandardError<E>,
+) -> (StandardError<E>, JobResult<O>)
+    requires rounds { 1 ≤ asked.rounds }
+    requires paths { length asked.paths.now.items ≤ 8 }
+    ensures most { result.1.status ≤ 1 }
+    ensures runs { RunsAsked (plan_of asked.entry) (O.contents out) (option_map (λ left. O.contents left) result.1.out) (alarmed_by A.contents alarms)
+        (told_of E.contents err) (told_of E.contents result.0) result.1.status }
+{
+    let mut err = err;
+    let stage = match first_stage(scope, host, asked, out, alarms) {
+        Ok(stage) => stage,
+        Err(fault) => {
+            let ran = without_output(&mut err, fault);
+            return (err, ran);
+        }
+    };
+    let ran = run_stations(host, asked, stage, &mut err);
+    (err, ran)
 }
 
 // Runs one station after another.
@@ -67,7 +153,7 @@ fn run_stations<
     W: PathSystem,
     O: Write + Send + Drop,
     A: Write + Send + Drop,
-    E: Write,
+    E: Write + Drop,
 >(
     host: &Host<'a, R, W>,
     asked: RunOptions<'p>,
@@ -97,12 +183,21 @@ fn run_stations<
 }
 
 // What a run is begun with.
-fn first_stage<'a, 'p, R: System, W: PathSystem, O: Write + Drop, A: Write + Drop>(
-    host: &Host<'a, R, W>,
+fn first_stage<
+    's,
+    'e: 's,
+    'p,
+    R: System,
+    W: PathSystem,
+    O: Write + Send + Drop + 'e,
+    A: Write + Drop,
+>(
+    scope: &Scope<'s, &'e ()>,
+    host: &Host<'e, R, W>,
     asked: RunOptions<'p>,
     out: O,
     alarms: Alarms<A>,
-) -> Result<Stage<'a, 'p, R, Opened, O, A>, Fault<'p>>
+) -> Result<Stage<'e, 'p, R, Opened, O, A>, Fault<'p>>
     requires rounds { 1 ≤ asked.rounds }
     requires few { length asked.paths.now.items ≤ 8 }
     ensures early { IfErr result (λ fault. IsEarly (map string_bytes asked.entry.paths.now.items) fault ⊎ CannotStart (plan_of asked.entry) fault) }
@@ -110,12 +205,13 @@ fn first_stage<'a, 'p, R: System, W: PathSystem, O: Write + Drop, A: Write + Dro
     ensures given { IfOk result (λ stage. (begun_of stage).given ≡ no_start asked.entry.site) }
     ensures rounds_left { IfOk result (λ stage. stage.rounds_left ≡ asked.entry.rounds - 1) }
     ensures read { IfOk result (λ stage. AreRead (map string_bytes asked.entry.paths.now.items) stage.paths.threads.items (map state_of stage.inputs.items) stage.answers.items) }
-    ensures out { IfOk result (λ stage. stage.out ≡ new_output (plan_of asked.entry) (O.contents out) (A.contents alarms.output)) }
+    ensures out { IfOk result (λ stage. stage.out ≡ new_output (plan_of asked.entry) stage.out.ring (O.contents out) (A.contents alarms.output)) }
     ensures record { IfOk result (λ stage. IsBlank (option_map string_bytes asked.entry.record.now) (A.contents alarms.record) stage.beside.record) }
 {
     let stop = begin_stop(host, asked)?;
     let Alarms {
         output,
+        stalls,
         record,
         displays,
         limits,
@@ -124,18 +220,36 @@ fn first_stage<'a, 'p, R: System, W: PathSystem, O: Write + Drop, A: Write + Dro
     let watch = begin_watch(host.alloc, asked, paths)?;
     let beside = begin_beside(host.rt, host.alloc, asked, displays, record, limits, watch)?;
     let goes_on = asked.record.is_some() || asked.displays.is_some();
-    let Ok(buffered) = BufWriter::with_capacity(host.alloc, TABLE_ROOM, out) else {
-        return Err(Fault::NoMemory);
-    };
+    let (queue, thread) = begin_queue(scope, host, out)?;
+    let (alarm, stalls) = (StandardError::new(output), StallAlarm::new(stalls));
+    let printer = Printer::new(queue, goes_on, alarm, stalls);
     let carried = Carried {
         clock: RunClock::begin(host.rt, asked.begins_at),
         rounds_left: asked.rounds - 1,
         kept: Kept::nothing(host.alloc, asked.site),
         stop,
-        out: Printer::new(ToWrite::new(buffered), goes_on, StandardError::new(output)),
+        out: OpenOutput::new(printer, thread),
         beside,
     };
     begin_round(host, asked, carried)
+}
+
+// The queue of tables before an output, and the thread that writes them.
+fn begin_queue<'s, 'e: 's, R: System, W: PathSystem, O: Write + Send + Drop + 'e>(
+    scope: &Scope<'s, &'e ()>,
+    host: &Host<'e, R, W>,
+    out: O,
+) -> Result<(TableQueue, OutputThread<ToWrite<O>>), Fault<'static>>
+    ensures unstarted { IfErr result IsUnstarted }
+    ensures sent { IfOk result (λ begun. sent_texts begun.0 ≡ []) }
+    ensures ring { IfOk result (λ begun. queue_ring begun.0 ≡ thread_ring begun.1) }
+    ensures before { IfOk result (λ begun. taken_before (sink_of O.contents) begun.1 ≡ O.contents out) }
+{
+    match station_output::start(scope, host.rt, host.alloc, TABLE_ROOM, ToWrite::new(out)) {
+        Ok(begun) => Ok(begun),
+        Err(QueueFault::NoMemory) => Err(Fault::NoMemory),
+        Err(QueueFault::ThreadNotStarted) => Err(Fault::ThreadNotStarted),
+    }
 }
 
 // What a run writes beside its output: the folder for displays and the record, each if it is asked for. Its paths may be watched.

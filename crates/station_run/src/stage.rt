@@ -18,15 +18,17 @@ use crate::stage::opening::{Crew, begin};
 use crate::threads::{Outcome, Output, Receiver, run_threads};
 use messages::{Answer, Fault};
 use station_journal::Journal;
+use station_output::OpenOutput;
 use station_paths::{Input, Paths, System};
 use station_portions::PathEnd;
-use station_reporter::{Beside, Due, Duties, Kept, Printer, RecordFile, Reporter, RunClock};
+use station_reporter::{Beside, Due, Duties, Kept, RecordFile, Reporter, RunClock};
 use station_shared::{Places, PumpFault, Seat, StationName};
 use std::alloc::Global;
 use std::io::{Read, Write};
 use std::marker::Brand;
 use std::sync::Wait;
 use std::sync::ledger::Blank;
+use streams::ToWrite;
 
 /// What a station is begun with.
 #[derive(Drop)]
@@ -44,7 +46,7 @@ pub struct Stage<'a, 'p, R, I: Read + Drop, O: Write + Drop, A: Write + Drop> {
     pub inputs: Vec<Input<'a, R>>,
     /// What the stations before it in its round counted, by input.
     pub answers: Vec<Answer>,
-    pub out: Printer<Output<O>, A>,
+    pub out: OpenOutput<ToWrite<O>, A>,
     pub beside: Beside<Output<RecordFile>, A>,
 }
 
@@ -63,7 +65,7 @@ pub struct StationEnd<'a, 'p, R, I: Read + Drop, O: Write + Drop, A: Write + Dro
     pub inputs: Vec<Input<'a, R>>,
     /// What all stations of the round so far counted, by input.
     pub answers: Vec<Answer>,
-    pub out: Printer<Output<O>, A>,
+    pub out: OpenOutput<ToWrite<O>, A>,
     pub beside: Beside<Output<RecordFile>, A>,
 }
 
@@ -131,10 +133,11 @@ fn run_named<
         blank,
         places,
     )?;
+    let (printer, output_thread) = stage.out.apart();
     let reporter = Reporter {
         duties,
         seat,
-        out: stage.out,
+        out: printer,
         beside: stage.beside,
     };
     let ran = run_threads(rt, &station, &paths.requests, clock, receivers, reporter);
@@ -163,7 +166,7 @@ fn run_named<
         paths,
         inputs: leaving.inputs,
         answers: leaving.answers,
-        out: report.out,
+        out: OpenOutput::new(report.out, output_thread),
         beside: report.beside,
     })
 }

@@ -4,10 +4,11 @@ ghost use Rattle.station_reporter.specs.Reporter.{HasReported};
 ghost use Rattle.station_run.specs.Run.{HaveWorked};
 
 use crate::limits::{AIRCRAFT, TURNS};
+use station_output::Printer;
 use station_paths::{Input, System};
 use station_portions::Portions;
 use station_reporter::{
-    Bells, Beside, Printer, Reporter, ReporterResult, ReportsFrom, Requests, RunClock, report,
+    Bells, Beside, Reporter, ReporterResult, ReportsFrom, Requests, RunClock, report,
 };
 use station_shared::{Seat, Station, StationName, Worker, run_receivers};
 use std::io::{BufWriter, Write};
@@ -17,7 +18,7 @@ use std::thread;
 use std::thread::Threads;
 use streams::{Sink, ToWrite};
 
-/// The output of a run, in its buffer.
+/// The file of a record, in its buffer.
 pub type Output<O> = ToWrite<BufWriter<O>>;
 
 /// A receiver: its seat, its input and, once it has ended, its answer.
@@ -45,7 +46,6 @@ pub fn run_threads<
     'a,
     L: StationName + Send + Sync,
     R: System,
-    S: Sink + Send + Drop,
     T: Sink + Send + Drop,
     A: Write + Send + Drop,
 >(
@@ -54,8 +54,8 @@ pub fn run_threads<
     requests: &Requests,
     clock: RunClock,
     receivers: Vec<Receiver<'a, R, L>>,
-    reporter: Reporter<Seat<AIRCRAFT, L>, Printer<S, A>, Beside<T, A>>,
-) -> Option<Left<'a, L, R, Printer<S, A>, Beside<T, A>>>
+    reporter: Reporter<Seat<AIRCRAFT, L>, Printer<A>, Beside<T, A>>,
+) -> Option<Left<'a, L, R, Printer<A>, Beside<T, A>>>
     ensures receivers { IfSome result (λ left. HaveWorked L.start (λ r. r.seat) (λ r. r.source) (λ r. r.answer)
         receivers.entry.items left.receivers.items) }
     ensures reporter { IfSome result (λ left. HasReported (λ b. b.record) L.start reporter left.report) }
@@ -64,7 +64,7 @@ pub fn run_threads<
     thread::scope(
         thread::scope_env(),
         rt,
-        move |scope| -> Option<Left<'_, L, R, Printer<S, A>, Beside<T, A>>>
+        move |scope| -> Option<Left<'_, L, R, Printer<A>, Beside<T, A>>>
             ensures receivers { IfSome result (λ left. HaveWorked L.start (λ r. r.seat) (λ r. r.source) (λ r. r.answer)
                 receivers.entry.items left.receivers.items) }
             ensures reporter { IfSome result (λ left. HasReported (λ b. b.record) L.start reporter left.report) }

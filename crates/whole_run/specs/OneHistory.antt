@@ -11,7 +11,7 @@ use Rattle.station_history.specs.History.{base_of}
 use Rattle.station_history.specs.Start.{Start}
 use Rattle.station_report.specs.Format.{table_text}
 use Rattle.station_report.specs.declared.formats.Format.{Format}
-use Rattle.station_reporter.specs.Tables.{text_of}
+use Rattle.station_output.specs.Tables.{text_of}
 use Rattle.station_shared.specs.Seats.{own_entries}
 use Rattle.station_run.specs.Stations.{EndsRound, RunPlan, Shows, Station}
 use Rattle.station_run.specs.Taken.{Portion, TakesPath, so_far_after}

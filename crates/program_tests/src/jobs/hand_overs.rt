@@ -202,6 +202,7 @@ impl<R: System, W: Own> Trials<'_, R, W> {
         let (mut ran, mut err) = (Ran::nothing(alloc), Vec::new(alloc));
         let alarms = Alarms {
             output: &mut ran.output_alarm,
+            stalls: &mut ran.stall_alarm,
             record: &mut ran.record_alarm,
             displays: &mut ran.display_alarm,
             limits: &mut ran.limit_alarm,

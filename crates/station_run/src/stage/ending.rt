@@ -5,15 +5,16 @@ ghost use Rattle.station_history.specs.Start.{log_of};
 ghost use Rattle.station_run.specs.Run.{CanClose, IsClosed, PrintsLast};
 ghost use Rattle.station_paths.specs.Faults.{IsUnstarted};
 ghost use Rattle.messages.specs.Sums.{AddsAll};
-ghost use Rattle.station_reporter.specs.Tables.{is_broken};
+ghost use Rattle.station_output.specs.Tables.{is_broken};
 
 use crate::limits::AIRCRAFT;
 use crate::threads::Receiver;
 use messages::{Answer, Fault, added};
 use station_journal::{Journal, NoMemory};
+use station_output::Printer;
 use station_paths::Input;
 use station_report::Format;
-use station_reporter::{Beside, Printer, ReporterResult, RunClock, print_and_record};
+use station_reporter::{Beside, ReporterResult, RunClock, print_and_record};
 use station_shared::{Missing, Seat, Station, StationName, Worker};
 use std::alloc::Global;
 use std::fs::File;
@@ -33,21 +34,15 @@ pub(super) struct Leaving<'a, R> {
 }
 
 /// Prints the last table, records it and puts it where displays find it, unless the station hands over or the output was
-/// broken before.
-pub(super) fn print_last<
-    L: StationName,
-    R: Wait + Clock + Files<File = File>,
-    S: Sink,
-    T: Sink,
-    A: Write,
->(
+/// broken before. Waits until the table is written.
+pub(super) fn print_last<L: StationName, R: Wait + Clock + Files<File = File>, T: Sink, A: Write>(
     rt: &R,
     station: &Station<AIRCRAFT, L>,
     clock: RunClock,
     format: Format,
     hands_over: bool,
-    report: ReporterResult<Seat<AIRCRAFT, L>, Printer<S, A>, Beside<T, A>>,
-) -> ReporterResult<Seat<AIRCRAFT, L>, Printer<S, A>, Beside<T, A>>
+    report: ReporterResult<Seat<AIRCRAFT, L>, Printer<A>, Beside<T, A>>,
+) -> ReporterResult<Seat<AIRCRAFT, L>, Printer<A>, Beside<T, A>>
     ensures { PrintsLast (λ b. b.record) format L.start (hands_over || is_broken report.out) report result }
 {
     if hands_over || report.out.is_broken() {
@@ -63,6 +58,7 @@ pub(super) fn print_last<
     } = report;
     beside.date_by(rt, clock);
     let seat = print_and_record(rt, station, seat, format, &mut out, &mut beside);
+    out.settle(rt);
     ReporterResult {
         seat,
         out,

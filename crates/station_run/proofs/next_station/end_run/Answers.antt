@@ -7,11 +7,11 @@ returns-clause-closes g c =
     let failed = c.has_failed-failed_before.ensures in
     let written = c.write_status-written.ensures.value ∙ ap (λ (b : Bool). fault_status (b || c.give_back-closed.result.has_failed)) failed in
     record {
-      output = g.O.Write.contents c.give_back-closed.result.out;
+      output = g.O.Write.contents c.into_inner.result;
       out = refl;
       has_failed = c.give_back-closed.result.has_failed;
-      once = λ before. c.give_back-closed.ensures.once (failed ∙ before);
-      gives = rw (c.into_inner-2.ensures, c.into_inner.ensures, failed) at c.give_back-closed.ensures.bytes;
+      once = λ before. c.give_back-closed.ensures.once before;
+      gives = rw c.into_inner.ensures c.give_back-closed.ensures.bytes;
       told = c.give_back-closed.ensures.told;
       displays_failed = c.display_status-shown.ensures.value.0;
       no_displays = c.display_status-shown.ensures.value.2;

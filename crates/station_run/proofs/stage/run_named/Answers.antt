@@ -8,7 +8,9 @@ use Rattle.station_run.proofs.BorderLemmas.{all_fail_between}
 use Rattle.station_run.proofs.GoingOnLemmas.{work-on}
 use Rattle.station_run.proofs.ReceiverLemmas.{adds_each, all_answered, answers_of, are_numbered, have_pumped}
 use Rattle.station_run.proofs.SeatNumberLemmas.{last_numbered, learned_number, reporter_numbered}
-use Rattle.station_run.proofs.StationLemmas.{reports_from, shows}
+use Rattle.station_output.specs.Queued.{taken_before}
+use Rattle.station_run.specs.Output.{sink_of}
+use Rattle.station_run.proofs.StationLemmas.{based-clock, based-last, based_result, last-ring, reports_from, shows}
 use Rattle.station_run.proofs.stage.run_named.Goals as goal
 
 pub close-requires : goal.close-requires
@@ -40,6 +42,7 @@ returns-clause-ran g c =
     have_pumped start entries (λ r. r.seat) (λ r. r.source) (λ r. r.answer) inputs old new found.0 c.in_ok-station.ensures.seats c.in_ok-station.ensures.sources worked found.1 in
     let first : c.in_ok-station.field-0.seat ≡ newcomer entries (length begun.sources) = c.in_ok-station.ensures.reporter ∙ ap (newcomer entries) (sym (length-map inputs state_of)) in
     let left = c.in_ok-leaving.ensures in
+    let taken = taken_before (sink_of g.O.Write.contents) c.apart-printer.result.1 in
     record {
       start = start;
       reporter = c.print_last-report.result.seat;
@@ -52,13 +55,18 @@ returns-clause-ran g c =
         failed = all_fail_between c.in_ok-leaving.leaving.inputs.items;
         sums = adds_each stage.answers.items found.0 c.in_ok-leaving.leaving.answers.items (subst (λ os. AddsAll stage.answers.items os c.in_ok-leaving.leaving.answers.items) found.1 left.sums);
         closed = left.closed;
-        shows = shows (λ b. b.record) _ _ _ _ _ _ _ _ _ _ _ c.in-Some.left.report.seat (record { seat = c.learn_from_all.new.seat; out = c.in-Some.left.report.out; beside = c.look_again.new.self; due = c.in-Some.left.report.due; asked_at = c.in-Some.left.report.asked_at; written_at = c.in-Some.left.report.written_at }) c.print_last-report.result _ refl
+        shows = rw c.new.ensures (shows (λ b. b.record) _ _ _ _ _ _ _ _ _ _ _ c.in-Some.left.report.seat (based_result taken (record { seat = c.learn_from_all.new.seat; out = c.in-Some.left.report.out; beside = c.look_again.new.self; due = c.in-Some.left.report.due; asked_at = c.in-Some.left.report.asked_at; written_at = c.in-Some.left.report.written_at })) (based_result taken c.print_last-report.result) _ refl
             (c.hands_over-hands_over.ensures ∙ ap (λ b. is_some c.in-Some.left.report.asked_at && b) (work-on (λ r. r.source) (λ r. r.answer) new found.0 found.1 ∙ ap (λ ss. may_go_on ss found.0) (sym left.inputs)))
-            (c.learn_from_all.ensures, rw (← (c.look_again.ensures ∙ c.report_limits.ensures.record)) at (reports_from _ _ _ _ _ _ _ _ _ _ _ first c.in-Some.ensures.reporter))
-            c.print_last-report.ensures;
+            (c.learn_from_all.ensures, based-clock taken _ _ _ _ _ _ _ _ _ _ _ c.apart-printer.ensures.whole (rw (← (c.look_again.ensures ∙ c.report_limits.ensures.record)) at (reports_from _ _ _ _ _ _ _ _ _ _ _ first c.in-Some.ensures.reporter)))
+            (based-last (λ b. b.record) taken _ _ _ (record { seat = c.learn_from_all.new.seat; out = c.in-Some.left.report.out; beside = c.look_again.new.self; due = c.in-Some.left.report.due; asked_at = c.in-Some.left.report.asked_at; written_at = c.in-Some.left.report.written_at }) c.print_last-report.result c.print_last-report.ensures));
         duties = refl;
         rounds_left = refl;
         err = refl;
       };
       paths = refl;
     }
+
+pub new-requires : goal.new-requires
+new-requires g c =
+    last-ring (λ b. b.record) _ _ _ (record { seat = c.learn_from_all.new.seat; out = c.in-Some.left.report.out; beside = c.look_again.new.self; due = c.in-Some.left.report.due; asked_at = c.in-Some.left.report.asked_at; written_at = c.in-Some.left.report.written_at }) c.print_last-report.result c.print_last-report.ensures
+    ∙ c.in-Some.ensures.reporter.reports.takes.ring ∙ c.apart-printer.ensures.ring

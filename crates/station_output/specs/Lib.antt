@@ -1,0 +1,3 @@
+pub mod Queued
+pub mod Stalls
+pub mod Tables
