@@ -5,8 +5,11 @@ use std::sync::atomic::{AtomicBool, Ordering};
 use std::thread::Parker;
 use std::time::Duration;
 
-// The longest rest of either end, in milliseconds.
-const LONGEST_REST: u64 = 10;
+// The longest rest of the thread that writes, in milliseconds. A queue that is dropped wakes nobody.
+const LONGEST_REST: u64 = 50;
+
+// The longest rest of the thread that sends.
+const LONGEST_SENDER_REST: u64 = 10;
 
 /// One thread at a time rests at each end.
 #[derive(Drop)]
@@ -54,9 +57,10 @@ impl Passing {
         self.table.unpark();
     }
 
-    // Rests until a table is sent, or the end is shown. It may return earlier.
+    // Rests until a table is sent, or the end is shown, but never for long.
     pub(crate) fn await_table<R: Wait>(&self, rt: &R) {
-        self.table.park(rt);
+        self.table
+            .park_timeout(rt, Duration::from_millis(LONGEST_REST));
     }
 
     // Wakes the thread that sends: a table was given back.
@@ -67,6 +71,6 @@ impl Passing {
     // Rests until a table is given back, but never for long.
     pub(crate) fn await_room<R: Wait>(&self, rt: &R) {
         self.room
-            .park_timeout(rt, Duration::from_millis(LONGEST_REST));
+            .park_timeout(rt, Duration::from_millis(LONGEST_SENDER_REST));
     }
 }
