@@ -66,6 +66,28 @@ impl<'a, R: Clock> Write for Waiting<'a, R> {
     }
 }
 
+// Keeps what it takes. It waits in its first write until a flag is set, and fails if that takes too long.
+#[derive(Drop)]
+struct Unread<'a, R> {
+    rt: &'a R,
+    taken: &'a mut Vec<u8>,
+    is_read: &'a AtomicBool,
+}
+
+impl<'a, R: Clock> Write for Unread<'a, R> {
+    fn write(&mut self, piece: &[u8]) -> io::Result<usize> {
+        if becomes_set(self.rt, self.is_read) {
+            self.taken.write(piece)
+        } else {
+            Err(io::Error::from(ErrorKind::TimedOut))
+        }
+    }
+
+    fn flush(&mut self) -> io::Result<()> {
+        Ok(())
+    }
+}
+
 // Four frames of four aircraft, each before 40,000 blank lines: more than a pipe and a receiver's buffer have room for.
 fn long_lines(alloc: Global) -> Result<Vec<u8>, AllocError> {
     let mut lines = Vec::new(alloc);
@@ -159,6 +181,40 @@ impl<R: Host, W: Own> Trials<'_, R, W> {
         Ok(())
     }
 
+    // Twenty tables are due before the path ends. The first is being written meanwhile, four wait, and fifteen are left out.
+    fn tables_that_nobody_reads_are_left_out(self) -> Result<(), Fail> {
+        let mut moments = Vec::new(self.alloc);
+        for moment in 0..=40 {
+            moments.push(50 * moment)?;
+        }
+        let is_read = AtomicBool::new(false);
+        let staged = Staged::new(self.rt, moments.as_slice());
+        let mut taken = Vec::new(self.alloc);
+        let out = Unread {
+            rt: self.rt,
+            taken: &mut taken,
+            is_read: &is_read,
+        };
+        let feed = Feed {
+            start: &staged.has_ended,
+            text: b"*8D4840D6202CC371C32CE0576098;\n",
+            end: &is_read,
+        };
+        let folder = self.new_folder()?;
+        let record = format!(in self.alloc; "{folder}/record")?;
+        let line = format!(in self.alloc; "run --every 100 --record={record}")?;
+        let (ran, _) = self.run_lasting(&staged, line.as_str(), out, feed)?;
+        let stalls =
+            "groundstation: output stalled\ngroundstation: output goes on, 15 tables left out\n";
+        same(self.rt, text(&ran.stall_alarm), stalls);
+        same(self.rt, ran.status, 0);
+        let (lines, shown) = self.shown_again(record.as_str())?;
+        same(self.rt, text(&shown), text(&taken));
+        same(self.rt, text(&lines).split('+').count(), 21);
+        same(self.rt, text(&lines).split('?').count(), 7);
+        self.remove(&folder)
+    }
+
     // The first line has 37 bytes before its LF if its time has 20 digits, the header and each row have 73.
     fn a_full_table_is_written_at_once(self) -> Result<(), Fail> {
         let moments = [0, 18_446_744_073_709_551_000];
@@ -195,6 +251,11 @@ fn run_writes_nothing_after_a_failed_write_and_reads_on(rt: HostRuntime) -> Resu
 #[test]
 fn output_that_waits_holds_no_receiver_up(rt: HostRuntime) -> Result<(), Fail> {
     Trials::on(&rt).output_that_waits_holds_no_receiver_up()
+}
+
+#[test]
+fn tables_that_nobody_reads_are_left_out(rt: HostRuntime) -> Result<(), Fail> {
+    Trials::on(&rt).tables_that_nobody_reads_are_left_out()
 }
 
 #[test]

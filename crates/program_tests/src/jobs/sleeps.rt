@@ -1,13 +1,33 @@
 //! How long the reporter sleeps, and what it does at a time.
 use super::bounds::*;
+use super::staged::{Feed, Staged};
 use super::{EVERY_HOUR, NO_LINES, Trials};
 use crate::comparing::{holds, same};
 use station_main::{Act, Bell, Due, Pace, act_at};
+use std::io::{self, ErrorKind, Write};
 use std::test::*;
 use std::time::{Duration, Instant};
 
 fn sleep(milliseconds: u64) -> Act {
     Act::Sleep(Duration::from_millis(milliseconds))
+}
+
+// Notes when it was last written to.
+#[derive(Drop)]
+struct Timed<'a, R> {
+    rt: &'a R,
+    written: &'a mut Result<Instant, ErrorKind>,
+}
+
+impl<'a, R: Clock> Write for Timed<'a, R> {
+    fn write(&mut self, piece: &[u8]) -> io::Result<usize> {
+        *self.written = Instant::now(self.rt).map_err(|error| error.kind());
+        Ok(piece.len())
+    }
+
+    fn flush(&mut self) -> io::Result<()> {
+        Ok(())
+    }
 }
 
 // A table each 500 ms.
@@ -100,14 +120,25 @@ impl<R: Host, W: Own> Trials<'_, R, W> {
     }
 
     // The reporter's second reading of the clock lets the path end, some 10 ms later at most, and its sleep of 50 ms begins
-    // there: a run that waited for it would end 40 ms after its path. Processors may be busy, so one run of fifty that ends
-    // sooner is enough.
+    // there: a run that waited for it would print its last table 40 ms after its path has ended. Processors may be busy, so one
+    // run of fifty that prints it sooner is enough.
     fn a_run_ends_while_its_reporter_sleeps(self) -> Result<(), Fail> {
         let rt = self.rt;
         for _ in 0..50 {
-            let lasted = self.run_through([0].as_slice(), EVERY_HOUR, NO_LINES)?;
-            same(rt, lasted.ran.status, 0);
-            if lasted.ended?.elapsed(rt)? < Duration::from_millis(38) {
+            let staged = Staged::new(rt, [0].as_slice());
+            let mut written = Err(ErrorKind::NotFound);
+            let out = Timed {
+                rt,
+                written: &mut written,
+            };
+            let feed = Feed::at(&staged.has_ended, NO_LINES);
+            let (ran, ended) = self.run_lasting(&staged, EVERY_HOUR, out, feed)?;
+            same(rt, ran.status, 0);
+            let since_end = ended?.elapsed(rt)?;
+            let Ok(written) = written else {
+                return Err(Fail::new("no table was written"));
+            };
+            if since_end.saturating_sub(written.elapsed(rt)?) < Duration::from_millis(38) {
                 return Ok(());
             }
         }
