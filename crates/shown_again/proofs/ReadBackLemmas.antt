@@ -17,7 +17,7 @@ use Rattle.station_lines.specs.Calls.{entry_asked_by}
 use Rattle.station_lines.specs.declared.command.Command.{Command}
 use Rattle.station_lines.specs.declared.command.Command.TheVariants.{Show}
 use Rattle.station_lines.specs.declared.command.CommandFault.{CommandFault}
-use Rattle.station_reporter.specs.Recorded.{AreRecordable}
+use Rattle.station_files.specs.Recorded.{AreRecordable}
 use Rattle.shown_again.proofs.LookLemmas.{text_table}
 
 -- the journal with the entries that were left behind is legal, and has the same text

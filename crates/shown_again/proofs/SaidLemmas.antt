@@ -24,7 +24,7 @@ use Rattle.shown_again.proofs.KeptEndLemmas.{Begins, all-same, first-is, later, 
 use Rattle.shown_again.proofs.LookLemmas.{Grown, Legal, grows-last, text_table}
 use Rattle.station_reporter.proofs.PrefixLemmas.{begins-same, begins-trans}
 use Rattle.shown_again.proofs.ReadBackLemmas.{At, entries-say, line-count, looks-count, looks-say}
-use Rattle.station_reporter.proofs.RecordedLemmas.{unfailed}
+use Rattle.station_files.proofs.RecordedLemmas.{unfailed}
 use Rattle.shown_again.proofs.StationLemmas.{StationSays, took}
 
 -- stations printed tables, and recorded lines: a replay under n entries prints these tables after all entries before them. If

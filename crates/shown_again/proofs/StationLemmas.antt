@@ -11,7 +11,7 @@ use Rattle.messages.proofs.Common.{fault_status}
 use Rattle.station_reporter.proofs.Common.{AreRecordable, IfRecording, Recording, Records, TakesText, TakesBy, looks_of, recorded_by, Printing, TakesTexts, TakesTextsBy, texts}
 use Rattle.station_run.proofs.Common.{GivesBack, RoundStart, RunsStation, Station}
 use Rattle.shown_again.proofs.LookLemmas.{Grown, looks-grow, recorded_last, shown-recorded, text_table, texts-seen}
-use Rattle.station_reporter.proofs.RecordedLemmas.{unfailed}
+use Rattle.station_files.proofs.RecordedLemmas.{unfailed}
 
 -- nothing is appended to what was taken
 pub appended_nil : (o : Option (List ℕ)) (bs : List ℕ) → bs ≡ [] → append_known o bs ≡ o

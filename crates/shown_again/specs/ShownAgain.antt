@@ -7,7 +7,7 @@ use Rattle.station_journal.specs.Past.{Site}
 use Rattle.station_report.specs.declared.formats.Format.TheVariants.{Text}
 use Rattle.station_replay.specs.Forgetting.{StaysSparse, calls_in}
 use Rattle.station_run.specs.Limits.{forget_at, most_between_ticks, program_limits}
-use Rattle.station_reporter.specs.Recorded.{Recording}
+use Rattle.station_files.specs.Recorded.{Recording}
 use Rattle.station_reporter.specs.LimitAlarms.{LimitsTold}
 use Rattle.station_main.specs.Replay.{EndsReplay}
 use Rattle.station_run.specs.Stations.{Station}

@@ -5,13 +5,10 @@ use mathlib.Core.Option.{some}
 use lib.ListN.{get_elem?}
 use Rattle.station_journal.specs.declared.entry.Entry.{Entry}
 use Rattle.station_journal.specs.Log.{IsLegal}
-use Rattle.station_book.specs.State.{BookState, caught_up, book_offered}
-use Rattle.station_book.specs.declared.call.Change.{Change}
-use Rattle.station_book.specs.declared.call.Call.{Call}
+use Rattle.station_book.specs.State.{BookState}
 use Rattle.station_book.specs.Matching.{Matches}
 use Rattle.station_history.specs.History.{Known, Name, base_of}
 use Rattle.station_history.specs.Start.{Start, log_of}
-use Rattle.station_desk.specs.declared.publisher.NextCopy.{NextCopy}
 use Rattle.station_desk.specs.declared.published.Mark.{Mark}
 use Rattle.station_desk.specs.declared.published.Origin.{Origin}
 use Rattle.station_desk.specs.declared.published.PublishedTable.{PublishedTable}
@@ -25,18 +22,9 @@ pub record Sheet : Type 0 where
 abbrev pub sheet : BookState → Known → Option Origin → Sheet
 sheet book front origin = record { book = book; front = front; origin = origin }
 
--- a copy brought up to date with the one that is shown, of which it lacks this change, or nothing
-abbrev pub brought_up : ℕ → BookState → Option Change → BookState → BookState
-brought_up n shown None book = book
-brought_up n shown (Some change) book = caught_up n shown change book
-
 -- a copy as what is published
 abbrev pub sheet_of : {n : ℕ} → PublishedTable n → Sheet
 sheet_of copy = sheet copy.book copy.front copy.origin
-
--- what is published next: the spare copy, brought up to date, with one call more
-abbrev pub next_sheet : {n : ℕ} → PublishedTable n → PublishedTable n → Call → NextCopy → Sheet
-next_sheet {n} shown spare call next = sheet (book_offered n (brought_up n shown.book next.missing_change spare.book) call) next.front shown.origin
 
 -- what is published of a station beside its history
 abbrev pub origin_of : Start → Origin

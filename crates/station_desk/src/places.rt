@@ -1,5 +1,5 @@
 //! A publishing end and its reader places, for a station that isn't made yet.
-ghost use Rattle.std.specs.Prelude.{◌≡◌, ◌<◌, ◌≤◌, [], drop, length, Some, IfOk, IfErr, vec_len, vec_capacity};
+ghost use Rattle.std.specs.Prelude.{◌≡◌, ◌<◌, ◌≤◌, [], false, drop, length, Some, IfOk, IfErr, vec_len, vec_capacity};
 ghost use Rattle.std.specs.List.{AllByRecursion};
 ghost use Rattle.left_right.specs.Sides.{view};
 ghost use Rattle.station_journal.specs.Log.{most_entries};
@@ -8,10 +8,12 @@ ghost use Rattle.station_book.specs.Matching.{Matches};
 ghost use Rattle.station_history.specs.History.{base_of};
 ghost use Rattle.station_desk.specs.Published.{IsOf};
 ghost use Rattle.station_book.specs.JournalBook.{most_aircraft};
+ghost use Rattle.station_desk.specs.declared.behind.Behind.TheVariants.{Nothing};
 
+use crate::copies::Copies;
 use crate::publish_rule::{PublishRule, ReaderPlace};
 use crate::published::{Mark, NoOperation, Origin, PublishedTable};
-use crate::publisher::{Publisher, begin, blank, new_place, take_apart};
+use crate::publisher::{Publisher, begin, blank, blank_box, new_place, take_apart};
 use crossbeam_utils::rule::Protocol;
 use left_right::Absorb;
 use station_history::History;
@@ -31,6 +33,8 @@ where
     base: u64,
     history: History,
     publisher: Publisher<N>,
+    // In the place of the copy that takes calls.
+    stand_in: Box<PublishedTable<N>>,
     places: Vec<ReaderPlace<N>>,
     ghost small: { N ≤ most_aircraft },
 }
@@ -45,22 +49,19 @@ where
     PublishRule: Protocol<PublishedTable<N>, Option<Mark>>,
 {
     pub history: History,
-    pub publisher: Publisher<N>,
+    pub copies: Copies<N>,
     ghost small: { N ≤ most_aircraft },
-    ghost front: { publisher.desk.shown.value.front ≡ history },
-    ghost spare: { publisher.desk.spare.value.book ≡ publisher.desk.shown.value.book },
-    ghost origin: { publisher.desk.spare.value.origin ≡ publisher.desk.shown.value.origin },
-    ghost idle: { drop publisher.behind publisher.log.items ≡ [] },
+    ghost front: { copies.shown.front ≡ history },
+    ghost next: { copies.next.book ≡ copies.shown.book },
+    ghost origin: { copies.next.origin ≡ copies.shown.origin },
+    ghost closed: { (copies.behind ≡ Nothing) × (copies.is_open ≡ false) },
 }
 
 impl<const N: usize> Opening<N> {
     /// Takes it apart.
     pub fn end<R: Wait>(self, rt: &R) {
-        let Opening {
-            history: _,
-            publisher,
-        } = self;
-        take_apart(rt, publisher);
+        let Opening { history: _, copies } = self;
+        copies.end(rt);
     }
 }
 
@@ -129,6 +130,7 @@ impl<const N: usize> Places<N> {
     {
         let places = Vec::with_capacity(alloc, usize::from(seats))?;
         let history = History::new(base);
+        let stand_in = blank_box(alloc, &history, base)?;
         let first = blank(&history, base);
         let second = blank(&history, base);
         let publisher = Publisher::new(alloc, first, second, usize::from(seats))?;
@@ -137,6 +139,7 @@ impl<const N: usize> Places<N> {
             base,
             history,
             publisher,
+            stand_in,
             places,
         })
     }
@@ -156,11 +159,11 @@ impl<const N: usize> Places<N> {
         requires aircraft { limits.aircraft ≡ N }
         requires few { (length entries.now ≤ limits.entries) × (limits.entries ≤ most_entries) }
         ensures history { IfOk result (λ t. (t.0.history.name ≡ self.entry.history) × (t.0.history.entries ≡ entries.now)) }
-        ensures origin { IfOk result (λ t. t.0.publisher.desk.shown.value.origin
+        ensures origin { IfOk result (λ t. t.0.copies.shown.origin
             ≡ Some (record { limits = limits; resumed = length entries.now })) }
         ensures matched { IfOk result (λ t.
-            Matches N (base_of self.entry.history) t.0.publisher.desk.shown.value.book entries.now) }
-        ensures site { IfOk result (λ t. t.0.publisher.desk.shown.value.book.site ≡ limits.site) }
+            Matches N (base_of self.entry.history) t.0.copies.shown.book entries.now) }
+        ensures site { IfOk result (λ t. t.0.copies.shown.book.site ≡ limits.site) }
         ensures places { IfOk result (λ t. (vec_len t.1 ≡ self.entry.places)
             × AllByRecursion (λ p. IsOf (record { history = self.entry.history; limits = limits; resumed = length entries.now }) (view p.place)) t.1.items) }
         ensures err { IfErr result (λ fault. Refuses limits (base_of self.entry.history) entries.now fault) }
@@ -169,6 +172,7 @@ impl<const N: usize> Places<N> {
             base,
             mut history,
             publisher,
+            stand_in,
             mut places,
         } = self;
         let count = places.len();
@@ -183,7 +187,10 @@ impl<const N: usize> Places<N> {
             Err(place) => return Err(ResumeFault::Unsound(place)),
         };
         match with_places(rt, publisher, places, count) {
-            Ok((publisher, places)) => Ok((Opening { history, publisher }, places)),
+            Ok((publisher, places)) => {
+                let copies = Copies::over(publisher, stand_in);
+                Ok((Opening { history, copies }, places))
+            }
             Err(_) => Err(ResumeFault::NoMemory),
         }
     }
@@ -194,6 +201,7 @@ impl<const N: usize> Places<N> {
             base: _,
             history: _,
             publisher,
+            stand_in: _,
             places: _,
         } = self;
         take_apart(rt, publisher);

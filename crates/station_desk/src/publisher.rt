@@ -1,4 +1,4 @@
-//! The publishing end. Readers have one of two copies. The other is brought up to date and shown in its place.
+//! The publishing end, and how a station begins. Readers have one of two copies.
 ghost use Rattle.std.specs.Prelude.{◌≡◌, ◌≤◌, drop, length, None, Some, OnOk, IfOk, IfErr};
 ghost use Rattle.left_right.specs.Sides.{view};
 ghost use Rattle.station_book.specs.State.{starting};
@@ -6,107 +6,28 @@ ghost use Rattle.station_book.specs.Matching.{Matches, book_after};
 ghost use Rattle.station_journal.specs.Follow.{IsFirstUnsound};
 ghost use Rattle.station_journal.specs.Log.{most_entries};
 ghost use Rattle.station_history.specs.History.{base_of};
-ghost use Rattle.station_desk.specs.Published.{Follows, sheet, sheet_of, next_sheet, brought_up, mark_of, BeginsWith};
+ghost use Rattle.station_desk.specs.Published.{Follows, sheet, sheet_of, mark_of, BeginsWith};
 
 use crate::publish_rule::{PassesView, PublishRule, ReaderPlace, SeesPublished};
 use crate::published::{Mark, NoOperation, Origin, PublishedTable};
-use core::mem::replace_with;
 use left_right::writer::Writer;
-use station_book::{Book, Call, Change};
+use station_book::Book;
 use station_history::{Beginning, History};
 use station_journal::Entry;
-use std::alloc::AllocError;
+use std::alloc::{AllocError, Global};
 use std::sync::Wait;
 
 /// The publishing end.
-pub type Publisher<const N: usize> = Writer<
+pub(crate) type Publisher<const N: usize> = Writer<
     PublishedTable<N>,
     NoOperation,
     Option<Mark>,
     PublishRule,
 >;
 
-/// What makes the next copy, beside a call: the change that the spare copy lacks, and the beginning of the history
-/// that it then shows.
-#[derive(Drop)]
-pub(crate) struct NextCopy {
-    pub missing_change: Option<Change>,
-    pub front: Beginning,
-}
-
 /// Takes the publishing end apart, once nobody reads.
-pub fn take_apart<const N: usize, R: Wait>(rt: &R, publisher: Publisher<N>) {
+pub(crate) fn take_apart<const N: usize, R: Wait>(rt: &R, publisher: Publisher<N>) {
     publisher.take(rt);
-}
-
-/// The running book, as readers are shown it.
-#[inline(always)]
-pub(crate) fn shown_book<const N: usize>(publisher: &Publisher<N>) -> &Book<N>
-    ensures { result.now ≡ publisher.now.desk.shown.value.book }
-{
-    &publisher.published().book
-}
-
-// Copies what the book lacks of the shown one.
-fn bring_up<const N: usize>(book: &mut Book<N>, shown: &Book<N>, missing_change: Option<Change>)
-    ensures { book.new ≡ brought_up N shown.now missing_change book.old }
-{
-    if let Some(change) = missing_change {
-        book.catch_up(shown, change);
-    }
-}
-
-// Makes the next copy of one that nobody reads.
-fn renew<const N: usize>(
-    copy: &mut PublishedTable<N>,
-    shown: &PublishedTable<N>,
-    call: &Call,
-    next: NextCopy,
-)
-    requires { copy.old.origin ≡ shown.now.origin }
-    ensures { sheet_of copy.new ≡ next_sheet shown.now copy.old call.now next }
-{
-    bring_up(&mut copy.book, &shown.book, next.missing_change);
-    copy.book.offer_call(call);
-    copy.front = next.front;
-}
-
-/// Brings the spare copy up to date, applies the call to it, and shows it. It waits for those that still read the copy,
-/// and allocates nothing.
-pub(crate) fn turn_in_place<const N: usize, R: Wait>(
-    rt: &R,
-    publisher: &mut Publisher<N>,
-    call: &Call,
-    next: NextCopy,
-)
-    requires follows { Follows N (sheet_of publisher.old.desk.shown.value)
-        (next_sheet publisher.old.desk.shown.value publisher.old.desk.spare.value call.now next) }
-    requires origin { publisher.old.desk.spare.value.origin ≡ publisher.old.desk.shown.value.origin }
-    ensures shown { sheet_of publisher.new.desk.shown.value
-        ≡ next_sheet publisher.old.desk.shown.value publisher.old.desk.spare.value call.now next }
-    ensures spare { publisher.new.desk.spare.value ≡ publisher.old.desk.shown.value }
-    ensures view { view publisher.new.desk.place
-        ≡ mark_of next.front publisher.old.desk.shown.value.origin }
-    ensures pending { drop publisher.new.behind publisher.new.log.items ≡ drop publisher.old.behind publisher.old.log.items }
-{
-    // Only what shows the copies is moved, and not the log.
-    replace_with(
-        &mut publisher.desk,
-        (rt, call, next),
-        |desk, parts: (&R, &Call, NextCopy)| -> (_, ())
-            requires follows { Follows N (sheet_of desk.shown.value)
-                (next_sheet desk.shown.value desk.spare.value parts.1.now parts.2) }
-            requires origin { desk.spare.value.origin ≡ desk.shown.value.origin }
-            ensures shown { sheet_of result.0.shown.value
-                ≡ next_sheet desk.entry.shown.value desk.entry.spare.value parts.entry.1.now parts.entry.2 }
-            ensures spare { result.0.spare.value ≡ desk.entry.shown.value }
-            ensures view { view result.0.place ≡ mark_of parts.entry.2.front desk.entry.shown.value.origin }
-        {
-            let (open, mut spare) = desk.open(parts.0);
-            renew(&mut spare, open.shown.get(), parts.1, parts.2);
-            (open.show_as::<SeesPublished>(spare), ())
-        },
-    );
 }
 
 // Makes the copy that of a book given the entries in their order. Refused at the place of the first that doesn't fit.
@@ -234,6 +155,16 @@ pub(crate) fn blank<const N: usize>(history: &History, base: u64) -> PublishedTa
         front: history.front(),
         origin: None,
     }
+}
+
+/// Such a copy on the heap. Refused when out of memory.
+#[inline(never)]
+pub(crate) fn blank_box<const N: usize>(
+    alloc: Global,
+    history: &History,
+    base: u64,
+) -> Result<Box<PublishedTable<N>>, AllocError> {
+    Ok(Box::new(alloc, blank(history, base))?)
 }
 
 // One more reader place, which knows nothing yet.

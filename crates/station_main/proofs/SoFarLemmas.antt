@@ -7,7 +7,7 @@ use Rattle.messages.proofs.Common.{Tells, Told, fault_line}
 use Rattle.messages.specs.Telling.{Alarmed}
 use Rattle.messages.specs.declared.faults.Fault.TheVariants as fault
 use Rattle.station_reporter.proofs.Common.{IfRecording, Printing, Recording, Records, TakesBy, TakesTexts, TakesTextsBy, TakesText, TellsFailure, TellsOutput}
-use Rattle.station_reporter.specs.Recorded.{RecordsRest}
+use Rattle.station_files.specs.Recorded.{RecordsRest}
 use Rattle.station_run.proofs.Common.{BeginsRound, Begun, EndsRound, Follows, GoesOn, HandsOver, Left, RunPlan, RunsStation, Station, Streams}
 use Rattle.station_main.specs.Statuses.{ReportsOutput, ReportsRecord, TellsLines, ToldLine, new_alarm, worst_line}
 use Rattle.station_main.proofs.StatusLemmas.{lines-then, no-lines, round-told, worst-then}

@@ -10,7 +10,7 @@ use Rattle.station_lines.specs.declared.tally.Tally.{Tally}
 use Rattle.messages.specs.Status.{fault_status}
 use Rattle.messages.specs.Telling.{Alarmed, Tells, Told, fault_line, tally_line, telling_line}
 use Rattle.messages.specs.declared.faults.Fault.TheVariants as fault
-use Rattle.station_reporter.specs.Recorded.{TellsFailure}
+use Rattle.station_files.specs.Recorded.{TellsFailure}
 use Rattle.station_run.specs.Stations.{RunPlan, plan_from}
 use Rattle.station_main.specs.Jobs.{HasNoMemory, is_shown}
 

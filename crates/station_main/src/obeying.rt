@@ -8,8 +8,9 @@ ghost use Rattle.std.specs.Prelude.{◌≡◌, ◌≤◌, ◌⊎◌, ℕ, List, 
 use crate::replay_job::replay_input;
 use command_line::{Job, WordsFault, read_words};
 use messages::{Alarms, Fault, StandardError};
+use station_files::milliseconds_since_1970;
 use station_paths::{Host, PathSystem, System};
-use station_reporter::{LimitAlarm, milliseconds_since_1970};
+use station_reporter::LimitAlarm;
 use station_run::{JobResult, RunOptions, run, without_output};
 use std::alloc::Global;
 use std::io::{Read, Write};

@@ -25,6 +25,7 @@ use streams::ToWrite;
 /// it is given. Then prints what was counted, and
 /// a fault if there is one. The first frame or tick that meets a full journal or a full table is reported to `alarm` at once.
 /// Answers the output, unless nothing was read.
+#[inline(never)]
 pub fn replay_input<R: Wait, I: Read + Drop, O: Write + Drop, A: Write, E: Write>(
     rt: &R,
     alloc: Global,

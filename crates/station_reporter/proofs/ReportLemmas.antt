@@ -1,22 +1,35 @@
 -- Showings of the reporter, one more at the end.
 use Rattle.std.proofs.Common.{rules, ◌≡◌, ◌∙◌, ◌⊎◌, inl, inr, ℕ, ◌+◌, ◌≤◌, ◌<◌, true, false, List, [], ◌∷◌, ◌++◌, Option, Some, None, Result, Ok, Err, IfSome, refl, sym, ap, subst, append-nil, map, IfOk, IfErr, ◌||◌, Bool, cond, is_some}
+use Rattle.std.specs.List.{flat_map}
 use Rattle.std.specs.Io.KnownBytes.{Appends}
 use Rattle.std.proofs.KnownBytes.{Appends-nil, Appends-trans}
+use Rattle.std.proofs.lemmas.List.Concat.{flat_map-append}
 use Rattle.station_journal.specs.declared.entry.Entry.TheVariants.{Tick}
 use Rattle.station_journal.specs.declared.refusal.Refusal.{Refusal}
 use Rattle.station_report.specs.declared.formats.Format.{Format}
 use Rattle.station_history.proofs.Common.{Start, Known}
 use Rattle.station_shared.specs.Seats.{Seated, Accepted, Refused, Looks}
+use Rattle.station_record.specs.Record.{RecordedLook}
 use Rattle.station_reporter.proofs.Common.{Acting, AreApart, DoesAct, IsActAt, IsShowing, IsLater, LeavesOut, MayNote, NotesTick, Reports, Showing, Showings, ShowsTable, Ticks, TicksAlone, after_table, after_tick, due_moments, has_come, is_shown, is_writing_due, last_writing, looks_of, seat_after, shown_look, IfRecording, PrintsAndRecords, Recording, Records, recorded_by, recorded_look, Due, Tables, MayFail, Printing, TakesTexts, is_broken}
 use Rattle.station_output.proofs.PrintingLemmas.{takes-failure, takes-nothing, takes-refused, takes-then}
 use Rattle.station_reporter.specs.declared.reporter.ReporterResult.{ReporterResult}
 use Rattle.station_reporter.specs.declared.schedule.Act.{Act}
 use Rattle.station_reporter.specs.declared.schedule.Act.TheVariants as act
-use Rattle.station_reporter.proofs.RecordedLemmas.{no-more-records, no-records, one-more-record}
+use Rattle.station_files.proofs.RecordedLemmas.{further-records, no-more-records, no-records}
 use Rattle.station_reporter.proofs.PrefixLemmas.{begins-trans}
 use Rattle.station_reporter.proofs.ReportTimeLemmas.{acts-then, due-then, nothing-due, table-due, tick-due}
 
 -- ---- showings
+
+-- the record of the showings so far and of one more
+one-more-record : (showings : List Showing) (showing : Showing) (was mid is : Option Recording) → IfRecording (Records (recorded_by showings)) was mid
+    → IfRecording (Records (recorded_look (is_shown showing) showing.look)) mid is → IfRecording (Records (recorded_by (showings ++ showing ∷ []))) was is
+one-more-record showings showing was mid is p q =
+    let here = recorded_look (is_shown showing) showing.look in
+    let parts : recorded_by showings ++ here ≡ recorded_by (showings ++ showing ∷ []) =
+    ap (λ (looks : List RecordedLook). recorded_by showings ++ looks) (sym (append-nil here))
+    ∙ sym (flat_map-append (λ (s : Showing). recorded_look (is_shown s) s.look) showings (showing ∷ [])) in
+    subst (λ (looks : List RecordedLook). IfRecording (Records looks) was is) parts (further-records (recorded_by showings) here was mid is p q)
 
 Showings_snoc : (station : Start) (old mid : Seated) (showings : List Showing) (showing : Showing) → Showings station old showings mid → IsShowing station mid showing
     → Showings station old (showings ++ showing ∷ []) (seat_after showing)
@@ -45,40 +58,6 @@ apart_snoc : (last : Option ℕ) (showings : List Showing) (showing : Showing) �
 apart_snoc last [] showing apart due = (due, tt)
 apart_snoc last (r ∷ rs) showing apart due = (apart.0, apart_snoc (last_writing last r) rs showing apart.1 due)
 
--- one more table, which is printed or left out
-pub record ShowsOne (format : Format) (station : Start) (looks : List (Option Seated)) (old new : Seated) (first after : Printing) (was is : Option Recording) : Type 0 where
-  pub look : Option Seated
-  pub has_room : Bool
-  pub looked : (look ≡ None) × (new ≡ old) ⊎ (look ≡ Some new) × Looks station old new
-  pub takes : TakesTexts format station (looks ++ cond has_room look None ∷ []) first after
-  pub records : IfRecording (Records (recorded_look has_room look)) was is
-
-pub shown_at_most : (format : Format) (station : Start) (looks : List (Option Seated)) (old new : Seated) (first before after : Printing) (was is : Option Recording)
-    → TakesTexts format station looks first before → is_broken before ≡ false → ShowsTable format station old new before after was is
-    → ShowsOne format station looks old new first after was is
-shown_at_most format station looks old new first before after was is so_far well (inl (inl (prints, records))) = record {
-  look = Some new;
-  has_room = true;
-  looked = inr (refl, prints.looks);
-  takes = takes-then format station looks (Some new ∷ []) first before after so_far prints.takes;
-  records = records;
-}
-shown_at_most format station looks old new first before after was is so_far well (inl (inr (passes, unchanged))) = record {
-  look = None;
-  has_room = true;
-  looked = inl (refl, passes.same_seat);
-  takes = takes-then format station looks (None ∷ []) first before after so_far (takes-refused format station before after passes.same_output well);
-  records = no-more-records was is unchanged;
-}
-shown_at_most format station looks old new first before after was is so_far well (inr out) = by-notes out.is_noted out.notes
-  where
-    takes : TakesTexts format station (looks ++ None ∷ []) first after
-    takes = takes-then format station looks (None ∷ []) first before after so_far (takes-refused format station before after out.same well)
-
-    by-notes : (is_noted : Bool) → MayNote station old new was is is_noted → ShowsOne format station looks old new first after was is
-    by-notes true noted = record { look = Some new; has_room = false; looked = inr (refl, noted.looks); takes = takes; records = noted.records }
-    by-notes false refused = record { look = None; has_room = false; looked = inl (refl, refused.0); takes = takes; records = no-more-records was is refused.1 }
-
 -- a table that is printed after the showings
 pub record PrintsOne (format : Format) (station : Start) (looks : List (Option Seated)) (old new : Seated) (first after : Printing) (was is : Option Recording) : Type 0 where
   pub look : Option Seated
@@ -101,6 +80,29 @@ printed_at_most format station looks old new first before after was is so_far we
   takes = takes-then format station looks (None ∷ []) first before after so_far (takes-refused format station before after passes.same_output well);
   records = no-more-records was is unchanged;
 }
+
+-- one more table, which is printed or left out
+pub record ShowsOne (format : Format) (station : Start) (looks : List (Option Seated)) (old new : Seated) (first after : Printing) (was is : Option Recording) : Type 0 where
+  pub look : Option Seated
+  pub has_room : Bool
+  pub looked : (look ≡ None) × (new ≡ old) ⊎ (look ≡ Some new) × Looks station old new
+  pub takes : TakesTexts format station (looks ++ cond has_room look None ∷ []) first after
+  pub records : IfRecording (Records (recorded_look has_room look)) was is
+
+pub shown_at_most : (format : Format) (station : Start) (looks : List (Option Seated)) (old new : Seated) (first before after : Printing) (was is : Option Recording)
+    → TakesTexts format station looks first before → is_broken before ≡ false → ShowsTable format station old new before after was is
+    → ShowsOne format station looks old new first after was is
+shown_at_most format station looks old new first before after was is so_far well (inl prints) =
+    let p = printed_at_most format station looks old new first before after was is so_far well prints in
+    record { look = p.look; has_room = true; looked = p.looked; takes = p.takes; records = p.records }
+shown_at_most format station looks old new first before after was is so_far well (inr out) = by-notes out.is_noted out.notes
+  where
+    takes : TakesTexts format station (looks ++ None ∷ []) first after
+    takes = takes-then format station looks (None ∷ []) first before after so_far (takes-refused format station before after out.same well)
+
+    by-notes : (is_noted : Bool) → MayNote station old new was is is_noted → ShowsOne format station looks old new first after was is
+    by-notes true noted = record { look = Some new; has_room = false; looked = inr (refl, noted.looks); takes = takes; records = noted.records }
+    by-notes false refused = record { look = None; has_room = false; looked = inl (refl, refused.0); takes = takes; records = no-more-records was is refused.1 }
 
 -- ---- looks that show nothing
 

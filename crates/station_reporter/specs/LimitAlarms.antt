@@ -2,7 +2,7 @@
 use Rattle.std.specs.Prelude.{◌≡◌, ℕ, Bool, true, false, List, [], ◌∷◌, ◌++◌, Option}
 use Rattle.station_journal.specs.declared.full_limit.FullLimit.{FullLimit}
 use Rattle.station_journal.specs.declared.full_limit.FullLimit.TheVariants.{Journal, Table}
-use Rattle.station_shared.specs.declared.limits_met.LimitsMet.{LimitsMet}
+use Rattle.station_counts.specs.declared.limits_met.LimitsMet.{LimitsMet}
 use Rattle.messages.specs.Telling.{Tells, Told, fault_line, told_of}
 use Rattle.messages.specs.declared.faults.Fault.{Fault}
 use Rattle.messages.specs.declared.faults.Fault.TheVariants as fault

@@ -10,8 +10,8 @@ use Rattle.station_history.specs.History.{Known}
 use Rattle.station_history.specs.Start.{Start}
 use Rattle.station_shared.specs.Seats.{Seated, Accepted, Refused, Looks}
 use Rattle.station_record.specs.Record.{RecordedLook}
-use Rattle.station_reporter.specs.Recorded.{IfRecording, PrintsAndRecords, Recording, Records, recorded_look}
-use Rattle.station_output.specs.Tables.{Printing, TakesTexts, is_broken}
+use Rattle.station_files.specs.Recorded.{IfRecording, Recording, Records, recorded_look}
+use Rattle.station_output.specs.Tables.{PassesOver, Printing, Prints, TakesTexts, is_broken}
 use Rattle.station_reporter.specs.declared.schedule.Act.{Act}
 use Rattle.station_reporter.specs.declared.schedule.Act.TheVariants as act
 use Rattle.station_reporter.specs.declared.schedule.Due.{Due}
@@ -157,6 +157,11 @@ pub record LeavesOut (start : Start) (old new : Seated) (before after : Printing
   pub same : after ≡ before
   pub is_noted : Bool
   pub notes : MayNote start old new was is is_noted
+
+-- the seat looks, and the table is printed and recorded; or neither is done
+abbrev pub PrintsAndRecords : Format → Start → Seated → Seated → Printing → Printing → Option Recording → Option Recording → Type 0
+PrintsAndRecords format start old new before after was is =
+    (Prints format start old new before after × IfRecording (Records (recorded_look true (Some new))) was is) ⊎ (PassesOver old new before after × (is ≡ was))
 
 -- a table that is due is printed and recorded, or it is left out
 abbrev pub ShowsTable : Format → Start → Seated → Seated → Printing → Printing → Option Recording → Option Recording → Type 0

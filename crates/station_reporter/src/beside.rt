@@ -2,12 +2,11 @@
 ghost use Rattle.std.specs.Prelude.{◌≡◌};
 ghost use Rattle.station_reporter.specs.LimitAlarms.{TellsLimits, limits_told, met_limits};
 
-use crate::displays::Displays;
 use crate::limit_alarm::LimitAlarm;
-use crate::recorder::Recorder;
 use crate::requests::Requests;
 use crate::schedule::RunClock;
-use station_shared::LimitsMet;
+use station_counts::LimitsMet;
+use station_files::{Displays, Recorder};
 use station_watch::Watch;
 use std::io::Write;
 use std::time::Clock;

@@ -4,9 +4,9 @@ ghost use Rattle.station_reporter.specs.LimitAlarms.{TellsLimit, TellsLimits, ha
 ghost use Rattle.messages.specs.Telling.{told_of};
 
 use messages::{Fault, StandardError, tell};
+use station_counts::LimitsMet;
 use station_journal::FullLimit;
 use station_replay::LimitObserver;
-use station_shared::LimitsMet;
 use std::io::Write;
 use std::mem::replace;
 

@@ -4,10 +4,9 @@ ghost use Rattle.station_reporter.specs.Reporter.{MayNote, TicksAlone};
 
 use crate::bell::Bells;
 use crate::beside::Beside;
-use crate::displays::{put_table, table_for};
-use crate::recorder::record_look;
 use crate::reporter::ReporterResult;
 use crate::schedule::is_writing_due;
+use station_files::{put_table, record_look, table_for};
 use station_output::Printer;
 use station_shared::{Seat, Station, StationName};
 use std::fs::File;

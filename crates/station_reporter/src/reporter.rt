@@ -1,20 +1,18 @@
 //! The reporter, which prints the table as its own seat sees it.
 ghost use Rattle.std.specs.Prelude.{◌≡◌, ◌≤◌, ℕ, List, None, false, length, true};
 ghost use Rattle.std.specs.Io.KnownBytes.{Appends};
-ghost use Rattle.station_reporter.specs.Recorded.{PrintsAndRecords};
-ghost use Rattle.station_reporter.specs.Reporter.{DoesAct, IsLater, Reports, ReportsByAClock, ShowsTable};
+ghost use Rattle.station_reporter.specs.Reporter.{DoesAct, IsLater, PrintsAndRecords, Reports, ReportsByAClock, ShowsTable};
 ghost use Rattle.station_output.specs.Tables.{is_broken};
 
 use crate::bell::{Bell, Bells};
 use crate::beside::Beside;
-use crate::displays::{put_table, table_for};
 use crate::duties::Duties;
 use crate::noting::{note, tick_alone};
-use crate::recorder::record_look;
 use crate::requests::Requests;
 use crate::schedule::{
     Act, Due, ElapsedClock, LONGEST_SLEEP, Moments, RunClock, act_at, after_tick,
 };
+use station_files::{put_table, record_look, table_for};
 use station_output::Printer;
 use station_report::Format;
 use station_shared::{Seat, Station, StationName};

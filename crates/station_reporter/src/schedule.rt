@@ -1,10 +1,10 @@
 //! When the reporter acts, in milliseconds of the run's clock.
 ghost use Rattle.std.specs.Prelude.{◌≡◌, ◌-◌, ◌^◌, ◌/◌, ℕ, List, [], ◌∷◌, Option, None, min};
-ghost use Rattle.std.specs.Duration.{as_nanos};
 ghost use Rattle.std.specs.Io.KnownBytes.{Appends};
 ghost use Rattle.station_reporter.specs.Reporter.{IsActAt, after_table, after_tick, due_from, first_due, has_come, is_writing_due, next_moment, next_tick, writing_interval};
 
 use command_line::Pace;
+use station_files::milliseconds;
 use station_report::Format;
 use std::time::{Clock, Duration, Instant};
 
@@ -215,19 +215,4 @@ impl<R: Clock> Moments for ElapsedClock<'_, R> {
     fn now(&mut self) -> u64 {
         self.clock.now(self.rt)
     }
-}
-
-/// The time of the system in milliseconds since 1970, UTC, or 0 if it can't be read.
-pub fn milliseconds_since_1970<R: Clock>(rt: &R) -> u64 {
-    match rt.since_1970() {
-        Ok(passed) => milliseconds(passed),
-        Err(_) => 0,
-    }
-}
-
-// Whole milliseconds, up to 2^64 - 1.
-pub(crate) fn milliseconds(passed: Duration) -> u64
-    ensures { result ≡ min (as_nanos passed / 1000000) (2 ^ 64 - 1) }
-{
-    u64::try_from(passed.as_millis()).unwrap_or(u64::MAX)
 }

@@ -21,7 +21,7 @@ use Rattle.station_reporter.proofs.Common.{IfRecording, PrintsAndRecords, Record
 use Rattle.station_output.proofs.Common.{based, put_after}
 use Rattle.station_output.proofs.PrintingLemmas.{based-fails, based-takes, same-ring, takes-failure}
 use Rattle.station_report.specs.declared.formats.Format.{Format}
-use Rattle.station_reporter.proofs.RecordedLemmas.{last-record}
+use Rattle.station_files.proofs.RecordedLemmas.{last-record}
 use Rattle.station_reporter.proofs.ReportLemmas.{printed_at_most}
 use Rattle.station_reporter.specs.declared.duties.Duties.{Duties}
 use Rattle.station_reporter.specs.declared.schedule.Due.{Due}

@@ -16,7 +16,8 @@ use Rattle.station_lines.specs.declared.pumping.PumpFault.TheVariants as pump
 use Rattle.station_lines.specs.declared.tally.Tally.{Tally}
 use Rattle.station_run.specs.Limits.{most_reads}
 use Rattle.station_reporter.specs.declared.reporter.ReporterResult.{ReporterResult}
-use Rattle.station_reporter.specs.Recorded.{PrintsAndRecords, Recording}
+use Rattle.station_files.specs.Recorded.{Recording}
+use Rattle.station_reporter.specs.Reporter.{PrintsAndRecords}
 use Rattle.station_output.specs.Tables.{MayFail, Printing}
 
 -- ---- the receivers

@@ -21,7 +21,7 @@ use Rattle.station_lines.specs.declared.tally.Tally.{Tally}
 use Rattle.station_shared.specs.Seats.{Seated, newcomer}
 use Rattle.station_paths.specs.Inputs.{AllTakeFrom, FailsBetweenLines, GaveAllBut, HasNoLines, unfinished_status, unknown}
 use Rattle.station_run.specs.Limits.{forget_at, program_limits}
-use Rattle.station_reporter.specs.Recorded.{IfRecording, IsNewRecord, Recording, Records, RecordsRest, record_status, recorded_look}
+use Rattle.station_files.specs.Recorded.{IfRecording, IsNewRecord, Recording, Records, RecordsRest, record_status, recorded_look}
 use Rattle.messages.specs.Status.{fault_status, status_of}
 use Rattle.station_run.specs.Output.{GivesBack}
 use Rattle.station_reporter.specs.Reporter.{IsLater, KeepsTime, MayHandOver, Showing, due_after, due_from, looks_of, not_before, recorded_by}

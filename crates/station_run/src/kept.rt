@@ -6,8 +6,9 @@ ghost use Rattle.station_paths.specs.Faults.{IsUnstarted};
 ghost use Rattle.messages.specs.declared.faults.Fault.TheVariants as fault;
 
 use messages::Fault;
+use station_files::record_rest;
 use station_journal::Journal;
-use station_reporter::{Beside, Kept, record_rest};
+use station_reporter::{Beside, Kept};
 use std::alloc::Global;
 use std::io::Write;
 use streams::Sink;

@@ -1,6 +1,7 @@
 //! The job `run`: one station after another.
 #![tactic(auto)]
 
+mod first_stage;
 mod kept;
 pub mod laws;
 pub mod limits;

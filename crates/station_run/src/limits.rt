@@ -26,7 +26,7 @@ pub const FORGET_AT: u64 = 12_582_912;
 /// The most reads of one input.
 pub const TURNS: u32 = u32::MAX;
 
-/// The room of a run's output buffer, in bytes: a full table as JSON. As text a row has 74 bytes.
+/// The room of the text of a table on its way to the output, in bytes: a full table as JSON. As text a row has 74 bytes.
 pub const TABLE_ROOM: usize = 147_456;
 
 // The most bytes of a row as JSON, with its comma: 112 of the address, callsign, altitude `ground` and velocity over ground, 54 of

@@ -17,13 +17,11 @@ use crate::output::{JobResult, give_back, without_output};
 use crate::run_options::RunOptions;
 use crate::stage::{Stage, StationEnd};
 use crate::stopping::stopped;
-use crate::threads::Output;
 use messages::{Fault, StandardError, tell, tell_end};
+use station_files::{Displays, RecordOutput, displays, recorder};
 use station_output::OpenOutput;
 use station_paths::{Host, Opened, PathSystem, Paths, System, open_all, start_all, tell_ends};
-use station_reporter::{
-    Beside, Displays, Duties, Kept, RecordFile, RunClock, Stop, displays, recorder,
-};
+use station_reporter::{Beside, Duties, Kept, RunClock, Stop};
 use std::alloc::Global;
 use std::fs::File;
 use std::io::{Read, Write};
@@ -52,7 +50,7 @@ pub struct Carried<O: Write + Drop, A: Write + Drop> {
     /// The end of the run, where somebody may ask for it.
     pub stop: Option<Arc<Stop, Global>>,
     pub out: OpenOutput<ToWrite<O>, A>,
-    pub beside: Beside<Output<RecordFile>, A>,
+    pub beside: Beside<RecordOutput, A>,
 }
 
 /// What comes after a station that was closed. Where its round is over, what was counted is printed. The next round begins
@@ -194,7 +192,7 @@ fn end_run<R: Threads + Wait, O: Write + Drop, A: Write + Drop, E: Write>(
     asked: RunOptions<'_>,
     status: u8,
     out: OpenOutput<ToWrite<O>, A>,
-    beside: Beside<Output<RecordFile>, A>,
+    beside: Beside<RecordOutput, A>,
     err: &mut StandardError<E>,
 ) -> JobResult<O>
     requires { status ≤ 1 }

@@ -15,13 +15,14 @@ mod opening;
 use crate::limits::AIRCRAFT;
 use crate::stage::ending::{Leaving, close, print_last};
 use crate::stage::opening::{Crew, begin};
-use crate::threads::{Outcome, Output, Receiver, run_threads};
+use crate::threads::{Outcome, Receiver, run_threads};
 use messages::{Answer, Fault};
+use station_files::RecordOutput;
 use station_journal::Journal;
 use station_output::OpenOutput;
 use station_paths::{Input, Paths, System};
 use station_portions::PathEnd;
-use station_reporter::{Beside, Due, Duties, Kept, RecordFile, Reporter, RunClock};
+use station_reporter::{Beside, Due, Duties, Kept, Reporter, RunClock};
 use station_shared::{Places, PumpFault, Seat, StationName};
 use std::alloc::Global;
 use std::io::{Read, Write};
@@ -47,7 +48,7 @@ pub struct Stage<'a, 'p, R, I: Read + Drop, O: Write + Drop, A: Write + Drop> {
     /// What the stations before it in its round counted, by input.
     pub answers: Vec<Answer>,
     pub out: OpenOutput<ToWrite<O>, A>,
-    pub beside: Beside<Output<RecordFile>, A>,
+    pub beside: Beside<RecordOutput, A>,
 }
 
 /// What a closed station leaves.
@@ -66,7 +67,7 @@ pub struct StationEnd<'a, 'p, R, I: Read + Drop, O: Write + Drop, A: Write + Dro
     /// What all stations of the round so far counted, by input.
     pub answers: Vec<Answer>,
     pub out: OpenOutput<ToWrite<O>, A>,
-    pub beside: Beside<Output<RecordFile>, A>,
+    pub beside: Beside<RecordOutput, A>,
 }
 
 /// Begins a station, runs its threads to their ends, and closes it with all its seats. It hands over just where its reporter

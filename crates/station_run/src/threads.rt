@@ -11,15 +11,12 @@ use station_reporter::{
     Bells, Beside, Reporter, ReporterResult, ReportsFrom, Requests, RunClock, report,
 };
 use station_shared::{Seat, Station, StationName, Worker, run_receivers};
-use std::io::{BufWriter, Write};
+use std::io::Write;
 use std::snapshot::Snapshot;
 use std::sync::Wait;
 use std::thread;
 use std::thread::Threads;
-use streams::{Sink, ToWrite};
-
-/// The file of a record, in its buffer.
-pub type Output<O> = ToWrite<BufWriter<O>>;
+use streams::Sink;
 
 /// A receiver: its seat, its input and, once it has ended, its answer.
 pub type Receiver<'a, R, L> = Worker<AIRCRAFT, Input<'a, R>, L>;

@@ -5,6 +5,7 @@ ghost use Rattle.station_history.specs.Start.{log_of};
 
 use crate::counted_desk::CountedDesk;
 use crate::seat::Seat;
+use crate::shown_desk::ShownDesk;
 use crate::station::Station;
 use crate::station_name::StationName;
 use arrayvec::ArrayVec;
@@ -43,11 +44,12 @@ impl<const N: usize, L: StationName> Station<N, L> {
             seats: _count,
             flags: _,
         } = self;
+        let ShownDesk { counted } = locked.into_inner();
         let CountedDesk {
             desk,
             total: _,
             rest: _,
-        } = locked.into_inner();
+        } = counted;
         desk.end(rt);
     }
 
@@ -79,8 +81,9 @@ impl<const N: usize, L: StationName> Station<N, L> {
             seats: _count,
             flags: _,
         } = self;
+        let ShownDesk { counted } = locked.into_inner();
         Ok(Closed {
-            journal: locked.into_inner().close(rt, seats),
+            journal: counted.close(rt, seats),
             accepted,
         })
     }

@@ -9,13 +9,13 @@ ghost use Rattle.station_shared.specs.Workers.{SeatSteps};
 ghost use mathlib.Core.List.{IsPrefix};
 
 use crate::counted_desk::CountedDesk;
-use crate::counts::Reasons;
-use crate::limits_met::LimitFlags;
 use crate::seat::Seat;
+use crate::shown_desk::ShownDesk;
 use crate::station::Station;
 use crate::station_name::StationName;
 use modes_frame::CheckedFrame;
 use station_book::Call;
+use station_counts::{LimitFlags, Reasons};
 use station_journal::{Entry, NoMemory, Refusal};
 use station_lines::pumping::stop_after;
 use station_lines::{ParsedLine, Tally};
@@ -136,10 +136,12 @@ pub(crate) fn take_held<const N: usize, L: StationName, R: Wait>(
     if ahead.is_empty() {
         return Ok(());
     }
-    let mut desk = station.releases.lock(rt, &station.locked);
+    let mut guard = station.releases.lock(rt, &station.locked);
+    let ShownDesk { counted: desk } = &mut *guard;
     desk.take_page(page, ahead.len());
     desk.confirm_prefix(seat);
-    let taken = take_parsed(rt, &station.flags, reasons, &mut *desk, seat, tally, ahead);
-    station.releases.free(desk);
+    let taken = take_parsed(rt, &station.flags, reasons, desk, seat, tally, ahead);
+    desk.show(rt);
+    station.releases.free(guard);
     taken
 }

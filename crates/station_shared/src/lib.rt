@@ -3,28 +3,26 @@
 
 pub mod close;
 mod counted_desk;
-pub mod counts;
 mod held_lines;
 mod held_pump;
-pub mod limits_met;
 pub mod look;
 mod receipt;
 mod releases;
 pub mod seat;
 mod seat_account;
 pub mod seat_feed;
+mod shown_desk;
 pub mod station;
 pub mod station_name;
 pub mod worker;
 
 pub use close::{Closed, Missing};
-pub use counts::{Counts, Refusals, SharedCounts};
-pub use limits_met::LimitsMet;
 pub use look::Look;
 pub use receipt::Receipt;
 pub use seat::Seat;
 pub use seat_feed::{SeatFeed, pump_seat};
 pub use station::Station;
+pub use station_counts::{LimitsMet, SharedCounts};
 pub use station_desk::Places;
 pub use station_lines::{Command, CommandFault, Feed, PIECE, PumpFault, Tally, pump, read_command};
 pub use station_name::StationName;

@@ -2,12 +2,12 @@
 ghost use Rattle.std.specs.Prelude.{◌≡◌, ◌<◌, ℕ, length, slice_index_or};
 ghost use Rattle.station_shared.specs.Workers.{Worked};
 
-use crate::counts::SharedCounts;
 use crate::held_pump::pump_held;
 use crate::seat::Seat;
 use crate::station::Station;
 use crate::station_name::StationName;
 use crossbeam_utils::rule::Protocol;
+use station_counts::SharedCounts;
 use station_desk::{Mark, PublishRule, PublishedTable};
 use station_lines::{PumpFault, Tally};
 use std::alloc::Global;

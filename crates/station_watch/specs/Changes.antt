@@ -1,7 +1,7 @@
 -- What a watch knows of a path from look to look.
 use Rattle.std.specs.Prelude.{◌≤◌}
-use Rattle.station_shared.specs.declared.counts.Counts.{Counts}
-use Rattle.station_shared.specs.declared.counts.Refusals.{Refusals}
+use Rattle.station_counts.specs.declared.counts.Counts.{Counts}
+use Rattle.station_counts.specs.declared.counts.Refusals.{Refusals}
 
 -- no number of refused frames is less than before, whatever the reason
 pub record MoreRefused (old new : Refusals) : Type 0 where

@@ -2,8 +2,8 @@
 
 use crate::watched_path::WatchedPath;
 use json::Writer;
+use station_counts::Refusals;
 use station_portions::PathState;
-use station_shared::Refusals;
 use std::alloc::{AllocError, Global};
 
 // What is known of the receivers at `now`, in milliseconds of the run's clock, as a line of JSON. `origin` is the time at which

@@ -3,8 +3,8 @@
 use crate::receivers_json::receivers_text;
 use crate::watched_path::WatchedPath;
 use messages::StandardError;
+use station_counts::SharedCounts;
 use station_portions::{HandOver, PathState};
-use station_shared::SharedCounts;
 use std::alloc::{AllocError, Global};
 use std::io::Write;
 use std::sync::Arc;

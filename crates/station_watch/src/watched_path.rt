@@ -2,8 +2,8 @@
 ghost use Rattle.std.specs.Prelude.{◌≡◌};
 ghost use Rattle.station_watch.specs.Changes.{MoreRefused, NeverFall};
 
+use station_counts::{Counts, Refusals, SharedCounts};
 use station_portions::PathState;
-use station_shared::{Counts, Refusals, SharedCounts};
 use std::alloc::{AllocError, Global};
 use std::sync::Arc;
 

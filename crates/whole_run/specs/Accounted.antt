@@ -7,7 +7,7 @@ use Rattle.station_journal.specs.declared.entry.Entry.TheVariants.{Tick}
 use Rattle.station_lines.specs.declared.pumping.PumpFault.{PumpFault}
 use Rattle.station_lines.specs.declared.tally.Tally.{Tally}
 use Rattle.station_record.specs.Record.{Grows, last_after}
-use Rattle.station_reporter.specs.Recorded.{seen_by}
+use Rattle.station_files.specs.Recorded.{seen_by}
 use Rattle.station_reporter.specs.Reporter.{Acting, due_moments, looks_of}
 use Rattle.station_run.specs.Limits.{most_reads}
 use Rattle.station_run.specs.Stations.{Shows, Station}

@@ -1,5 +1,0 @@
-use Rattle.std.proofs.Common.{refl}
-use Rattle.station_journal.proofs.laws.refusals_at_any_site.Goals as goal
-
-pub returns : goal.returns
-returns c log site call = refl
