@@ -76,6 +76,7 @@ fn air(message: &Message) -> Option<Velocity>
 
 // The velocity in a message of type code 19.
 #[tactic(auto, unfolding(crate::specs::Velocities::velocity_in))]
+#[inline(always)]
 pub(crate) fn message_velocity(message: &Message) -> Option<Velocity>
     ensures { result ≡ velocity_in message.now }
 {
@@ -88,6 +89,7 @@ pub(crate) fn message_velocity(message: &Message) -> Option<Velocity>
 
 // The vertical rate in a message of type code 19, in feet per minute.
 #[tactic(auto, unfolding(crate::specs::Velocities::vertical_in))]
+#[inline(always)]
 pub(crate) fn message_vertical(message: &Message) -> Option<i32>
     ensures { result ≡ vertical_in message.now }
 {
@@ -102,6 +104,7 @@ pub(crate) fn message_vertical(message: &Message) -> Option<i32>
 
 // What measured the vertical rate in a message of type code 19, where it has one.
 #[tactic(auto, unfolding(crate::specs::Velocities::rate_source_in))]
+#[inline(always)]
 pub(crate) fn message_rate_source(message: &Message) -> Option<RateSource>
     ensures { result ≡ rate_source_in message.now }
 {

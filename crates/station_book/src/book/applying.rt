@@ -157,7 +157,6 @@ impl<const N: usize> Book<N> {
     }
 
     // Applies a frame with this claim, whose address has this place.
-    #[inline(always)]
     fn apply_at(&mut self, place: Result<usize, usize>, claim: Claim, frame: &Frame)
         requires claim { claim_of frame.now ≡ Ok claim }
         requires place { StandsAt self.old.tracks claim.address place }
