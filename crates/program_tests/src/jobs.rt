@@ -12,7 +12,9 @@ macro_rules! tables {
 }
 
 mod displays;
+mod eight_paths;
 mod failed_outputs;
+mod feeding;
 mod hand_overs;
 mod help;
 mod json;

@@ -1,6 +1,7 @@
 //! The job `run` with a record or displays, whose output fails: it goes on for them.
 use super::bounds::*;
-use super::hand_overs::{FRAMES, TIMES, feed, late_moments};
+use super::feeding::{FRAMES, TIMES, feed};
+use super::hand_overs::late_moments;
 use super::outputs::FailsOnce;
 use super::replies::all_call_replies;
 use super::staged::{Feed, Staged};

@@ -1,5 +1,8 @@
 //! The job `run` over stations that hand over.
+ghost use Rattle.std.specs.Prelude.{◌≤◌, length};
+
 use super::bounds::*;
+use super::feeding::{FRAMES, TIMES, feed};
 use super::replies::all_call_replies;
 use super::run::IDENTIFICATION;
 use super::sleeps::at;
@@ -10,73 +13,15 @@ use station_journal::{Entry, Recent};
 use station_main::{Alarms, Duties, Kept, Pace, RunOptions, StandardError, Tables, run};
 use station_report::Format;
 use std::alloc::{AllocError, Global};
-use std::fs;
-use std::io::{self, ErrorKind, PipeWriter, Write};
+use std::io::Write;
 use std::test::*;
-use std::thread::{self, join};
-use std::time::Duration;
+use std::thread::join;
 
 // How many entries make a station hand over.
 const LIMIT: u64 = 20;
 
-/// How many frames the first path gets before each hand-over, and how often.
-pub const FRAMES: u16 = 30;
-
-pub const TIMES: u16 = 4;
-
-// The bytes of a frame that come after a hand-over.
-const LATE: usize = 7;
-
-// How many hand-overs a record has: each ticks without a table. There are none before the run makes the file.
-fn hand_overs<R: Files + AllocGlobal>(rt: &R, record: &str) -> io::Result<usize> {
-    let lines = match fs::read(rt, record) {
-        Err(error) if error.kind() == ErrorKind::NotFound => return Ok(0),
-        lines => lines?,
-    };
-    let lines = text(&lines);
-    let (ticks, tables) = (lines.split('+').count(), lines.split('?').count());
-    Ok(ticks.saturating_sub(tables))
-}
-
-// Waits for a number of hand-overs, for some 20 seconds at most, and answers whether they came.
-fn await_hand_overs<R: Clock + Files + AllocGlobal>(
-    rt: &R,
-    record: &str,
-    count: usize,
-) -> io::Result<bool> {
-    for _ in 0..2_000 {
-        if hand_overs(rt, record)? >= count {
-            return Ok(true);
-        }
-        thread::sleep(rt, Duration::from_millis(10));
-    }
-    Ok(false)
-}
-
-/// Feeds a path part by part, each up to a hand-over. The last line of a part ends after it.
-pub fn feed<R: Clock + Files + AllocGlobal>(
-    rt: &R,
-    mut lines: PipeWriter,
-    text: &str,
-    record: &str,
-) -> io::Result<bool> {
-    let mut rest = text.as_bytes();
-    let part = rest.len() / usize::from(TIMES);
-    let mut length = part.saturating_sub(LATE);
-    for time in 1..=usize::from(TIMES) {
-        let (next, later) = rest.split_at(length.min(rest.len()));
-        lines.write_all(next)?;
-        (rest, length) = (later, part);
-        if !await_hand_overs(rt, record, time)? {
-            return Ok(false);
-        }
-    }
-    lines.write_all(rest)?;
-    Ok(true)
-}
-
-// Tables each `every` milliseconds.
-fn tables_each(every: u32) -> Tables {
+/// Tables each `every` milliseconds.
+pub fn tables_each(every: u32) -> Tables {
     Tables {
         pace: Pace { every, tick: None },
         format: Format::Text,
@@ -181,10 +126,8 @@ impl<R: System, W: Own> Trials<'_, R, W> {
         second: String,
         out: impl Write + Send + Drop,
     ) -> Result<Ran, AllocError> {
-        let (rt, own, alloc) = (self.rt, self.own, self.alloc);
-        let host = station_main::Host { rt, own, alloc };
         let record = Some(record);
-        let paths = vec![in alloc; first, second]?;
+        let paths = vec![in self.alloc; first, second]?;
         let options = RunOptions {
             tables: tables_each(every),
             rounds: 1,
@@ -199,6 +142,20 @@ impl<R: System, W: Own> Trials<'_, R, W> {
             hand_over_at: LIMIT,
             site: None,
         };
+        self.run_with(options, out)
+    }
+
+    /// Runs with these options to an output of its own.
+    pub fn run_with(
+        &self,
+        options: RunOptions<'_>,
+        out: impl Write + Send + Drop,
+    ) -> Result<Ran, AllocError>
+        requires rounds { 1 ≤ options.rounds }
+        requires paths { length options.paths.now.items ≤ 8 }
+    {
+        let (rt, own, alloc) = (self.rt, self.own, self.alloc);
+        let host = station_main::Host { rt, own, alloc };
         let (mut ran, mut err) = (Ran::nothing(alloc), Vec::new(alloc));
         let alarms = Alarms {
             output: &mut ran.output_alarm,

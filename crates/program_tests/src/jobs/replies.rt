@@ -12,13 +12,19 @@ fn parity(first: u64) -> u64 {
     rest
 }
 
-/// The lines of `count` all-call replies, each of the address after the one before. The first is of `address`.
-pub fn all_call_replies(alloc: Global, address: u16, count: u16) -> Result<String, AllocError> {
+/// The lines of `count` all-call replies to an interrogator code, each of the address after the one before. The first is
+/// of `address`.
+pub fn replies_to(alloc: Global, code: u8, address: u16, count: u16) -> Result<String, AllocError> {
     let mut lines = String::new(alloc);
     for i in 0..count {
         let first = 0x5D00_0000 + u64::from(address) + u64::from(i);
-        let last = parity(first);
+        let last = parity(first) ^ u64::from(code);
         lines.push_str(format!(in alloc; "*{first:08X}{last:06X};\n")?.as_str())?;
     }
     Ok(lines)
+}
+
+/// The same to no interrogator code.
+pub fn all_call_replies(alloc: Global, address: u16, count: u16) -> Result<String, AllocError> {
+    replies_to(alloc, 0, address, count)
 }
