@@ -45,32 +45,42 @@ pub struct Displays<A> {
     alarm: StandardError<A>,
 }
 
+/// What a folder for displays is begun with.
+#[derive(Clone, Copy)]
+pub struct DisplayOptions<'a> {
+    pub folder: &'a str,
+    /// The milliseconds between two writings.
+    pub every: u32,
+    /// When the clock of the tables began, in milliseconds since 1970.
+    pub origin: u64,
+    /// Whether the origin is read anew at each table.
+    pub follows: bool,
+    /// The place of the receivers, if it is given.
+    pub site: Option<Reference>,
+}
+
 impl<A: Write + Drop> Displays<A> {
-    /// Begins to show tables in a folder, one each `every` milliseconds or so: writes what displays read first, with the place of
-    /// the receivers if it is given. Their clock begins at `origin`, which may follow the system's clock. A failed write is
-    /// reported to `alarm`. Refused if out of memory.
+    /// Begins to show tables in a folder: writes what displays read first. A failed write is reported to `alarm`. Refused if out of
+    /// memory.
     pub fn begin<R: Files<File = File>>(
         rt: &R,
         alloc: Global,
-        folder: &str,
-        every: u32,
-        origin: u64,
-        follows: bool,
-        site: Option<Reference>,
+        options: DisplayOptions<'_>,
         alarm: StandardError<A>,
     ) -> Result<Self, AllocError>
-        ensures table { IfOk result (λ d. string_bytes d.table.path ≡ in_folder folder.now (codes "aircraft.json")) }
-        ensures origin { IfOk result (λ d. d.origin ≡ origin) }
-        ensures follows { IfOk result (λ d. d.follows ≡ follows) }
+        ensures table { IfOk result (λ d. string_bytes d.table.path ≡ in_folder options.entry.folder.now (codes "aircraft.json")) }
+        ensures origin { IfOk result (λ d. d.origin ≡ options.entry.origin) }
+        ensures follows { IfOk result (λ d. d.follows ≡ options.entry.follows) }
     {
+        let folder = options.folder;
         let mut displays = Displays {
             alloc,
             table: ShownFile::at(alloc, folder, "aircraft.json")?,
             receivers: ShownFile::at(alloc, folder, "receivers.json")?,
             first: file_in(alloc, folder, "receiver.json")?,
-            about: receiver_text(alloc, VERSION, every, site)?,
-            origin,
-            follows,
+            about: receiver_text(alloc, VERSION, options.every, options.site)?,
+            origin: options.origin,
+            follows: options.follows,
             has_failed: false,
             is_failing: false,
             alarm,

@@ -8,7 +8,7 @@ pub mod recorder;
 mod shown_file;
 mod since_1970;
 
-pub use displays::{Displays, put_table, table_for};
+pub use displays::{DisplayOptions, Displays, put_table, table_for};
 pub use last_error::LastError;
 pub use record_file::{RecordFile, RecordOutput, record_to};
 pub use recorder::{Recorder, record_look, record_rest};

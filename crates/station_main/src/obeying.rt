@@ -5,7 +5,7 @@ ghost use Rattle.station_main.specs.Jobs.{GivesStatus, HasNoMemory, IsDone, Obey
 ghost use Rattle.messages.specs.Telling.{Tells, alarmed_by, all_alarmed, not_a_place_text, reopens_rounds_text, told_of};
 ghost use Rattle.std.specs.Prelude.{◌≡◌, ◌≤◌, ◌⊎◌, ℕ, List, None, Some, false, map, option_map, true};
 
-use crate::replay_job::replay_input;
+use crate::replay_job::{ReplayOptions, replay_input};
 use command_line::{Job, WordsFault, read_words};
 use messages::{Alarms, Fault, StandardError};
 use station_files::milliseconds_since_1970;
@@ -22,6 +22,14 @@ const REOPENS_ROUNDS: &str = concat!(
     "\n",
     "For more information, try '--help'.\n",
 );
+
+/// What a job reads, what it writes, and the standard errors for what is reported at once.
+#[derive(Drop)]
+pub struct JobStreams<I, O, A> {
+    pub input: I,
+    pub out: O,
+    pub alarms: Alarms<A>,
+}
 
 /// Runs a command line, which begins with the program's name, over these streams. Answers the exit status, as [`obey`]
 /// does. `err` is a handle that can be copied, as that of a process is: two threads may write to it. `own` is what the
@@ -88,15 +96,10 @@ pub fn obey<
         (told_of E.contents err.old) (told_of E.contents err.new) result.status }
 {
     match read_words(alloc, words) {
-        Ok(job) => do_job(
-            &Host { rt, own, alloc },
-            job,
-            origin,
-            input,
-            out,
-            alarms,
-            err,
-        ),
+        Ok(job) => {
+            let streams = JobStreams { input, out, alarms };
+            do_job(&Host { rt, own, alloc }, job, origin, streams, err)
+        }
         Err(WordsFault::NoMemory) => without_output(err, Fault::NoMemory),
         Err(WordsFault::ReopensRounds) => refuse_both(out, err),
         Err(WordsFault::NotAPlace(text)) => refuse_place(text.as_str(), out, err),
@@ -116,30 +119,22 @@ fn do_job<
     host: &Host<'_, R, W>,
     job: Job,
     origin: u64,
-    input: I,
-    out: O,
-    alarms: Alarms<A>,
+    streams: JobStreams<I, O, A>,
     err: &mut StandardError<E>,
 ) -> JobResult<O>
     requires { IsInRange job }
     ensures most { result.status ≤ 1 }
-    ensures done { IsDone job origin (I.remaining input) (O.Write.contents out)
-        (option_map (λ left. O.Write.contents left) result.out) (alarmed_by A.Write.contents alarms)
+    ensures done { IsDone job origin (I.remaining streams.input) (O.Write.contents streams.out)
+        (option_map (λ left. O.Write.contents left) result.out) (alarmed_by A.Write.contents streams.alarms)
         (told_of E.contents err.old) (told_of E.contents err.new) result.status }
 {
+    let JobStreams { input, out, alarms } = streams;
     match job {
         Job::Replay { format, site } => {
             let format = format.since(0);
-            replay_input(
-                host.rt,
-                host.alloc,
-                site,
-                format,
-                input,
-                out,
-                &mut LimitAlarm::new(alarms.limits),
-                err,
-            )
+            let mut alarm = LimitAlarm::new(alarms.limits);
+            let options = ReplayOptions { format, site };
+            replay_input(host, options, input, out, &mut alarm, err)
         }
         Job::Run(arguments) => {
             let options = RunOptions::new(&arguments, origin);

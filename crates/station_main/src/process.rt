@@ -5,9 +5,9 @@ ghost use Rattle.std.specs.String.{string_bytes};
 ghost use Rattle.messages.specs.Telling.{alarmed_by, told_of};
 ghost use Rattle.station_main.specs.Jobs.{EndsProcess, HasNoMemory, HasNoWords, WritesText, not_utf8_text};
 
-use crate::obeying::obey;
+use crate::obeying::{JobStreams, obey};
 use messages::{Alarms, Fault, StandardError};
-use station_paths::{PathSystem, System};
+use station_paths::{Host, PathSystem, System};
 use station_run::{JobResult, without_output};
 use std::alloc::{AllocError, Global};
 use std::env;
@@ -56,7 +56,8 @@ pub fn exit_code<
 {
     match owned {
         Ok(owned) => {
-            let ran = obey_owned(rt, own, alloc, &owned, origin, input, out, alarms, err);
+            let streams = JobStreams { input, out, alarms };
+            let ran = obey_owned(&Host { rt, own, alloc }, &owned, origin, streams, err);
             process_end(ran)
         }
         Err(ErrorKind::OutOfMemory) => process_end(without_output(err, Fault::NoMemory)),
@@ -84,20 +85,18 @@ fn obey_owned<
     A: Write + Send + Drop,
     E: Write + Drop,
 >(
-    rt: &R,
-    own: W,
-    alloc: Global,
+    host: &Host<'_, R, W>,
     owned: &Vec<String>,
     origin: u64,
-    input: I,
-    out: O,
-    alarms: Alarms<A>,
+    streams: JobStreams<I, O, A>,
     err: &mut StandardError<E>,
 ) -> JobResult<O>
-    ensures { EndsProcess (map string_bytes owned.now.items) origin (I.remaining input) (O.Write.contents out)
-        (option_map (λ left. O.Write.contents left) result.out) (alarmed_by A.Write.contents alarms)
+    ensures { EndsProcess (map string_bytes owned.now.items) origin (I.remaining streams.input) (O.Write.contents streams.out)
+        (option_map (λ left. O.Write.contents left) result.out) (alarmed_by A.Write.contents streams.alarms)
         (told_of E.contents err.old) (told_of E.contents err.new) result.status }
 {
+    let (rt, own, alloc) = (host.rt, host.own, host.alloc);
+    let JobStreams { input, out, alarms } = streams;
     match borrowed(alloc, owned) {
         Ok(words) => {
             let words = words.as_slice();

@@ -10,27 +10,33 @@ ghost use Rattle.messages.specs.Telling.{OutOfMemory, Tells, replay_lines, told_
 
 use messages::{Fault, StandardError, tell_after, write_tally};
 use modes_cpr::Reference;
+use station_paths::Host;
 use station_replay::replay_forgetting;
 use station_report::Format;
 use station_reporter::LimitAlarm;
 use station_run::limits::{AIRCRAFT, FORGET_AT, TURNS, limits};
 use station_run::{ClosedOutput, JobResult, drop_unwritten, unbuffered, without_output};
 use station_shared::{Desk, FromBuffer, ReplayFault, Tally};
-use std::alloc::Global;
 use std::io::{BufReader, BufWriter, Read, Write};
 use std::sync::Wait;
 use streams::ToWrite;
 
-/// Reads the lines of the input, and writes the tables that they ask for in this format. `site` is the place of the receivers, if
-/// it is given. Then prints what was counted, and
-/// a fault if there is one. The first frame or tick that meets a full journal or a full table is reported to `alarm` at once.
-/// Answers the output, unless nothing was read.
+/// The options of a replay.
+#[derive(Clone, Copy)]
+pub struct ReplayOptions {
+    /// How tables are written.
+    pub format: Format,
+    /// The place of the receivers, if it is given.
+    pub site: Option<Reference>,
+}
+
+/// Reads the lines of the input, and writes the tables that they ask for. Then prints what was counted, and a fault if there is
+/// one. The first frame or tick that meets a full journal or a full table is reported to `alarm` at once. Answers the output,
+/// unless nothing was read.
 #[inline(never)]
-pub fn replay_input<R: Wait, I: Read + Drop, O: Write + Drop, A: Write, E: Write>(
-    rt: &R,
-    alloc: Global,
-    site: Option<Reference>,
-    format: Format,
+pub fn replay_input<R: Wait, W, I: Read + Drop, O: Write + Drop, A: Write, E: Write>(
+    host: &Host<'_, R, W>,
+    options: ReplayOptions,
     input: I,
     out: O,
     alarm: &mut LimitAlarm<A>,
@@ -39,15 +45,16 @@ pub fn replay_input<R: Wait, I: Read + Drop, O: Write + Drop, A: Write, E: Write
     ensures most { result.status ≤ 1 }
     ensures gone { result.out ≡ None →
         OutOfMemory (told_of E.contents err.old) (told_of E.contents err.new) result.status }
-    ensures ended { IfSome result.out (λ left. EndsReplay format (program_limits site)
+    ensures ended { IfSome result.out (λ left. EndsReplay options.format (program_limits options.site)
         (I.remaining input) (O.Write.contents out) (O.Write.contents left)
         (limits_told A.contents alarm.old) (limits_told A.contents alarm.new)
         (told_of E.contents err.old) (told_of E.contents err.new) result.status) }
 {
+    let (rt, alloc) = (host.rt, host.alloc);
     let (Ok(input), Ok(output)) = (BufReader::new(alloc, input), BufWriter::new(alloc, out)) else {
         return without_output(err, Fault::NoMemory);
     };
-    let Ok(mut desk) = Desk::<AIRCRAFT>::new(alloc, limits(site)) else {
+    let Ok(mut desk) = Desk::<AIRCRAFT>::new(alloc, limits(options.site)) else {
         return without_output(err, Fault::NoMemory);
     };
     let mut to = ToWrite::new(output);
@@ -57,7 +64,7 @@ pub fn replay_input<R: Wait, I: Read + Drop, O: Write + Drop, A: Write, E: Write
         &mut desk,
         &mut FromBuffer::new(input),
         &mut to,
-        format,
+        options.format,
         TURNS,
         alarm,
     );

@@ -13,7 +13,7 @@ use crate::run_options::RunOptions;
 use crate::stage::Stage;
 use crate::stopping::begin_stop;
 use messages::{Alarms, Fault, StandardError};
-use station_files::{Displays, RecordOutput, Recorder, record_to};
+use station_files::{DisplayOptions, Displays, RecordOutput, Recorder, record_to};
 use station_output::{OpenOutput, OutputThread, Printer, QueueFault, StallAlarm, TableQueue};
 use station_paths::{Host, Opened, PathSystem, System};
 use station_reporter::{Beside, Kept, LimitAlarm, RunClock, writing_interval};
@@ -133,10 +133,14 @@ fn begin_displays<'p, R: Files<File = File>, A: Write + Drop>(
     let Some(folder) = asked.displays else {
         return Ok(None);
     };
-    let (folder, every) = (folder.as_str(), writing_interval(asked.tables.pace));
-    let (origin, follows) = (asked.origin, asked.begins_at == 0);
-    let alarm = StandardError::new(alarm);
-    match Displays::begin(rt, alloc, folder, every, origin, follows, asked.site, alarm) {
+    let options = DisplayOptions {
+        folder: folder.as_str(),
+        every: writing_interval(asked.tables.pace),
+        origin: asked.origin,
+        follows: asked.begins_at == 0,
+        site: asked.site,
+    };
+    match Displays::begin(rt, alloc, options, StandardError::new(alarm)) {
         Ok(displays) => Ok(Some(displays)),
         Err(_) => Err(Fault::NoMemory),
     }

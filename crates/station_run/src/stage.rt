@@ -14,8 +14,8 @@ mod opening;
 
 use crate::limits::AIRCRAFT;
 use crate::stage::ending::{Leaving, close, print_last};
-use crate::stage::opening::{Crew, begin};
-use crate::threads::{Outcome, Receiver, run_threads};
+use crate::stage::opening::{Crew, Foundation, begin};
+use crate::threads::{Receiver, run_threads};
 use messages::{Answer, Fault};
 use station_files::RecordOutput;
 use station_journal::Journal;
@@ -95,7 +95,7 @@ pub fn run_station<
     };
     stage.paths.requests.resume_all();
     let blank = Blank::new(stage.inputs.len() as u64 + 1);
-    run_named::<Brand, _, _, _, _>(rt, alloc, stage, blank, places)
+    run_named::<Brand, _, _, _, _>(rt, alloc, stage, Foundation { blank, places })
 }
 
 // Runs a station that has a name.
@@ -111,29 +111,22 @@ fn run_named<
     rt: &R,
     alloc: Global,
     stage: Stage<'a, 'p, R, I, O, A>,
-    blank: Blank,
-    places: Places<AIRCRAFT>,
+    foundation: Foundation,
 ) -> Result<StationEnd<'a, 'p, R, I, O, A>, Fault<'static>>
     requires many { length stage.answers.items ≡ length stage.inputs.items }
-    requires ledger { (blank.name ≡ L.name) × (blank.parts ≡ L.parts) }
-    requires may { MayBegin L.start L.parts L.seats places (start_of stage.kept) (length stage.inputs.items) }
+    requires ledger { (foundation.blank.name ≡ L.name) × (foundation.blank.parts ≡ L.parts) }
+    requires may { MayBegin L.start L.parts L.seats foundation.places (start_of stage.kept) (length stage.inputs.items) }
     ensures unstarted { IfErr result IsUnstarted }
     ensures ran { IfOk result (λ closed. RanTo stage.entry closed) }
 {
     let (paths, duties, clock) = (stage.paths, stage.duties, stage.clock);
+    let (kept, inputs) = (stage.kept, stage.inputs);
+    let (watch, format) = (&stage.beside.watch, duties.tables.format);
     let Crew {
         station,
         receivers,
         seat,
-    } = begin::<L, _, _>(
-        rt,
-        alloc,
-        stage.kept,
-        stage.inputs,
-        &stage.beside.watch,
-        blank,
-        places,
-    )?;
+    } = begin::<L, _, _>(rt, alloc, kept, inputs, watch, foundation)?;
     let (printer, output_thread) = stage.out.apart();
     let reporter = Reporter {
         duties,
@@ -141,20 +134,15 @@ fn run_named<
         out: printer,
         beside: stage.beside,
     };
-    let ran = run_threads(rt, &station, &paths.requests, clock, receivers, reporter);
-    let Some(left) = ran else {
+    let Some(left) = run_threads(rt, &station, &paths.requests, clock, receivers, reporter) else {
         station.end(rt);
         return Err(Fault::ThreadNotStarted);
     };
-    let Outcome {
-        receivers,
-        report: mut reported,
-    } = left;
+    let (receivers, mut reported) = (left.receivers, left.report);
     reported.beside.report_limits(station.limits_met());
     reported.beside.look_again(&paths.requests);
     let hands_over = hands_over(reported.asked_at, &receivers);
     learn_from_all(&mut reported.seat, &receivers);
-    let format = duties.tables.format;
     let report = print_last(rt, &station, clock, format, hands_over, reported);
     let leaving = close(rt, alloc, station, receivers, report.seat, stage.answers)?;
     Ok(StationEnd {

@@ -17,6 +17,12 @@ use std::io::Write;
 use std::sync::ledger::Blank;
 use std::sync::{Arc, Wait};
 
+/// What a station is made of: its ledger, which is blank, and the places of its tables.
+pub(super) struct Foundation {
+    pub blank: Blank,
+    pub places: Places<AIRCRAFT>,
+}
+
 /// A station that is begun, with those who have its seats.
 pub(super) struct Crew<'a, L: StationName, R: Wait> {
     pub station: Station<AIRCRAFT, L>,
@@ -34,11 +40,10 @@ pub(super) fn begin<'a, L: StationName, R: Wait, A: Write>(
     kept: Kept,
     inputs: Vec<Input<'a, R>>,
     watch: &Option<Watch<A>>,
-    blank: Blank,
-    places: Places<AIRCRAFT>,
+    foundation: Foundation,
 ) -> Result<Crew<'a, L, R>, Fault<'static>>
-    requires ledger { (blank.name ≡ L.name) × (blank.parts ≡ L.parts) }
-    requires may { MayBegin L.start L.parts L.seats places (start_of kept) (length inputs.items) }
+    requires ledger { (foundation.blank.name ≡ L.name) × (foundation.blank.parts ≡ L.parts) }
+    requires may { MayBegin L.start L.parts L.seats foundation.places (start_of kept) (length inputs.items) }
     ensures unstarted { IfErr result IsUnstarted }
     ensures many { IfOk result (λ made. length made.receivers.items ≡ length inputs.entry.items) }
     ensures sources { IfOk result (λ made. map (λ r. r.source) made.receivers.items ≡ inputs.entry.items) }
@@ -47,6 +52,7 @@ pub(super) fn begin<'a, L: StationName, R: Wait, A: Write>(
     ensures reporter { IfOk result (λ made.
         made.seat ≡ newcomer kept.recent.entries.items (length inputs.entry.items)) }
 {
+    let Foundation { blank, places } = foundation;
     let count = inputs.len() as u8 + 1;
     let site = kept.site;
     let made = Station::<AIRCRAFT, L>::resume(

@@ -14,5 +14,5 @@ returns-clause-ended g c =
     let write = c.in-Ok-Ok.ensures' in
     let whole = ap (λ r. reader_remaining remaining r) c.new-4.ensures.inner ∙ all_left (reader_capacity reader) (reader_buffer reader) (remaining (reader_inner reader)) read.capacity read.empty ∙ ap remaining read.inner in
     let start = ap (λ w. writer_contents contents w) c.new-to.ensures.inner ∙ appended_nil (contents (writer_inner writer)) (writer_buffer writer) write.empty ∙ ap contents write.inner in
-    ends_replay c.args.format _ c.in-Ok.desk.log c.replay_forgetting-answer.new.desk.log _ _ _ _ (buffered_of contents c.replay_forgetting-answer.new.out) _ _ _ c.replay_forgetting-answer.result c.take_out-out.result.has_failed _ _ _ _ _
+    ends_replay c.args.options.format _ c.in-Ok.desk.log c.replay_forgetting-answer.new.desk.log _ _ _ _ (buffered_of contents c.replay_forgetting-answer.new.out) _ _ _ c.replay_forgetting-answer.result c.take_out-out.result.has_failed _ _ _ _ _
     (omega arith) (rw c.limits.ensures at c.in-Ok.ensures) whole start c.new-to.ensures.failures c.replay_forgetting-answer.ensures (rw c.into_inner.ensures at c.take_out-out.ensures) c.tell_replay_end.ensures.told c.tell_replay_end.ensures.value

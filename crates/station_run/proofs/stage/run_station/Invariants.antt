@@ -6,8 +6,8 @@ use Rattle.station_run.proofs.stage.run_station.Given as goal
 abbrev pub ghosts-run_named-L-StationName : goal.ghosts-run_named-L-StationName
 ghosts-run_named-L-StationName g a = record {
   seats = length a.stage.inputs.items + 1;
-  start = record { history = a.places.history; limits = program_limits a.stage.kept.site; resumed = length a.stage.kept.recent.entries.items };
+  start = record { history = a.foundation.places.history; limits = program_limits a.stage.kept.site; resumed = length a.stage.kept.recent.entries.items };
 }
 
 abbrev pub ghosts-run_named-L-Ledger : goal.ghosts-run_named-L-Ledger
-ghosts-run_named-L-Ledger g a = record { name = a.blank.name; parts = a.blank.parts }
+ghosts-run_named-L-Ledger g a = record { name = a.foundation.blank.name; parts = a.foundation.blank.parts }
