@@ -1,1 +1,2 @@
 pub mod RecordedLemmas
+pub mod ShownLemmas

@@ -1,9 +1,9 @@
 -- What displays find in their folder.
-use Rattle.std.specs.Prelude.{◌≡◌, ℕ, Bool, true, false, List, ◌∷◌, ◌++◌, Option, Some, None, Result, Ok, Err, codes}
+use Rattle.std.specs.Prelude.{◌≡◌, ℕ, Bool, true, false, List, [], ◌∷◌, ◌++◌, Option, Some, None, Result, Ok, Err, codes, is_err}
+use Rattle.std.specs.List.{list_any}
 use Rattle.messages.specs.Reasons.{reason_text}
-use Rattle.messages.specs.Telling.{Tells, Told, telling_line, told_of}
+use Rattle.messages.specs.Telling.{Tells, Told, telling_line}
 use Rattle.messages.specs.declared.reason.Reason.{Reason}
-use Rattle.station_files.specs.declared.displays.Displays.{Displays}
 
 -- the path of a file in a folder: both with `/` between
 abbrev pub in_folder : (folder name : List ℕ) → List ℕ
@@ -23,8 +23,9 @@ pub record Shown : Type 0 where
   pub is_failing : Bool
   pub alarm : Told
 
-abbrev pub shown_of : {A : Type 0} → (A → Option (List ℕ)) → Displays A → Shown
-shown_of contents displays = record { has_failed = displays.has_failed; is_failing = displays.is_failing; alarm = told_of contents displays.alarm }
+-- nothing was written yet
+abbrev pub new_shown : Told → Shown
+new_shown alarm = record { has_failed = false; is_failing = false; alarm = alarm }
 
 -- a write of this table that went well, or failed for a reason, is reported: a failure where the write before didn't fail, and
 -- that it goes well where the write before failed
@@ -44,7 +45,33 @@ pub record HasReportedWrite (table : List ℕ) (written : Result (Unit {0}) Reas
   pub failed : HasFailed written old new
   pub told : ReportsWrite table old.is_failing written old.alarm new.alarm
 
+-- these writes of a table were counted and reported, the newest first
+abbrev pub HaveReportedWrites : (table : List ℕ) → List (Result (Unit {0}) Reason) → Shown → Shown → Type 0
+HaveReportedWrites table [] old new = new ≡ old
+HaveReportedWrites table (written ∷ before) old new = (mid : Shown) × HaveReportedWrites table before old mid × HasReportedWrite table written mid new
+
+-- all writes of a table from some standard error on: each was reported there, and whether one failed
+pub record IsReported (table : List ℕ) (shown : Shown) : Type 0 where
+  pub alarm : Told
+  pub writes : List (Result (Unit {0}) Reason)
+  pub reported : HaveReportedWrites table writes (new_shown alarm) shown
+  pub failed : shown.has_failed ≡ list_any is_err writes
+
+-- a folder for displays: the path of its table, when the clock of the tables begins, whether that follows the system's clock, and
+-- what was written
+pub record Folder : Type 0 where
+  pub table : List ℕ
+  pub origin : ℕ
+  pub follows : Bool
+  pub shown : Shown
+
 -- a write for displays failed
-abbrev pub have_failed : {A : Type 0} → Option (Displays A) → Bool
+abbrev pub have_failed : Option Folder → Bool
 have_failed None = false
-have_failed (Some displays) = displays.has_failed
+have_failed (Some folder) = folder.shown.has_failed
+
+-- whether a write for displays failed, which none did where there are none. Where there are, it did just where a write of their table
+-- failed, and each failure was reported, unless the write before failed too
+abbrev pub AreReported : (has_displays has_failed : Bool) → Type 0
+AreReported false has_failed = has_failed ≡ false
+AreReported true has_failed = (table : List ℕ) × (shown : Shown) × IsReported table shown × (has_failed ≡ shown.has_failed)

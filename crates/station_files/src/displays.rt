@@ -4,7 +4,7 @@ ghost use Rattle.std.specs.String.{string_bytes};
 ghost use Rattle.station_replay.specs.Replay.{table_in};
 ghost use Rattle.station_history.specs.Start.{log_of};
 ghost use Rattle.station_report.specs.declared.formats.Format.TheVariants as Formats;
-ghost use Rattle.station_files.specs.Displays.{HasReportedWrite, have_failed, in_folder, shown_of};
+ghost use Rattle.station_files.specs.Displays.{HasReportedWrite, IsReported, ReportsWrite, have_failed, in_folder};
 ghost use Rattle.messages.specs.Status.{fault_status};
 ghost use Rattle.messages.specs.Telling.{told_of};
 
@@ -19,13 +19,15 @@ use station_watch::Watch;
 use std::alloc::{AllocError, Global};
 use std::fs::{self, File};
 use std::io::Write;
+use std::marker::Model;
+use std::mem::replace;
 use std::rt::Files;
 use std::time::Clock;
 use streams::{ToWrite, WriteFault};
 
 /// The folder in which displays find the tables, as JSON.
 #[derive(Drop)]
-pub struct Displays<A> {
+pub struct Displays<A: Write> {
     alloc: Global,
     table: ShownFile,
     // What is known of the receivers, where they are watched.
@@ -43,6 +45,25 @@ pub struct Displays<A> {
     is_failing: bool,
     // Where a failed write is reported at once, and the next that doesn't fail.
     alarm: StandardError<A>,
+}
+
+impl<A: Write> Model for Displays<A> {
+    ghost use Rattle.std.specs.Prelude.{◌≡◌};
+    ghost use Rattle.std.specs.String.{string_bytes};
+    ghost use Rattle.station_files.specs.Displays.{Folder, IsReported};
+    ghost use Rattle.messages.specs.Telling.{told_of};
+
+    ghost Value = { Folder };
+
+    ghost view = { λ d. record {
+      table = string_bytes d.table.path;
+      origin = d.origin;
+      follows = d.follows;
+      shown = record { has_failed = d.has_failed; is_failing = d.is_failing; alarm = told_of A.contents d.alarm };
+    } };
+
+    ghost invariant = { λ d. IsReported (string_bytes d.table.path)
+        (record { has_failed = d.has_failed; is_failing = d.is_failing; alarm = told_of A.contents d.alarm }) };
 }
 
 /// What a folder for displays is begun with.
@@ -68,7 +89,7 @@ impl<A: Write + Drop> Displays<A> {
         options: DisplayOptions<'_>,
         alarm: StandardError<A>,
     ) -> Result<Self, AllocError>
-        ensures table { IfOk result (λ d. string_bytes d.table.path ≡ in_folder options.entry.folder.now (codes "aircraft.json")) }
+        ensures table { IfOk result (λ d. d.table ≡ in_folder options.entry.folder.now (codes "aircraft.json")) }
         ensures origin { IfOk result (λ d. d.origin ≡ options.entry.origin) }
         ensures follows { IfOk result (λ d. d.follows ≡ options.entry.follows) }
     {
@@ -98,7 +119,7 @@ impl<A: Write> Displays<A> {
         ensures table { self.new.table ≡ self.old.table }
         ensures fixed { self.old.follows ≡ false → self.new.origin ≡ self.old.origin }
         ensures follows { self.new.follows ≡ self.old.follows }
-        ensures shown { shown_of A.contents self.new ≡ shown_of A.contents self.old }
+        ensures shown { self.new.shown ≡ self.old.shown }
     {
         if !self.follows {
             return;
@@ -139,27 +160,36 @@ impl<A: Write> Displays<A> {
         ensures table { self.new.table ≡ self.old.table }
         ensures origin { self.new.origin ≡ self.old.origin }
         ensures follows { self.new.follows ≡ self.old.follows }
-        ensures reported { HasReportedWrite (string_bytes self.old.table.path) written
-            (shown_of A.contents self.old) (shown_of A.contents self.new) }
+        ensures reported { HasReportedWrite self.old.table written self.old.shown self.new.shown }
     {
-        let was_failing = self.is_failing;
-        self.is_failing = written.is_err();
-        self.has_failed = self.has_failed || written.is_err();
-        match written {
-            Ok(()) if was_failing => {
-                tell(
-                    &mut self.alarm,
-                    Fault::WritesAgain(self.table.path.as_str()),
-                );
-            }
-            Err(reason) if !was_failing => {
-                tell(
-                    &mut self.alarm,
-                    Fault::CannotWrite(self.table.path.as_str(), reason),
-                );
-            }
-            _ => {}
+        let was_failing = replace(&mut self.is_failing, written.is_err());
+        self.has_failed |= written.is_err();
+        tell_change(
+            &mut self.alarm,
+            self.table.path.as_str(),
+            was_failing,
+            written,
+        );
+    }
+}
+
+// Tells that a write of this table failed, unless the one before did, or that it went well after one that failed.
+fn tell_change<A: Write>(
+    alarm: &mut StandardError<A>,
+    table: &str,
+    was_failing: bool,
+    written: Result<(), Reason>,
+)
+    ensures { ReportsWrite table.now was_failing written (told_of A.contents alarm.old) (told_of A.contents alarm.new) }
+{
+    match written {
+        Ok(()) if was_failing => {
+            tell(alarm, Fault::WritesAgain(table));
         }
+        Err(reason) if !was_failing => {
+            tell(alarm, Fault::CannotWrite(table, reason));
+        }
+        _ => {}
     }
 }
 
@@ -252,8 +282,9 @@ pub fn put_table<R: Files<File = File>, A: Write>(
 }
 
 /// The status of the tables for displays: 1 if a write of them failed, else 0.
-pub fn status_of<A>(displays: &Option<Displays<A>>) -> u8
+pub fn status_of<A: Write>(displays: &Option<Displays<A>>) -> u8
     ensures value { result ≡ fault_status (have_failed displays.now) }
+    ensures reported { IfSome displays.now (λ d. IsReported d.table d.shown) }
     ensures most { result ≤ 1 }
 {
     match displays {

@@ -4,6 +4,7 @@ use Rattle.clap.specs.Words.{Text}
 use Rattle.messages.proofs.Common.{Tells, Told, fault_status}
 use Rattle.messages.specs.Telling.{Alarmed, fault_words}
 use Rattle.messages.specs.declared.faults.Fault.TheVariants as fault
+use Rattle.station_files.proofs.ShownLemmas.{none_failed}
 use Rattle.station_reporter.proofs.Common.{Recording, is_broken, record_status}
 use Rattle.station_run.proofs.Common.{Begun, EndsRun, IsLost, IsOver, Left, RunEnd, RunPlan, Runs, RunsFrom, RunsOn, RunsStation, Station, Streams}
 use Rattle.streams.specs.Source.{RingName}
@@ -191,7 +192,7 @@ module _ (asked : RunPlan) (before : Option (List ℕ)) (alarm : Alarmed) (err_o
       has_record = λ failed. absurd (search rules);
     };
     displays_failed = false;
-    no_displays = λ none. refl;
+    displays = none_failed asked.has_displays;
     status_is = nothing.status_is;
   }
   status-of-run after status (inr runs) =
@@ -205,7 +206,7 @@ module _ (asked : RunPlan) (before : Option (List ℕ)) (alarm : Alarmed) (err_o
         record_failed = ended.record_failed;
         at_once = ended.reported;
         displays_failed = leaves.displays_failed;
-        no_displays = leaves.no_displays;
+        displays = leaves.displays;
         status_is = leaves.status_is ∙ ap (λ (n : ℕ). max n (fault_status leaves.displays_failed)) ended.worst;
       }
 

@@ -10,6 +10,7 @@ use Rattle.station_lines.specs.declared.tally.Tally.{Tally}
 use Rattle.messages.specs.Status.{fault_status}
 use Rattle.messages.specs.Telling.{Alarmed, Tells, Told, fault_line, tally_line, telling_line}
 use Rattle.messages.specs.declared.faults.Fault.TheVariants as fault
+use Rattle.station_files.specs.Displays.{AreReported}
 use Rattle.station_files.specs.Recorded.{TellsFailure}
 use Rattle.station_run.specs.Stations.{RunPlan, plan_from}
 use Rattle.station_main.specs.Jobs.{HasNoMemory, is_shown}
@@ -65,8 +66,8 @@ pub record ReportsAtOnce (asked : RunPlan) (alarm : Alarmed) (output_failed reco
   pub recorded : ReportsRecord record_failed (new_alarm alarm.of_record) record_alarm
   pub has_record : record_failed ≡ true → is_some asked.file ≡ true
 
--- a run tells some lines in the end, and reports some failed writes at once. The status is 1 just where one of the lines is a
--- fault or such a write was reported, and else 0. Of a run with displays it may be 1 beyond that, as one of their writes failed
+-- a run tells some lines in the end, and reports failed writes at once: of its output, its record and its displays. The status is 1
+-- just where one of the lines is a fault or such a write was reported, and else 0
 pub record StatusOfRun (asked : RunPlan) (alarm : Alarmed) (err_old err_new : Told) (status : ℕ) : Type 0 where
   pub lines : List ToldLine
   pub told : TellsLines err_old err_new lines
@@ -74,7 +75,7 @@ pub record StatusOfRun (asked : RunPlan) (alarm : Alarmed) (err_old err_new : To
   pub record_failed : Bool
   pub at_once : ReportsAtOnce asked alarm output_failed record_failed
   pub displays_failed : Bool
-  pub no_displays : asked.has_displays ≡ false → displays_failed ≡ false
+  pub displays : AreReported asked.has_displays displays_failed
   pub status_is : status ≡ max (max (max (worst_line lines) (fault_status output_failed)) (fault_status record_failed)) (fault_status displays_failed)
 
 abbrev pub StatusOfJob : Job → (origin : ℕ) → Alarmed → Told → Told → ℕ → Type 0

@@ -22,6 +22,7 @@ use Rattle.station_output.proofs.Common.{based, put_after}
 use Rattle.station_output.proofs.PrintingLemmas.{based-fails, based-takes, same-ring, takes-failure}
 use Rattle.station_report.specs.declared.formats.Format.{Format}
 use Rattle.station_files.proofs.RecordedLemmas.{last-record}
+use Rattle.station_files.proofs.ShownLemmas.{none_failed}
 use Rattle.station_reporter.proofs.ReportLemmas.{printed_at_most}
 use Rattle.station_reporter.specs.declared.duties.Duties.{Duties}
 use Rattle.station_reporter.specs.declared.schedule.Due.{Due}
@@ -268,7 +269,7 @@ leaves_by has_displays ends other after err_new status leaves so = record {
   out = leaves.out;
   err = leaves.err;
   displays_failed = leaves.displays_failed;
-  no_displays = leaves.no_displays;
+  displays = leaves.displays;
   status_is = leaves.status_is;
 }
 
@@ -327,7 +328,7 @@ over asked left old err_round err_mid err_new of_round told after status round n
   out = refl;
   err = refl;
   displays_failed = closes.displays_failed;
-  no_displays = closes.no_displays;
+  displays = closes.displays;
   status_is = closes.status_is;
 }
 
@@ -339,7 +340,7 @@ lost has_displays paths err_old err_new after status gone early = record {
   out = refl;
   err = refl;
   displays_failed = false;
-  no_displays = λ _. refl;
+  displays = none_failed has_displays;
   status_is = omega arith;
 }
 

@@ -21,6 +21,7 @@ use Rattle.station_lines.specs.declared.tally.Tally.{Tally}
 use Rattle.station_shared.specs.Seats.{Seated, newcomer}
 use Rattle.station_paths.specs.Inputs.{AllTakeFrom, FailsBetweenLines, GaveAllBut, HasNoLines, unfinished_status, unknown}
 use Rattle.station_run.specs.Limits.{forget_at, program_limits}
+use Rattle.station_files.specs.Displays.{AreReported}
 use Rattle.station_files.specs.Recorded.{IfRecording, IsNewRecord, Recording, Records, RecordsRest, record_status, recorded_look}
 use Rattle.messages.specs.Status.{fault_status, status_of}
 use Rattle.station_run.specs.Output.{GivesBack}
@@ -352,7 +353,7 @@ pub record Leaves (has_displays : Bool) (ends : RunEnd → Type 0) (after : Opti
   pub out : end.out ≡ after
   pub err : end.err ≡ err_new
   pub displays_failed : Bool
-  pub no_displays : has_displays ≡ false → displays_failed ≡ false
+  pub displays : AreReported has_displays displays_failed
   pub status_is : status ≡ max (max end.status (record_status end.recording)) (fault_status displays_failed)
 
 -- a run from its first station to its end
@@ -489,5 +490,5 @@ pub record ClosesOutput (has_displays : Bool) (before : Option (List ℕ)) (fail
   pub gives : GivesBack before output (failed_before || has_failed)
   pub told : Tells err_old err_new (output_lines has_failed)
   pub displays_failed : Bool
-  pub no_displays : has_displays ≡ false → displays_failed ≡ false
+  pub displays : AreReported has_displays displays_failed
   pub status_is : status ≡ max (max (max so_far (fault_status (failed_before || has_failed))) (record_status recording)) (fault_status displays_failed)

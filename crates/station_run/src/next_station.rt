@@ -7,6 +7,7 @@ ghost use Rattle.station_lines.specs.declared.pumping.PumpFault.{PumpFault};
 ghost use Rattle.station_lines.specs.declared.tally.Tally.{Tally};
 ghost use Rattle.station_paths.specs.Inputs.{AllTakeFrom};
 ghost use Rattle.station_paths.specs.Faults.{IsEarly, IsUnstarted};
+ghost use Rattle.station_files.specs.Displays.{AreReported};
 ghost use Rattle.station_run.specs.Stations.{AreRead, ClosesOutput, HandsOver, IsFirst, IsNext, IsRoundEnd, KeepsRecent, RunPlan, begun_of, left_of, plan_of, start_of, streams_of};
 ghost use Rattle.messages.specs.Status.{fault_status};
 ghost use Rattle.station_shared.specs.Seats.{Seated};
@@ -222,9 +223,9 @@ fn write_status(failed_before: bool, has_failed: bool) -> u8
 }
 
 // The status of the tables for displays: 1 if a write of them failed. It is 0 where none are asked for.
-fn display_status<A>(asked: RunOptions<'_>, displays: &Option<Displays<A>>) -> u8
+fn display_status<A: Write>(asked: RunOptions<'_>, displays: &Option<Displays<A>>) -> u8
     ensures most { result ≤ 1 }
-    ensures value { (failed : Bool) × (result ≡ fault_status failed) × (is_some asked.entry.displays.now ≡ false → failed ≡ false) }
+    ensures value { (failed : Bool) × (result ≡ fault_status failed) × AreReported (is_some asked.entry.displays.now) failed }
 {
     if asked.displays.is_none() {
         return 0;

@@ -14,6 +14,6 @@ returns-clause-closes g c =
       gives = rw c.into_inner.ensures c.give_back-closed.ensures.bytes;
       told = c.give_back-closed.ensures.told;
       displays_failed = c.display_status-shown.ensures.value.0;
-      no_displays = c.display_status-shown.ensures.value.2;
+      displays = c.display_status-shown.ensures.value.2;
       status_is = c.max.ensures ∙ ap₂ max (c.max-with_record.ensures ∙ ap₂ max (c.max-with_output.ensures ∙ ap (max c.args.status) written) c.status_of-recorded.ensures.value) c.display_status-shown.ensures.value.1;
     }

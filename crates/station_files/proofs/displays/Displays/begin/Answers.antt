@@ -1,9 +1,9 @@
-use Rattle.std.proofs.Common.{ap, ◌∙◌, string_bytes}
+use Rattle.std.proofs.Common.{◌∙◌, [], refl}
+use Rattle.messages.specs.Telling.{told_of}
 use Rattle.station_files.proofs.displays.Displays.begin.Goals as goal
 
-pub returns : goal.returns
-returns g c = record {
-  table = ap (λ file. string_bytes file.path) c.report_write.ensures.table ∙ c.in_ok-at.ensures;
-  origin = c.report_write.ensures.origin;
-  follows = c.report_write.ensures.follows;
-}
+pub invariant_of-displays : goal.invariant_of-displays
+invariant_of-displays g c = record { alarm = told_of g.A.Write.contents c.args.alarm; writes = []; reported = refl; failed = refl }
+
+pub returns-clause-table : goal.returns-clause-table
+returns-clause-table g c = c.report_write.ensures.table ∙ c.in_ok-at.ensures
