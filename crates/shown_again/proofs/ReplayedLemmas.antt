@@ -1,5 +1,5 @@
 -- A replay of the record of a run.
-use Rattle.std.proofs.Common.{rules, ◌≡◌, ◌∙◌, inl, inr, ℕ, Bool, true, false, List, [], ◌∷◌, Option, Some, None, Result, Ok, Err, ap, is_some, length, refl, subst, sym, arith, max}
+use Rattle.std.proofs.Common.{rules, ◌≡◌, ◌∙◌, ◌||◌, inl, inr, ℕ, Bool, true, false, List, [], ◌∷◌, Option, Some, None, Result, Ok, Err, ap, is_some, length, refl, subst, sym, arith, max}
 use Rattle.std.specs.Io.KnownBytes.{Appends}
 use Rattle.streams.specs.Source.{SourceState}
 use Rattle.modes_frame.specs.declared.cutter.Cut.{Cut}
@@ -22,9 +22,9 @@ use Rattle.station_reporter.specs.declared.schedule.Tables.{Tables}
 use Rattle.streams.specs.Source.{RingName}
 use Rattle.station_run.specs.Stations.{IsBlank, new_output}
 use Rattle.station_run.proofs.Common.{Begun, IsFirst, RoundStart, RunEnd, RunPlan, Runs, RunsOn, RunsStation, RunsStations, Station, Streams, forget_at, most_between_ticks, no_start, program_limits}
-use Rattle.shown_again.proofs.Common.{HasPrinted, HasRecorded, HasRoom, IsOneStation, ReplayPrints}
+use Rattle.shown_again.proofs.Common.{HasPrinted, HasRecorded, HasRoom, IsOneStation, ReplayPrints, WroteAll}
 use Rattle.shown_again.proofs.SaidLemmas.{Said}
-use Rattle.shown_again.proofs.ShownAgainLemmas.{said-again, stations-said}
+use Rattle.shown_again.proofs.ShownAgainLemmas.{not-lost, said-again, stations-said}
 use Rattle.shown_again.proofs.StationLemmas.{kept-whole, no-fault}
 
 -- ---- a replay without a fault
@@ -65,7 +65,7 @@ abbrev ShowsAgain : (site : Site) (before : Option (List ℕ)) (after : Option (
 ShowsAgain site before after blank left only = (text lines : List ℕ) × HasPrinted before after text × HasRecorded blank left lines × (unlimited_output (empty_log (program_limits site)) (cuts lines) ≡ text) × (only → HasRoom site lines) × (HasRoom site lines → ReplayPrints site lines text)
 
 module _ (asked : RunPlan) (ring : Option RingName) (before told : Option (List ℕ)) (after : Option (Option (List ℕ))) (blank : Recording) (err_old : Told) (end : RunEnd) (is_text : asked.tables.format ≡ Text) (none : blank.recorded ≡ 0)
-    (left : end.out ≡ after) (ended : end.status ≡ 0) (well : record_status end.recording ≡ 0) where
+    (left : end.out ≡ after) (wrote : WroteAll end) where
   abbrev old : Streams
   old = record { out = new_output asked ring before told; recording = Some blank; err = err_old }
 
@@ -75,7 +75,7 @@ module _ (asked : RunPlan) (ring : Option RingName) (before told : Option (List 
       let given_is : station.begun.given ≡ no_start asked.site = ap (λ (b : Begun). b.given) begun_is ∙ given in
       let station_text : station.begun.duties.tables.format ≡ Text = ap (λ (b : Begun). b.duties.tables.format) begun_is ∙ ap (λ (tables : Tables). tables.format) first.tables ∙ is_text in
       let known : blank.recorded ≡ length station.begun.given.entries = none ∙ ap (λ (g : RoundStart). length g.entries) (sym given_is) in
-      let all = stations-said asked is_text end ended well station stations blank runs station_text (ap (λ (s : Streams). s.recording) old_is) known others in
+      let all = stations-said asked is_text end wrote station stations blank runs station_text (ap (λ (s : Streams). s.recording) old_is) known others in
       let said : Said (length stations ≡ 0) (no_start asked.site) before all.output blank all.is =
       subst (λ (g : RoundStart). Said (length stations ≡ 0) g before all.output blank all.is) given_is
       (subst (λ (o : Option (List ℕ)). Said (length stations ≡ 0) station.begun.given o all.output blank all.is) (ap (λ (s : Streams). s.out.taken) old_is) all.said) in
@@ -90,21 +90,42 @@ module _ (asked : RunPlan) (ring : Option RingName) (before told : Option (List 
       )
 
   by-stations : (stations : List Station) → Runs asked old stations end → ShowsAgain asked.site before after (Some blank) end.recording (IsOneStation stations)
-  by-stations stations (inl (none_are, lost)) = absurd (not-one (sym ended ∙ lost.early.status_is))
-  by-stations [] (inr (begun, given, rounds_left, first, lost)) = absurd (not-one (sym ended ∙ lost.early.status_is))
+  by-stations stations (inl (none_are, lost)) = absurd (not-lost end.out wrote.out lost.out)
+  by-stations [] (inr (begun, given, rounds_left, first, lost)) = absurd (not-lost end.out wrote.out lost.out)
   by-stations (station ∷ stations) (inr (begun, given, rounds_left, first, (begun_is, old_is, runs, others))) = from-first begun station stations given first begun_is old_is runs others
 
 blank-of : (file : Option (List ℕ)) (alarm : Option (List ℕ)) (recording : Option Recording) → is_some file ≡ true → IsBlank file alarm recording → (blank : Recording) × (recording ≡ Some blank) × (blank.recorded ≡ 0)
 blank-of None alarm recording asked is_blank = absurd (search rules)
 blank-of (Some file) alarm recording asked (blank, there, new) = (blank, there, new.recorded)
 
-pub run-replayed : (asked : RunPlan) (before : Option (List ℕ)) (after : Option (Option (List ℕ))) (alarm : Alarmed) (err_old err_new : Told) → asked.tables.format ≡ Text → is_some asked.file ≡ true → (run : RunsStations asked before after alarm err_old err_new 0)
-    → ShowsAgain asked.site before after run.blank run.leaves.end.recording (IsOneStation run.stations)
-run-replayed asked before after alarm err_old err_new is_text has_file run =
+pub run-replayed : (asked : RunPlan) (before : Option (List ℕ)) (after : Option (Option (List ℕ))) (alarm : Alarmed) (err_old err_new : Told) (status : ℕ) → asked.tables.format ≡ Text → is_some asked.file ≡ true → (run : RunsStations asked before after alarm err_old err_new status)
+    → WroteAll run.leaves.end → ShowsAgain asked.site before after run.blank run.leaves.end.recording (IsOneStation run.stations)
+run-replayed asked before after alarm err_old err_new status is_text has_file run wrote =
     let leaves = run.leaves in
     let blank = blank-of asked.file alarm.of_record run.blank has_file run.is_blank in
-    let both = first-zero _ _ leaves.status_is in
     let runs : Runs asked (record { out = new_output asked run.ring before alarm.of_output; recording = Some blank.0; err = err_old }) run.stations leaves.end =
     subst (λ (o : Option Recording). Runs asked (record { out = new_output asked run.ring before alarm.of_output; recording = o; err = err_old }) run.stations leaves.end) blank.1 leaves.ends_so in
     subst (λ (o : Option Recording). ShowsAgain asked.site before after o leaves.end.recording (IsOneStation run.stations)) (sym blank.1)
-    (by-stations asked run.ring before alarm.of_output after blank.0 err_old leaves.end is_text blank.2 leaves.out (first-zero _ _ (sym both)) (second-zero _ _ (sym both)) run.stations runs)
+    (by-stations asked run.ring before alarm.of_output after blank.0 err_old leaves.end is_text blank.2 leaves.out wrote run.stations runs)
+
+-- ---- a run with status 0
+
+module _ (asked : RunPlan) (end : RunEnd) (ended : end.status ≡ 0) (well : record_status end.recording ≡ 0) where
+  not-early : end.status ≡ 1 → ⊥
+  not-early one = not-one (sym ended ∙ one)
+
+  wrote-on : (station : Station) (stations : List Station) → RunsOn asked station stations end → WroteAll end
+  wrote-on station [] (inl over) =
+      record { out = ap is_some over.out; well = over.out_failed ∙ no-fault over.told (station.new.out.has_failed || over.has_failed) (sym ended ∙ over.status_is); recorded = well }
+  wrote-on station [] (inr (err, goes_on, lost)) = absurd (not-early lost.early.status_is)
+  wrote-on station (next ∷ stations) (follows, runs, others) = wrote-on next stations others
+
+  pub wrote-all : (begun_with : Streams) (stations : List Station) → Runs asked begun_with stations end → WroteAll end
+  wrote-all begun_with stations (inl (none_are, lost)) = absurd (not-early lost.early.status_is)
+  wrote-all begun_with [] (inr (begun, given, rounds_left, first, lost)) = absurd (not-early lost.early.status_is)
+  wrote-all begun_with (station ∷ stations) (inr (begun, given, rounds_left, first, (begun_is, old_is, runs, others))) = wrote-on station stations others
+
+pub run-wrote : (asked : RunPlan) (before : Option (List ℕ)) (after : Option (Option (List ℕ))) (alarm : Alarmed) (err_old err_new : Told) → (run : RunsStations asked before after alarm err_old err_new 0) → WroteAll run.leaves.end
+run-wrote asked before after alarm err_old err_new run =
+    let both = first-zero _ _ run.leaves.status_is in
+    wrote-all asked run.leaves.end (first-zero _ _ (sym both)) (second-zero _ _ (sym both)) _ run.stations run.leaves.ends_so

@@ -1,5 +1,5 @@
 -- A replay of the record of a run prints what the run printed, station by station.
-use Rattle.std.proofs.Common.{rules, ◌≡◌, ◌∙◌, ◌⊎◌, inl, inr, ℕ, suc, ◌+◌, ◌≤◌, ◌||◌, Bool, true, false, List, [], ◌∷◌, ◌++◌, Option, Some, None, refl, sym, ap, subst, length, arith}
+use Rattle.std.proofs.Common.{rules, ◌≡◌, ◌∙◌, ◌⊎◌, inl, inr, ℕ, suc, ◌+◌, ◌≤◌, ◌||◌, Bool, true, false, List, [], ◌∷◌, ◌++◌, Option, Some, None, is_some, refl, sym, ap, subst, length, arith}
 use Rattle.std.specs.Io.KnownBytes.{Appends}
 use Rattle.modes_frame.specs.Lines.{cuts}
 use Rattle.station_journal.proofs.Common.{Site}
@@ -9,12 +9,13 @@ use Rattle.station_replay.proofs.Common.{calls_in, unlimited_output}
 use Rattle.station_replay.proofs.LimitLemmas.{limit-unreached, under-output}
 use Rattle.station_record.specs.ReadBack.{new_log}
 use Rattle.station_record.proofs.RoundLemmas.{first-continues}
-use Rattle.messages.proofs.Common.{Told, fault_status}
+use Rattle.messages.proofs.Common.{Told}
 use Rattle.station_reporter.proofs.Common.{IfRecording, Printing, Recording, looks_of, record_status}
 use Rattle.station_output.proofs.PrintingLemmas.{unfailed-before}
 use Rattle.station_reporter.specs.declared.duties.Duties.{Duties}
 use Rattle.station_reporter.specs.declared.schedule.Tables.{Tables}
 use Rattle.station_run.proofs.Common.{BeginsRound, Begun, EndsRun, HandsOver, KeepsRecent, RunEnd, RunPlan, RunsOn, RunsStation, Station, no_start, program_limits}
+use Rattle.shown_again.proofs.Common.{WroteAll}
 use Rattle.shown_again.proofs.KeptEndLemmas.{Begins, wide}
 use Rattle.shown_again.proofs.SaidLemmas.{Said, handed-on, only-said, still-well}
 use Rattle.shown_again.proofs.StationLemmas.{kept-whole, no-fault, says-kept, station-says}
@@ -42,7 +43,7 @@ next-text asked station next err asks_text runs is_text (inr round) = ap (λ (ta
 
 -- ---- the stations of a run
 
--- a run with status 0 left its output and its record, which says what its stations printed
+-- a run that wrote all left its output and its record, which says what its stations printed
 pub record SaidOn (only : Type 0) (station : Station) (end : RunEnd) (was : Recording) : Type 0 where
   pub output : Option (List ℕ)
   pub out : end.out ≡ Some output
@@ -52,28 +53,26 @@ pub record SaidOn (only : Type 0) (station : Station) (end : RunEnd) (was : Reco
   pub written : station.old.out.has_failed ≡ false
   pub said : Said only station.begun.given station.old.out.taken output was is
 
-not-one : (status : ℕ) → status ≡ 0 → status ≡ 1 → ⊥
-not-one status none one = omega arith
+-- a run that left its output isn't lost
+pub not-lost : {A : Type 0} (out : Option A) → is_some out ≡ true → out ≡ None → ⊥
+not-lost None there gone = absurd (search rules)
+not-lost (Some output) there gone = absurd (search rules)
 
 well-record : (recording : Option Recording) (is : Recording) → recording ≡ Some is → record_status recording ≡ 0 → is.has_failed ≡ false
 well-record recording is there well = no-fault 0 is.has_failed (sym well ∙ ap record_status there ∙ omega arith)
-
-no-failure : (b : Bool) → fault_status b ≡ 0 → b ≡ false
-no-failure false e = refl
-no-failure true e = absurd (omega (arith, e))
 
 neither : (a b : Bool) → (a || b) ≡ false → a ≡ false
 neither false b e = refl
 neither true b e = absurd (search rules)
 
-module _ (asked : RunPlan) (asks_text : asked.tables.format ≡ Text) (end : RunEnd) (ended : end.status ≡ 0) (well : record_status end.recording ≡ 0) where
+module _ (asked : RunPlan) (asks_text : asked.tables.format ≡ Text) (end : RunEnd) (wrote : WroteAll end) where
   last-said : (only : Type 0) (station : Station) (was : Recording) → RunsStation station → IsText station.begun → station.old.recording ≡ Some was → was.recorded ≡ length station.begun.given.entries → EndsRun asked station.left station.new end → SaidOn only station end was
-  last-said only station was runs is_text there known (inr (err, goes_on, lost)) = absurd (not-one end.status ended lost.early.status_is)
+  last-said only station was runs is_text there known (inr (err, goes_on, lost)) = absurd (not-lost end.out wrote.out lost.out)
   last-said only station was runs is_text there known (inl over) =
       let shown = record-after _ station.old.recording station.new.recording was there runs.shows.records in
       let recorded : end.recording ≡ Some shown.0 = over.recording ∙ shown.1 in
-      let is_well = well-record end.recording shown.0 recorded well in
-      let all_written = no-fault over.told (station.new.out.has_failed || over.has_failed) (sym ended ∙ over.status_is) in
+      let is_well = well-record end.recording shown.0 recorded wrote.recorded in
+      let all_written = sym over.out_failed ∙ wrote.well in
       let written = neither station.new.out.has_failed over.has_failed all_written in
       let kept = kept-whole station.new.out.taken over.output _ all_written over.gives in
       let says = says-kept station.begun.given station.left.start station.left.closing.reporter station.old.out.taken station.new.out.taken over.output was shown.0 kept

@@ -1,5 +1,5 @@
 -- What a replay of the record of a run prints.
-use Rattle.std.specs.Prelude.{◌≡◌, ◌≤◌, ◌⊎◌, ℕ, List, Option, Some, length}
+use Rattle.std.specs.Prelude.{◌≡◌, ◌≤◌, ◌⊎◌, ℕ, false, true, List, Option, Some, is_some, length}
 use Rattle.std.specs.Io.KnownBytes.{Appends}
 use Rattle.modes_frame.specs.Lines.{cuts}
 use Rattle.station_journal.specs.Log.{empty_log, most_entries}
@@ -7,11 +7,17 @@ use Rattle.station_journal.specs.Past.{Site}
 use Rattle.station_report.specs.declared.formats.Format.TheVariants.{Text}
 use Rattle.station_replay.specs.Forgetting.{StaysSparse, calls_in}
 use Rattle.station_run.specs.Limits.{forget_at, most_between_ticks, program_limits}
-use Rattle.station_files.specs.Recorded.{Recording}
+use Rattle.station_files.specs.Recorded.{Recording, record_status}
 use Rattle.station_reporter.specs.LimitAlarms.{LimitsTold}
 use Rattle.station_main.specs.Replay.{EndsReplay}
-use Rattle.station_run.specs.Stations.{Station}
+use Rattle.station_run.specs.Stations.{RunEnd, Station}
 use Rattle.messages.specs.Telling.{Told}
+
+-- a run left its output, and no write of that or of its record failed
+pub record WroteAll (end : RunEnd) : Type 0 where
+  pub out : is_some end.out ≡ true
+  pub well : end.out_failed ≡ false
+  pub recorded : record_status end.recording ≡ 0
 
 -- a run left its output, which took just this text
 pub record HasPrinted (before : Option (List ℕ)) (after : Option (Option (List ℕ))) (text : List ℕ) : Type 0 where

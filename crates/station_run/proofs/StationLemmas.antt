@@ -308,7 +308,7 @@ pub over : (asked : RunPlan) (left : Left) (old : Streams) (err_round err_mid er
     → (round : EndsRound asked left old.err err_round of_round) → NoRoundAfter left.rounds_left round.stopped err_round err_mid of_round told
     → ClosesOutput asked.has_displays old.out.taken old.out.has_failed old.recording err_mid err_new told after status → Leaves asked.has_displays (EndsRun asked left old) after err_new status
 over asked left old err_round err_mid err_new of_round told after status round no_more closes = record {
-  end = record { out = after; recording = old.recording; err = err_new; status = max told (fault_status (old.out.has_failed || closes.has_failed)) };
+  end = record { out = after; out_failed = old.out.has_failed || closes.has_failed; recording = old.recording; err = err_new; status = max told (fault_status (old.out.has_failed || closes.has_failed)) };
   ends_so = inl (record {
     err_round = err_round;
     of_round = of_round;
@@ -320,6 +320,7 @@ over asked left old err_round err_mid err_new of_round told after status round n
     out = closes.out;
     has_failed = closes.has_failed;
     once = closes.once;
+    out_failed = refl;
     gives = closes.gives;
     told_too = closes.told;
     recording = refl;
@@ -335,7 +336,7 @@ over asked left old err_round err_mid err_new of_round told after status round n
 -- the end without an output
 pub lost : (has_displays : Bool) (paths : List (List ℕ)) (err_old err_new : Told) (after : Option (Option (List ℕ))) (status : ℕ) → after ≡ None → EndsEarly paths err_old err_new status → Leaves has_displays (IsLost paths err_old) after err_new status
 lost has_displays paths err_old err_new after status gone early = record {
-  end = record { out = after; recording = None; err = err_new; status = status };
+  end = record { out = after; out_failed = false; recording = None; err = err_new; status = status };
   ends_so = record { out = gone; early = early };
   out = refl;
   err = refl;

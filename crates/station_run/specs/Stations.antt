@@ -69,9 +69,11 @@ pub record Streams : Type 0 where
   pub recording : Option Recording
   pub err : Told
 
--- what a run leaves: its output unless that is gone, the record if there is one, standard error, and its status
+-- what a run leaves: its output unless that is gone, whether a write of it failed, the record if there is one, standard error, and
+-- its status
 pub record RunEnd : Type 0 where
   pub out : Option (Option (List ℕ))
+  pub out_failed : Bool
   pub recording : Option Recording
   pub err : Told
   pub status : ℕ
@@ -279,6 +281,7 @@ pub record IsOver (asked : RunPlan) (left : Left) (old : Streams) (end : RunEnd)
   pub out : end.out ≡ Some output
   pub has_failed : Bool
   pub once : old.out.has_failed ≡ true → has_failed ≡ false
+  pub out_failed : end.out_failed ≡ (old.out.has_failed || has_failed)
   pub gives : GivesBack old.out.taken output (old.out.has_failed || has_failed)
   pub told_too : Tells err_mid end.err (output_lines has_failed)
   pub recording : end.recording ≡ old.recording
