@@ -1,10 +1,8 @@
 pub mod FoundLemmas
-mod JobLemmas
+mod LineLemmas
 mod PlaceLemmas
+mod RowLemmas
 mod RunLemmas
-mod RunLineLemmas
-mod RunRowLemmas
-mod RunUseLemmas
 mod WalkedLemmas
 mod WordLemmas
 mod WordsFaultLemmas

@@ -1,10 +1,12 @@
--- What a walk over a command line keeps of the rows, if no use of an argument fails.
-use Rattle.std.proofs.Common.{◌≡◌, ℕ, Bool, true, false, zero, suc, List, [], ◌∷◌, Option, Some, None, refl, ap, length, drop, arith, find, slice_get, encode_utf8, is_some, ◌&&◌, if◌then◌else◌, fold, bytes_eq, chars}
+-- What a walk over a command line keeps of the rows, if no word fails, and that it stops at no `help`.
+use Rattle.std.proofs.Common.{◌≡◌, ℕ, Bool, true, false, zero, suc, List, [], ◌∷◌, Option, Some, None, IfSome, refl, ap, codes, length, drop, arith, find, slice_get, encode_utf8, is_some, ◌&&◌, if◌then◌else◌, fold, bytes_eq, chars}
+use Rattle.std.specs.Prelude.{⊤}
 use Rattle.std.specs.Option.{option_map_or}
 use Rattle.clap.specs.Lexer.{long_of, short_of}
 use Rattle.clap.specs.Kinds.{Kinds, or_else}
-use Rattle.clap.specs.Walk.{Held, Names, Outcome, Row, Rule, Step, Text, Waiting, Walk, after_flag, after_step, arg_by_id, arg_by_index, arg_by_long, arg_by_short, attached_value, bundle, bundle_met, long_met, long_or_other, option_met, plain_word, reacted, settled, settled_rows, short_met, short_or_plain, subcommand_met, subcommand_or_other, takes_several, takes_values, is_pending, to_positional, used, used_by_id, walked, walked_from, word_met, option_word, option, idle, positional, done, waits, plain, refused, trailing, value, bundle_step, flag_met}
-use Rattle.clap.specs.Faults.{bundle_fault, bundle_step_fault, flag_word_fault, flags_fault, long_fault, option_fault, other_fault, positional_fault, react_fault, settle_fault, short_fault, step_fault, stray_fault, turn_fault, use_fault, walk_fault, word_fault}
+use Rattle.clap.specs.Walk.{Held, Names, Outcome, Row, Rule, Step, Text, Waiting, Walk, after_flag, after_step, arg_by_id, arg_by_index, arg_by_long, arg_by_short, attached_value, bundle, bundle_met, bundle_step, done, finished, flag_met, idle, is_pending, long_met, long_or_other, next, nothing_held}
+use Rattle.clap.specs.Walk.{option, option_met, option_word, plain, plain_word, positional, reacted, refused, settled, settled_rows, short_met, short_or_plain, subcommand, subcommand_met, subcommand_or_other, takes_several, takes_values, to_positional, trailing, used, used_by_id, value, waits, walk, walk_from, walked, walked_from, word_met}
+use Rattle.clap.specs.Faults.{bundle_fault, bundle_step_fault, check_fault, defaults_fault, flag_word_fault, flags_fault, level_fault, long_fault, option_fault, other_fault, positional_fault, react_fault, settle_fault, short_fault, step_fault, stray_fault, turn_fault, use_fault, walk_fault, word_fault}
 use Rattle.clap.specs.Simple.{Shape}
 use Rattle.clap.specs.declared.error.kind.ErrorKind.{ErrorKind}
 use Rattle.clap.specs.declared.error.kind.ErrorKind.TheVariants as kind
@@ -24,7 +26,27 @@ Found c a = (p : Rule → Bool) × (find p c ≡ Some a)
 abbrev pub Keeps : List Rule → Bool → (List Row → Type 0) → Type 0
 Keeps c again P = (a : Rule) (values : List Text) (rows : List Row) → Found c a → use_fault again a values rows ≡ [] → P rows → P (used a values rows)
 
+-- the name isn't `help`, if the command has that subcommand
+abbrev pub IsOther : Shape → Text → Type 0
+IsOther s name = s.disable_help_subcommand ≡ false → bytes_eq name (codes "help") ≡ false
+
+-- no `help` is entered at this step
+abbrev Enters : Shape → Step → Type 0
+Enters s (subcommand name) = IsOther s name
+Enters s _ = ⊤
+
+-- a walk that stopped did so at no `help`
+abbrev Stops : Shape → Option (Text × List Text) → Type 0
+Stops s stop = IfSome stop (λ p. IsOther s p.0)
+
 module _ (s : Shape) (P : List Row → Type 0) (keeps : Keeps s.rules s.args_override_self P) where
+  -- what a word keeps, and what a walk has kept
+  abbrev Met : Held × Step → Type 0
+  Met m = P m.0.rows × Enters s m.1
+
+  abbrev Stays : Walk → Type 0
+  Stays w = P w.held.rows × Stops s w.stopped
+
   settles_by : (o : Option Rule) (id : Text) → arg_by_id s.rules id ≡ o → (values : List Text) (rows : List Row)
       → option_map_or (λ a. use_fault s.args_override_self a values rows) o [] ≡ [] → P rows → P (used_by_id o values rows)
   settles_by None id is values rows e p = p
@@ -35,7 +57,7 @@ module _ (s : Shape) (P : List Row → Type 0) (keeps : Keeps s.rules s.args_ove
   settles_rows None rows skip e p = p
   settles_rows (Some q) rows skip e p = settles_by (arg_by_id s.rules q.0) q.0 refl q.1 rows e p
 
-  pub settles : (h : Held) → settle_fault s.rules s.args_override_self h ≡ [] → P h.rows → P (settled s.rules h).rows
+  settles : (h : Held) → settle_fault s.rules s.args_override_self h ≡ [] → P h.rows → P (settled s.rules h).rows
   settles h e p = settles_rows h.pending h.rows h.skip e p
 
   reacts : (a : Rule) → Found s.rules a → (values : List Text) (h : Held) → react_fault s.rules s.args_override_self a values h ≡ [] → P h.rows → P (reacted s.rules a values h).rows
@@ -94,25 +116,25 @@ module _ (s : Shape) (P : List Row → Type 0) (keeps : Keeps s.rules s.args_ove
   plain_option None id word h p = p
   plain_option (Some a) id word h p = p
 
-  plains : (waiting : Waiting) (word : Text) (h : Held) → P h.rows → P (plain_word s.rules waiting word h).0.rows
-  plains (option id) word h p = plain_option (arg_by_id s.rules id) id word h p
-  plains idle word h p = p
-  plains positional word h p = p
+  plains : (waiting : Waiting) (word : Text) (h : Held) → P h.rows → Met (plain_word s.rules waiting word h)
+  plains (option id) word h p = (plain_option (arg_by_id s.rules id) id word h p, tt)
+  plains idle word h p = (p, tt)
+  plains positional word h p = (p, tt)
 
-  after_flags : (out : Outcome) (waiting : Waiting) (word : Text) (h : Held) → P h.rows → P (after_flag s.rules waiting word h out).0.rows
-  after_flags done waiting word h p = p
-  after_flags (waits id) waiting word h p = p
+  after_flags : (out : Outcome) (waiting : Waiting) (word : Text) (h : Held) → P h.rows → Met (after_flag s.rules waiting word h out)
+  after_flags done waiting word h p = (p, tt)
+  after_flags (waits id) waiting word h p = (p, tt)
   after_flags plain waiting word h p = plains waiting word h p
   after_flags refused waiting word h p = plains waiting word h p
 
   short_words : (o : Option Text) (waiting : Waiting) (word : Text) (h : Held) → option_map_or (λ flags. bundle_fault s.rules s.args_override_self flags h) o [] ≡ []
-      → P h.rows → P (short_or_plain s.rules waiting word o h).0.rows
+      → P h.rows → Met (short_or_plain s.rules waiting word o h)
   short_words None waiting word h e p = plains waiting word h p
   short_words (Some flags) waiting word h e p =
       after_flags (bundle s.rules flags h).1 waiting word (bundle s.rules flags h).0 (bundles (length flags) flags h.skip plain (record h { skip = 0 }) e p)
 
   flag_words : (o : Option (Text × Option Text)) (waiting : Waiting) (word : Text) (h : Held) → flag_word_fault s.rules s.args_override_self o word h ≡ []
-      → P h.rows → P (long_or_other s.rules waiting word o h).0.rows
+      → P h.rows → Met (long_or_other s.rules waiting word o h)
   flag_words (Some q) waiting word h e p =
       let met = long_met s.rules (arg_by_long s.rules q.0) q.1 h in
       after_flags met.1 waiting word met.0 (longs (arg_by_long s.rules q.0) _ refl q.1 h e p)
@@ -120,18 +142,18 @@ module _ (s : Shape) (P : List Row → Type 0) (keeps : Keeps s.rules s.args_ove
 
   not_dashes : (b : Bool) (waiting : Waiting) (position : ℕ) (word : Text) (h : Held)
       → (if b then [] else flag_word_fault s.rules s.args_override_self (long_of word) word h) ≡ []
-      → P h.rows → P (if b then (h, trailing position) else long_or_other s.rules waiting word (long_of word) h).0.rows
-  not_dashes true waiting position word h e p = p
+      → P h.rows → Met (if b then (h, trailing position) else long_or_other s.rules waiting word (long_of word) h)
+  not_dashes true waiting position word h e p = (p, tt)
   not_dashes false waiting position word h e p = flag_words (long_of word) waiting word h e p
 
   sub_or_others : (o : Option Text) (waiting : Waiting) (position : ℕ) (word : Text) (h : Held) → other_fault s o word h ≡ []
-      → P h.rows → P (subcommand_or_other s.rules o waiting position word h).0.rows
-  sub_or_others (Some name) waiting position word h e p = p
+      → P h.rows → Met (subcommand_or_other s.rules o waiting position word h)
+  sub_or_others (Some name) waiting position word h e p = (p, λ enabled. grind (arith, e, enabled))
   sub_or_others None waiting position word h e p = not_dashes (bytes_eq word (45 ∷ 45 ∷ [])) waiting position word h e p
 
   words_met : (is_trailing : Bool) (names : Names) (waiting : Waiting) (position : ℕ) (word : Text) (h : Held) → word_fault s names is_trailing waiting word h ≡ []
-      → P h.rows → P (word_met s.rules names is_trailing waiting position word h).0.rows
-  words_met true names waiting position word h e p = p
+      → P h.rows → Met (word_met s.rules names is_trailing waiting position word h)
+  words_met true names waiting position word h e p = (p, tt)
   words_met false names waiting position word h e p = sub_or_others (subcommand_met names waiting word) waiting position word h e p
 
   positional_rows : (b : Bool) (h : Held) → (if b then [] else settle_fault s.rules s.args_override_self h) ≡ [] → P h.rows → P (if b then h else settled s.rules h).rows
@@ -139,31 +161,45 @@ module _ (s : Shape) (P : List Row → Type 0) (keeps : Keeps s.rules s.args_ove
   positional_rows false h e p = settles h e p
 
   to_positionals : (o : Option Rule) (word : Text) (w : Walk) (h : Held) → option_map_or (λ a. positional_fault s.rules s.args_override_self a h) o (stray_fault s) ≡ []
-      → P h.rows → P (to_positional s.rules o word w h).held.rows
-  to_positionals None word w h e p = p
-  to_positionals (Some a) word w h e p = positional_rows (is_pending a h.pending && takes_several a) h e p
+      → P h.rows → Stops s w.stopped → Stays (to_positional s.rules o word w h)
+  to_positionals None word w h e p stops = (p, stops)
+  to_positionals (Some a) word w h e p stops = (positional_rows (is_pending a h.pending && takes_several a) h e p, tt)
 
-  after_steps : (step : Step) (word : Text) (w : Walk) (h : Held) → step_fault s w.position h step ≡ [] → P h.rows → P (after_step s.rules word w h step).held.rows
-  after_steps value word w h e p = to_positionals (arg_by_index s.rules w.position) word w h e p
-  after_steps _ word w h e p = p
+  after_steps : (step : Step) (word : Text) (w : Walk) (h : Held) → step_fault s w.position h step ≡ [] → Met (h, step) → Stops s w.stopped → Stays (after_step s.rules word w h step)
+  after_steps value word w h e met stops = to_positionals (arg_by_index s.rules w.position) word w h e met.0 stops
+  after_steps (subcommand name) word w h e met stops = met
+  after_steps (next waiting) word w h e met stops = (met.0, stops)
+  after_steps (trailing position) word w h e met stops = (met.0, stops)
 
   turns_from : (stopped : Option (Text × List Text)) (names : Names) (w : Walk) (word : Text)
       → (let met = word_met s.rules names w.is_trailing w.waiting w.position word w.held in
       if is_some stopped then [] else or_else (word_fault s names w.is_trailing w.waiting word w.held) (step_fault s w.position met.0 met.1)) ≡ []
-      → P w.held.rows → P (walked_from s.rules names stopped w word).held.rows
-  turns_from (Some q) names w word e p = p
-  turns_from None names w word e p =
+      → Stops s stopped → Stays w → Stays (walked_from s.rules names stopped w word)
+  turns_from (Some q) names w word e at stays = (stays.0, at)
+  turns_from None names w word e at stays =
       let met = word_met s.rules names w.is_trailing w.waiting w.position word w.held in
       let parts = both_empty (word_fault s names w.is_trailing w.waiting word w.held) (step_fault s w.position met.0 met.1) e in
-      after_steps met.1 word w met.0 parts.1 (words_met w.is_trailing names w.waiting w.position word w.held parts.0 p)
+      after_steps met.1 word w met.0 parts.1 (words_met w.is_trailing names w.waiting w.position word w.held parts.0 stays.0) stays.1
 
-  turns : (names : Names) (w : Walk) (word : Text) → turn_fault s names w word ≡ [] → P w.held.rows → P (walked s.rules names w word).held.rows
+  turns : (names : Names) (w : Walk) (word : Text) → turn_fault s names w word ≡ [] → Stays w → Stays (walked s.rules names w word)
   unfolding walked
-  turns names w word e p = turns_from w.stopped names w word e p
+  turns names w word e stays = turns_from w.stopped names w word e stays.1 stays
 
-  pub walks : (names : Names) (w : Walk) (words : List Text) → walk_fault s names w words ≡ [] → P w.held.rows → P (fold (walked s.rules names) w words).held.rows
+  walks : (names : Names) (w : Walk) (words : List Text) → walk_fault s names w words ≡ [] → Stays w → Stays (fold (walked s.rules names) w words)
   unfolding walk_fault
-  walks names w [] e p = p
-  walks names w (word ∷ rest) e p =
+  walks names w [] e stays = stays
+  walks names w (word ∷ rest) e stays =
       let parts = both_empty (turn_fault s names w word) (walk_fault s names (walked s.rules names w word) rest) e in
-      walks names (walked s.rules names w word) rest parts.1 (turns names w word parts.0 p)
+      walks names (walked s.rules names w word) rest parts.1 (turns names w word parts.0 stays)
+
+  -- a level that doesn't fail keeps P up to its defaults and stops at no `help`, and nothing below it or at its end fails
+  pub level_keeps : (names : Names) (words : List Text) (has_subcommand : Bool) (below : Kinds) → level_fault s names nothing_held words has_subcommand below ≡ [] → P []
+      → (let end = walk s.rules names nothing_held words in
+      P (settled s.rules end.held).rows × Stops s end.stopped × (below ≡ []) × (check_fault s (finished s.rules end.held) has_subcommand ≡ []))
+  level_keeps names words has_subcommand below e p =
+      let end = (walk s.rules names nothing_held words).held in
+      let walked_all = both_empty (walk_fault s names (walk_from nothing_held) words) _ e in
+      let under = both_empty below _ walked_all.1 in
+      let settled_all = both_empty (settle_fault s.rules s.args_override_self end) _ under.1 in
+      let kept = walks names (walk_from nothing_held) words walked_all.0 (p, tt) in
+      (settles end settled_all.0 kept.0, kept.1, under.0, (both_empty (defaults_fault (settled s.rules end).rows s.rules) _ settled_all.1).1)

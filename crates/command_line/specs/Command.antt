@@ -27,45 +27,38 @@ use Rattle.command_line.specs.declared.pace.Pace.{Pace}
 use Rattle.command_line.specs.declared.table_format.TableFormat.{TableFormat}
 use Rattle.command_line.specs.declared.table_format.TableFormat.TheVariants as form
 
--- `--every MS`: required, a whole number of milliseconds from 1 to 3,600,000
+-- a whole number from 1 to `most`, at most once, and required or not
+abbrev pub number_rule : Text → ℕ → Bool → Rule
+number_rule id most required = record (new_rule id) {
+  long = Some id;
+  value_names = 1;
+  required = required;
+  parser = Some (Signed (pos 1) (pos most));
+}
+
+-- a flag, at most once
+abbrev pub flag_rule : Text → Rule
+flag_rule id = record (new_rule id) { long = Some id; action = Some SetTrue }
+
+-- `--every MS`: required, in milliseconds
 abbrev pub every : Rule
-every = record (new_rule (codes "every")) {
-  long = Some (codes "every");
-  value_names = 1;
-  required = true;
-  parser = Some (Signed (pos 1) (pos 3600000));
-}
+every = number_rule (codes "every") 3600000 true
 
--- `--tick MS`: a whole number of milliseconds from 1 to 60,000, and not required
+-- `--tick MS`: in milliseconds, and not required
 abbrev pub tick : Rule
-tick = record (new_rule (codes "tick")) {
-  long = Some (codes "tick");
-  value_names = 1;
-  parser = Some (Signed (pos 1) (pos 60000));
-}
+tick = number_rule (codes "tick") 60000 false
 
--- `--watch S`: a whole number of seconds from 1 to 86,400, and not required
+-- `--watch S`: in seconds, and not required
 abbrev pub watch : Rule
-watch = record (new_rule (codes "watch")) {
-  long = Some (codes "watch");
-  value_names = 1;
-  parser = Some (Signed (pos 1) (pos 86400));
-}
+watch = number_rule (codes "watch") 86400 false
 
--- `--rounds R`: a whole number from 1 to 1,000, and not required
+-- `--rounds R`: not required
 abbrev pub rounds : Rule
-rounds = record (new_rule (codes "rounds")) {
-  long = Some (codes "rounds");
-  value_names = 1;
-  parser = Some (Signed (pos 1) (pos 1000));
-}
+rounds = number_rule (codes "rounds") 1000 false
 
--- `--reopen`: a flag, at most once
+-- `--reopen`
 abbrev pub reopen : Rule
-reopen = record (new_rule (codes "reopen")) {
-  long = Some (codes "reopen");
-  action = Some SetTrue;
-}
+reopen = flag_rule (codes "reopen")
 
 -- `--stop PIPE`: any text but the empty one, at most once, and not required
 abbrev pub stop_pipe : Rule
@@ -199,9 +192,9 @@ abbrev pub is_set : Option Text → Bool
 is_set None = false
 is_set (Some text) = bytes_eq text (codes "true")
 
--- the texts of a flag: one if it is given, and else the other
-abbrev pub IsFlagText : Option Text → Type 0
-IsFlagText text = (text ≡ Some (codes "true")) ⊎ (text ≡ Some (codes "false"))
+-- the text of a flag: one if it is given, and else the other
+abbrev pub IsFlagText : Text → Type 0
+IsFlagText text = (text ≡ codes "true") ⊎ (text ≡ codes "false")
 
 -- both `--reopen` and `--rounds` are among the options of `run`
 abbrev pub gives_both : List Row → Bool
@@ -272,7 +265,7 @@ pub record IsGiven (rows : List Row) : Type 0 where
   pub tick_fits : IfSome (one_of (codes "tick") rows) (IsNumberUpTo 60000)
   pub watch_fits : IfSome (one_of (codes "watch") rows) (IsNumberUpTo 86400)
   pub rounds_fit : IfSome (one_of (codes "rounds") rows) (IsNumberUpTo 1000)
-  pub reopen_is : IsFlagText (one_of (codes "reopen") rows)
+  pub reopen_fits : IfSome (one_of (codes "reopen") rows) IsFlagText
   pub paths : List Text
   pub paths_are : all_of (codes "path") rows ≡ Some paths
   pub some : 1 ≤ length paths
