@@ -1,13 +1,15 @@
 //! The job `run` with a folder for displays.
-use super::bounds::*;
 use super::json::JSON_OF_BOTH;
-use super::run::{IDENTIFICATION, ONE_FRAME_EACH, TABLE_OF_BOTH, TwoFiles, VELOCITY};
-use super::staged::Staged;
-use super::{EVERY_HOUR, NO_LINES, Ran, Trials, text};
 use crate::comparing::{holds, same};
-use std::fs;
+use crate::trials::{Host, Trials};
+use std::fs::{self, File};
 use std::io::{self, Write};
+use std::rt::Files;
 use std::test::*;
+use test_support::{
+    EVERY_HOUR, IDENTIFICATION, NO_LINES, ONE_FRAME_EACH, Own, Ran, Staged, TABLE_OF_BOTH,
+    TwoFiles, VELOCITY, text,
+};
 
 const RECEIVER: &str = "{\"version\":\"groundstation 1.0.0\",\"refresh\":3600000,\"history\":0}";
 
@@ -37,7 +39,7 @@ impl<R: Host, W: Own> Trials<'_, R, W> {
     // Runs with tables in this folder.
     fn run_shown(&self, files: &TwoFiles, folder: &str, options: &str) -> Result<Ran, Fail> {
         let options = format!(in self.alloc; "--json={folder} {options}")?;
-        self.run_still(files, options.as_str())
+        self.rig.run_still(files, options.as_str())
     }
 
     // Ends the test unless it was reported once that no table could be written to this folder, for this reason.
@@ -52,7 +54,7 @@ impl<R: Host, W: Own> Trials<'_, R, W> {
 
     fn each_table_is_put_where_displays_find_it(self) -> Result<(), Fail> {
         let rt = self.rt;
-        let files = self.two_files(IDENTIFICATION, VELOCITY)?;
+        let files = self.rig.two_files(IDENTIFICATION, VELOCITY)?;
         let folder = files.folder.as_str();
         let ran = self.run_shown(&files, folder, "")?;
         self.leaves(&ran, 0, TABLE_OF_BOTH, ONE_FRAME_EACH);
@@ -64,13 +66,13 @@ impl<R: Host, W: Own> Trials<'_, R, W> {
         }
         let beside = format!(in self.alloc; "{folder}/aircraft.json.new")?;
         holds(rt, File::open(rt, beside.as_str()).is_err());
-        self.remove(&files.folder)
+        self.rig.remove(&files.folder)
     }
 
     // Two rounds, so two tables, but one report.
     fn a_failed_write_for_displays_leaves_the_tables(self) -> Result<(), Fail> {
         let rt = self.rt;
-        let files = self.two_files(IDENTIFICATION, VELOCITY)?;
+        let files = self.rig.two_files(IDENTIFICATION, VELOCITY)?;
         let folder = format!(in self.alloc; "{}/nowhere", files.folder.as_str())?;
         let ran = self.run_shown(&files, folder.as_str(), "--rounds=2")?;
         let second_table = text(&ran.out).strip_prefix(TABLE_OF_BOTH);
@@ -78,13 +80,13 @@ impl<R: Host, W: Own> Trials<'_, R, W> {
         self.reports_once(&ran, folder.as_str(), "no such file or directory")?;
         holds(rt, text(&ran.err).starts_with(ONE_FRAME_EACH));
         holds(rt, ran.record_alarm.is_empty());
-        self.remove(&files.folder)
+        self.rig.remove(&files.folder)
     }
 
     // The folder is made between the first table and its file for the second.
     fn tables_are_put_in_a_folder_that_is_there_again(self) -> Result<(), Fail> {
         let (rt, alloc) = (self.rt, self.alloc);
-        let files = self.two_files(IDENTIFICATION, VELOCITY)?;
+        let files = self.rig.two_files(IDENTIFICATION, VELOCITY)?;
         let folder = format!(in alloc; "{}/later", files.folder.as_str())?;
         let folder = folder.as_str();
         let options = format!(in alloc; "{EVERY_HOUR} --rounds=3 --json={folder}")?;
@@ -94,8 +96,8 @@ impl<R: Host, W: Own> Trials<'_, R, W> {
             writes: 0,
         };
         let staged = Staged::new(rt, [1_000_000].as_slice());
-        let trials = self.over(&staged);
-        let ran = trials.run_to(options.as_str(), files.paths().as_slice(), NO_LINES, out)?;
+        let rig = self.rig.over(&staged);
+        let ran = rig.run_to(options.as_str(), files.paths().as_slice(), NO_LINES, out)?;
         let reported = format!(in alloc;
             "groundstation: cannot write {folder}/aircraft.json (no such file or directory)\ngroundstation: writing {folder}/aircraft.json again\n"
         )?;
@@ -106,19 +108,19 @@ impl<R: Host, W: Own> Trials<'_, R, W> {
             let file = fs::read(rt, path.as_str())?;
             same(rt, text(&file), text_of_file);
         }
-        self.remove(&files.folder)
+        self.rig.remove(&files.folder)
     }
 
     // A folder is where the file would be renamed to.
     fn a_table_that_cannot_be_renamed_is_reported(self) -> Result<(), Fail> {
-        let files = self.two_files(IDENTIFICATION, VELOCITY)?;
+        let files = self.rig.two_files(IDENTIFICATION, VELOCITY)?;
         let folder = files.folder.as_str();
         let table = format!(in self.alloc; "{folder}/aircraft.json")?;
         fs::create_dir(self.rt, table.as_str())?;
         let ran = self.run_shown(&files, folder, "--format=json")?;
         same(self.rt, text(&ran.out), JSON_OF_BOTH);
         self.reports_once(&ran, folder, "is a directory")?;
-        self.remove(&files.folder)
+        self.rig.remove(&files.folder)
     }
 }
 

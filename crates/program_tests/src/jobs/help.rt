@@ -1,7 +1,8 @@
 //! Command lines that ask for help or the version.
-use super::{NO_LINES, Trials, text};
 use crate::comparing::{holds_at, same_at};
+use crate::trials::Trials;
 use std::alloc::AllocError;
+use test_support::{NO_LINES, text};
 
 // The lines for which help is asked fit a terminal of 80 columns.
 fn is_narrow(text: &str) -> bool {
@@ -73,7 +74,7 @@ fn help_is_written_to_standard_output(rt: HostRuntime) -> Result<(), AllocError>
         ("run --help", RUN_HELP, RUN_HELP_END),
         ("replay -h", REPLAY_HELP, REPLAY_HELP_END),
     ] {
-        let help = Trials::on(&rt).ask(line, NO_LINES)?;
+        let help = Trials::on(&rt).rig.ask(line, NO_LINES)?;
         let shown = text(&help.out);
         let is_help = help.status == 0 && help.err.is_empty() && is_narrow(shown);
         holds_at(&rt, is_help, line);
@@ -87,7 +88,7 @@ fn help_is_written_to_standard_output(rt: HostRuntime) -> Result<(), AllocError>
 #[test]
 fn the_version_is_written_to_standard_output(rt: HostRuntime) -> Result<(), AllocError> {
     for line in ["--version", "-V"] {
-        let told = Trials::on(&rt).ask(line, NO_LINES)?;
+        let told = Trials::on(&rt).rig.ask(line, NO_LINES)?;
         same_at(&rt, text(&told.out), "groundstation 1.0.0\n", line);
         holds_at(&rt, told.err.is_empty() && told.status == 0, line);
     }

@@ -1,11 +1,9 @@
 //! Tables as JSON.
-use super::bounds::*;
-use super::run::{IDENTIFICATION, VELOCITY};
-use super::staged::Staged;
-use super::{Trials, text, words_of};
 use crate::comparing::{holds, same};
+use crate::trials::{Host, Trials};
 use std::process::ExitCode;
 use std::test::*;
+use test_support::{IDENTIFICATION, Own, Staged, VELOCITY, text, words_of};
 
 // An identification and its table, and 5,432 ms later the table once more.
 const LINES: &[u8] = b"*8D4840D6202CC371C32CE0576098;\n?\n+5432\n?\n";
@@ -53,32 +51,32 @@ impl<R: Host, W: Own> Trials<'_, R, W> {
                 "lines 1 frames 0 ticks 0 shows 1 blank 0 modeac 0 faults 0 accepted 0 refused 0\n",
             ),
         ] {
-            let ran = self.ask("replay --format json", lines)?;
+            let ran = self.rig.ask("replay --format json", lines)?;
             self.leaves(&ran, 0, tables, tally);
         }
         Ok(())
     }
 
     fn run_writes_json_where_it_is_asked(self) -> Result<(), Fail> {
-        let files = self.two_files(IDENTIFICATION, VELOCITY)?;
-        let ran = self.run_still(&files, "--format json")?;
+        let files = self.rig.two_files(IDENTIFICATION, VELOCITY)?;
+        let ran = self.rig.run_still(&files, "--format json")?;
         same(self.rt, text(&ran.out), JSON_OF_BOTH);
         same(self.rt, ran.status, 0);
-        self.remove(&files.folder)
+        self.rig.remove(&files.folder)
     }
 
     fn json_of_a_run_counts_from_the_time_of_the_system(self) -> Result<(), Fail> {
-        let files = self.two_files(IDENTIFICATION, VELOCITY)?;
+        let files = self.rig.two_files(IDENTIFICATION, VELOCITY)?;
         let staged = Staged::new(self.rt, [1_000_000].as_slice());
         let line = "run --every 3600000 --format json";
         let mut words = Vec::new(self.alloc);
         for word in words_of(self.alloc, line, files.paths().as_slice())? {
             words.push(String::from_str(self.alloc, word)?)?;
         }
-        let (ended, _) = self.over(&staged).end_of(Ok(words));
+        let (ended, _) = self.rig.over(&staged).end_of(Ok(words));
         same(self.rt, ended.out.as_ref().map(text), Some(JSON_OF_BOTH));
         holds(self.rt, ended.code == ExitCode::SUCCESS);
-        self.remove(&files.folder)
+        self.rig.remove(&files.folder)
     }
 }
 

@@ -1,9 +1,8 @@
 //! What a job reports at once when its table is full.
-use super::bounds::*;
-use super::replies::all_call_replies;
-use super::{EVERY_HOUR, Trials, text};
 use crate::comparing::{holds, same};
+use crate::trials::{Host, Trials};
 use std::test::*;
+use test_support::{EVERY_HOUR, Own, all_call_replies, text};
 
 // Two aircraft more than there is room for.
 const AIRCRAFT: u16 = 514;
@@ -16,7 +15,7 @@ const TALLY: &str =
 impl<R: Host, W: Own> Trials<'_, R, W> {
     fn a_full_table_of_a_replay_is_reported_once(self) -> Result<(), Fail> {
         let lines = all_call_replies(self.alloc, 1, AIRCRAFT)?;
-        let ran = self.ask("replay", lines.as_bytes())?;
+        let ran = self.rig.ask("replay", lines.as_bytes())?;
         same(self.rt, text(&ran.limit_alarm), TABLE_FULL);
         same(self.rt, text(&ran.err), TALLY);
         same(self.rt, ran.status, 0);
@@ -28,15 +27,15 @@ impl<R: Host, W: Own> Trials<'_, R, W> {
     }
 
     fn a_full_table_of_a_run_is_reported_once(self) -> Result<(), Fail> {
-        let folder = self.new_folder()?;
+        let folder = self.rig.new_folder()?;
         let lines = all_call_replies(self.alloc, 1, AIRCRAFT)?;
-        let path = self.put(&folder, "lines", lines.as_str())?;
-        let ran = self.run(EVERY_HOUR, [path.as_str()].as_slice())?;
+        let path = self.rig.put(&folder, "lines", lines.as_str())?;
+        let ran = self.rig.run(EVERY_HOUR, [path.as_str()].as_slice())?;
         same(self.rt, text(&ran.limit_alarm), TABLE_FULL);
         same(self.rt, text(&ran.err), TALLY);
         same(self.rt, ran.status, 0);
         holds(self.rt, text(&ran.out).starts_with("now 0 aircraft 512\n"));
-        self.remove(&folder)
+        self.rig.remove(&folder)
     }
 }
 

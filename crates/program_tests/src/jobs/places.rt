@@ -1,12 +1,12 @@
 //! Jobs that are given the place of the receivers.
-use super::bounds::*;
-use super::{EVERY_HOUR, NO_LINES, Ran, Trials, text, words_of};
 use crate::comparing::{holds, holds_at, same, same_at};
+use crate::trials::{Host, Trials};
 use modes_cpr::Reference;
 use station_main::{Job, WordsFault, read_words};
 use std::alloc::AllocError;
 use std::fs;
 use std::test::*;
+use test_support::{EVERY_HOUR, NO_LINES, Own, Ran, tables, text, words_of};
 
 // Two surface positions of one aircraft at Schiphol, even and odd, from "The 1090 MHz Riddle", by J. Sun.
 const TAXIING: &str = "*8C4841753AAB238733C8CD4020B1;\n*8C4841753A8A35323FAEBDAC702D;\n";
@@ -90,7 +90,7 @@ impl<R: Host, W: Own> Trials<'_, R, W> {
             for line in ["replay", "run --every 5 --reopen x"] {
                 let mut out = Vec::new(self.alloc);
                 let words = [word.as_str()];
-                let refused = self.run_to(line, words.as_slice(), NO_LINES, &mut out)?;
+                let refused = self.rig.run_to(line, words.as_slice(), NO_LINES, &mut out)?;
                 same_at(self.rt, text(&refused.err), refusal.as_str(), place);
                 holds_at(self.rt, refused.status == 2 && out.is_empty(), place);
             }
@@ -105,26 +105,28 @@ impl<R: Host, W: Own> Trials<'_, R, W> {
             ("replay --at=51.990,4.375", WITH_PLACE),
             ("replay", WITHOUT_PLACE),
         ] {
-            let shown = self.ask(line, lines.as_bytes())?;
+            let shown = self.rig.ask(line, lines.as_bytes())?;
             same_at(self.rt, text(&shown.out), table, line);
             same_at(self.rt, shown.status, 0, line);
         }
-        let shown = self.ask("replay --format json --at=51.990,4.375", JSON_LINES)?;
+        let shown = self
+            .rig
+            .ask("replay --format json --at=51.990,4.375", JSON_LINES)?;
         same(self.rt, text(&shown.out), JSON_WITH_PLACE);
         Ok(())
     }
 
     // Runs over a file with two surface positions, with a record and tables for displays in the file's folder.
     fn run_taxiing(&self, folder: &String, options: &str) -> Result<Ran, Fail> {
-        let path = self.put(folder, "taxiing", TAXIING)?;
+        let path = self.rig.put(folder, "taxiing", TAXIING)?;
         let (to, hour) = (folder.as_str(), EVERY_HOUR);
         let line = format!(in self.alloc; "{hour} --record={to}/record --json={to} {options}")?;
-        Ok(self.run(line.as_str(), [path.as_str()].as_slice())?)
+        Ok(self.rig.run(line.as_str(), [path.as_str()].as_slice())?)
     }
 
     fn a_run_with_a_place_is_replayed_with_it(self) -> Result<(), Fail> {
         let rt = self.rt;
-        let folder = self.new_folder()?;
+        let folder = self.rig.new_folder()?;
         let ran = self.run_taxiing(&folder, "--at=51.990,4.375")?;
         same(rt, text(&ran.out), WITH_PLACE);
         same(rt, ran.status, 0);
@@ -134,19 +136,19 @@ impl<R: Host, W: Own> Trials<'_, R, W> {
             ("replay --at=51.99,4.375", WITH_PLACE),
             ("replay", WITHOUT_PLACE),
         ] {
-            let shown = self.ask(line, lines.as_slice())?;
+            let shown = self.rig.ask(line, lines.as_slice())?;
             same_at(rt, text(&shown.out), table, line);
         }
         let receiver = format!(in self.alloc; "{}/receiver.json", folder.as_str())?;
         let written = fs::read(rt, receiver.as_str())?;
         same(rt, text(&written), RECEIVER);
-        self.remove(&folder)
+        self.rig.remove(&folder)
     }
 
     // The record has no place in it.
     fn a_place_changes_no_record(self) -> Result<(), Fail> {
         let rt = self.rt;
-        let (first, second) = (self.new_folder()?, self.new_folder()?);
+        let (first, second) = (self.rig.new_folder()?, self.rig.new_folder()?);
         let with = self.run_taxiing(&first, "--rounds=2 --at=51.990,4.375")?;
         let without = self.run_taxiing(&second, "--rounds=2")?;
         let (record, other) = (
@@ -160,8 +162,8 @@ impl<R: Host, W: Own> Trials<'_, R, W> {
         same(rt, text(&lines), text(&others));
         holds(rt, text(&with.out).ends_with(WITH_PLACE));
         holds(rt, text(&without.out).ends_with(WITHOUT_PLACE));
-        self.remove(&first)?;
-        self.remove(&second)
+        self.rig.remove(&first)?;
+        self.rig.remove(&second)
     }
 }
 

@@ -1,8 +1,8 @@
 //! Command lines that are refused.
-use super::bounds::*;
-use super::{NO_LINES, Trials, text};
 use crate::comparing::{holds_at, same_at};
+use crate::trials::{Host, Trials};
 use std::alloc::AllocError;
+use test_support::{NO_LINES, Own, text};
 
 // `clap` accepts the words, and the program refuses them.
 const BOTH: &str = "error: the argument '--reopen' cannot be used with '--rounds <R>'\n";
@@ -11,7 +11,7 @@ impl<R: Host, W: Own> Trials<'_, R, W> {
     // Ends the test unless the program refuses each of these lines by this text. All end in the same way.
     fn refuses(&self, lines: &[(&str, &str)]) -> Result<(), AllocError> {
         for &(line, told) in lines {
-            let refused = self.ask(line, NO_LINES)?;
+            let refused = self.rig.ask(line, NO_LINES)?;
             holds_at(self.rt, refused.status == 2 && refused.out.is_empty(), line);
             let end = text(&refused.err).strip_prefix(told);
             let help = Some("\nFor more information, try '--help'.\n");

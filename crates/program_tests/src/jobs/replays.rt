@@ -1,10 +1,9 @@
 //! The job `replay`.
-use super::bounds::*;
-use super::run::TABLE_OF_FIRST;
-use super::{Closed, NO_MEMORY, TABLE_OF_NOBODY, Trials, text};
 use crate::comparing::{holds, same};
+use crate::trials::{Host, Trials};
 use std::io::{self, Read};
 use std::test::*;
+use test_support::{Closed, NO_MEMORY, Own, TABLE_OF_FIRST, TABLE_OF_NOBODY, text};
 
 const IDENTIFICATION: &[u8] = b"*8D4840D6202CC371C32CE0576098;\n?\n";
 
@@ -52,7 +51,7 @@ impl Read for Torn {
 
 impl<R: Host, W: Own> Trials<'_, R, W> {
     fn each_count_stands_by_its_word(self) -> Result<(), Fail> {
-        let counted = self.ask("replay", LINES_OF_ALL_KINDS)?;
+        let counted = self.rig.ask("replay", LINES_OF_ALL_KINDS)?;
         let tally =
             "lines 23 frames 5 ticks 8 shows 1 blank 2 modeac 3 faults 4 accepted 7 refused 6\n";
         same(self.rt, text(&counted.err), tally);
@@ -61,10 +60,10 @@ impl<R: Host, W: Own> Trials<'_, R, W> {
     }
 
     fn an_identification_is_shown(self) -> Result<(), Fail> {
-        let mut shown = self.ask("replay", IDENTIFICATION)?;
+        let mut shown = self.rig.ask("replay", IDENTIFICATION)?;
         if wants_memory(text(&shown.err)) {
             holds(self.rt, shown.status == 1 && shown.out.is_empty());
-            shown = self.ask("replay", IDENTIFICATION)?;
+            shown = self.rig.ask("replay", IDENTIFICATION)?;
         }
         self.leaves(&shown, 0, TABLE_OF_FIRST, TALLY);
         Ok(())
@@ -83,18 +82,20 @@ impl<R: Host, W: Own> Trials<'_, R, W> {
                 "lines 1 frames 0 ticks 0 shows 1 blank 0 modeac 0 faults 0 accepted 0 refused 0\n",
             ),
         ] {
-            let ran = self.ask("replay", lines.as_bytes())?;
+            let ran = self.rig.ask("replay", lines.as_bytes())?;
             self.leaves(&ran, 0, tables, tally);
         }
         Ok(())
     }
 
     fn a_failed_read_or_write_is_told_after_the_tally(self) -> Result<(), Fail> {
-        let torn = self.ask("replay", Torn { is_torn: false })?;
+        let torn = self.rig.ask("replay", Torn { is_torn: false })?;
         let fault = text(&torn.err).strip_prefix(TALLY);
         same(self.rt, fault, Some("groundstation: read failed\n"));
         same(self.rt, torn.status, 1);
-        let closed = self.run_to("replay", [].as_slice(), IDENTIFICATION, Closed)?;
+        let closed = self
+            .rig
+            .run_to("replay", [].as_slice(), IDENTIFICATION, Closed)?;
         let fault = text(&closed.err).strip_prefix(TALLY);
         same(self.rt, fault, Some("groundstation: write failed\n"));
         same(self.rt, closed.status, 1);

@@ -1,11 +1,10 @@
 //! The jobs that command lines name.
-use super::bounds::*;
-use super::{NO_LINES, text, words_of};
 use crate::comparing::{holds_at, same_at};
 use station_main::{
     ClockOrigin, Job, Pace, RunArguments, TableFormat, WordsFault, program, read_words,
 };
 use std::alloc::{AllocError, Global};
+use test_support::{NO_LINES, text, words_of};
 
 // The job that a line names.
 fn job_of(alloc: Global, line: &str) -> Result<Job, WordsFault> {

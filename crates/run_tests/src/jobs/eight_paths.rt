@@ -1,19 +1,18 @@
 //! The job `run` over eight paths of all kinds, with two hand-overs.
 ghost use Rattle.std.specs.Prelude.{◌≡◌, ◌≤◌, IfOk, length};
 
-use super::bounds::*;
-use super::feeding::feed_part;
-use super::hand_overs::{late_moments, tables_each};
-use super::replies::replies_to;
-use super::staged::{Lasting, Staged};
-use super::{Ran, Trials, text};
+use super::hand_overs::{late_moments, run_with, tables_each};
 use crate::comparing::{holds, same};
+use crate::trials::{Host, Trials};
 use station_main::RunOptions;
 use std::alloc::{AllocError, Global};
 use std::fs;
 use std::io::{self, PipeWriter, Write};
+use std::rt::Files;
 use std::test::*;
 use std::thread::join;
+use std::time::Clock;
+use test_support::{Lasting, Own, Ran, Rig, Staged, System, feed_part, replies_to, text};
 
 // How many entries make a station hand over.
 const LIMIT: u64 = 550;
@@ -91,41 +90,39 @@ fn in_order(alloc: Global, paths: [String; 8], is_turned: bool) -> Result<Vec<St
     }
 }
 
-impl<R: System, W: Own> Trials<'_, R, W> {
-    // Runs over paths by stations that hand over, beside a record and a folder for displays.
-    fn run_beside(
-        &self,
-        paths: Vec<String>,
-        record: String,
-        folder: String,
-    ) -> Result<Ran, AllocError>
-        requires { length paths.items ≤ 8 }
-    {
-        let (record, displays) = (Some(record), Some(folder));
-        let mut out = Vec::new(self.alloc);
-        let options = RunOptions {
-            tables: tables_each(u32::MAX),
-            rounds: 1,
-            reopens: false,
-            watch: None,
-            stop: &None,
-            begins_at: 0,
-            origin: 0,
-            record: &record,
-            displays: &displays,
-            paths: &paths,
-            hand_over_at: LIMIT,
-            site: None,
-        };
-        let ran = self.run_with(options, &mut out)?;
-        Ok(Ran { out, ..ran })
-    }
+// Runs over paths by stations that hand over, beside a record and a folder for displays.
+fn run_beside<R: System, W: Own>(
+    rig: &Rig<'_, R, W>,
+    paths: Vec<String>,
+    record: String,
+    folder: String,
+) -> Result<Ran, AllocError>
+    requires { length paths.items ≤ 8 }
+{
+    let (record, displays) = (Some(record), Some(folder));
+    let mut out = Vec::new(rig.alloc);
+    let options = RunOptions {
+        tables: tables_each(u32::MAX),
+        rounds: 1,
+        reopens: false,
+        watch: None,
+        stop: &None,
+        begins_at: 0,
+        origin: 0,
+        record: &record,
+        displays: &displays,
+        paths: &paths,
+        hand_over_at: LIMIT,
+        site: None,
+    };
+    let ran = run_with(rig, options, &mut out)?;
+    Ok(Ran { out, ..ran })
 }
 
 impl<R: Host, W: Own> Trials<'_, R, W> {
     // A path that lasts, with so many lines that can't be read.
     fn unreadable(&self, count: usize) -> Result<Lasting, Fail> {
-        let mut lasting = self.lasting_path()?;
+        let mut lasting = self.rig.lasting_path()?;
         for _ in 0..count {
             lasting.lines.write_all(b"*zz;\n")?;
         }
@@ -141,12 +138,12 @@ impl<R: Host, W: Own> Trials<'_, R, W> {
     ) -> Result<(), Fail> {
         let (rt, alloc) = (self.rt, self.alloc);
         let story = Story::of(alloc, parts)?;
-        let folder = self.new_folder()?;
-        let file = self.put(&folder, "file", "*7700;\n*7500;\n")?;
+        let folder = self.rig.new_folder()?;
+        let file = self.rig.put(&folder, "file", "*7700;\n*7500;\n")?;
         let record = format!(in alloc; "{}/record", folder.as_str())?;
         let moments = late_moments(alloc)?;
         let staged = Staged::new(rt, moments.as_slice());
-        let fed = self.lasting_path()?;
+        let fed = self.rig.lasting_path()?;
         let (b, c, d) = (
             self.unreadable(2)?,
             self.unreadable(3)?,
@@ -162,7 +159,7 @@ impl<R: Host, W: Own> Trials<'_, R, W> {
             format!(in alloc; "{record}")?,
             format!(in alloc; "{folder}")?,
         );
-        let trials = self.over(&staged);
+        let rig = self.rig.over(&staged);
         let lines = fed.lines;
         let silent = (b.lines, c.lines, d.lines, e.lines, f.lines);
         let (were_fed, ran) = join(
@@ -174,7 +171,7 @@ impl<R: Host, W: Own> Trials<'_, R, W> {
             },
             move || -> Result<Ran, AllocError>
                 requires { length paths.items ≤ 8 }
-            { trials.run_beside(paths, record, shown_in) },
+            { run_beside(&rig, paths, record, shown_in) },
         );
         holds(rt, were_fed?);
         self.has_all(&ran?, &folder, tallies)
@@ -184,7 +181,7 @@ impl<R: Host, W: Own> Trials<'_, R, W> {
     fn has_all(&self, ran: &Ran, folder: &String, tallies: &str) -> Result<(), Fail> {
         let rt = self.rt;
         let record = format!(in self.alloc; "{folder}/record")?;
-        let (_, shown) = self.shown_again(record.as_str())?;
+        let (_, shown) = self.rig.shown_again(record.as_str())?;
         self.leaves(ran, 1, text(&shown), tallies);
         same(rt, text(&ran.limit_alarm), TABLE_FULL);
         holds(
@@ -194,7 +191,7 @@ impl<R: Host, W: Own> Trials<'_, R, W> {
         let table = format!(in self.alloc; "{folder}/aircraft.json")?;
         let table = fs::read(rt, table.as_str())?;
         same(rt, text(&table).split("\"hex\"").count(), 11);
-        self.remove(folder)
+        self.rig.remove(folder)
     }
 }
 

@@ -1,14 +1,12 @@
 //! The job `run` with ticks between its tables.
-use super::bounds::*;
-use super::run::IDENTIFICATION;
-use super::staged::{Staged, becomes_set};
-use super::{NO_LINES, Ran, Trials, text};
 use crate::comparing::{holds, holds_at, same};
+use crate::trials::{Host, Trials};
 use std::fs;
 use std::io::{PipeWriter, Write};
 use std::sync::atomic::AtomicBool;
 use std::test::*;
 use std::thread::join;
+use test_support::{IDENTIFICATION, NO_LINES, Own, Ran, Staged, becomes_set, tables, text};
 
 const TABLE: &str = tables!("now 70000 aircraft 1" => [
     "4840D6 KLM1023       -    -            -      -          -          -   0",
@@ -54,14 +52,14 @@ impl<R: Host, W: Own> Trials<'_, R, W> {
         let line = format!(in alloc;
             "run --every=3600000 --tick=400 --clock={clock} --record={record} --json={folder}"
         )?;
-        let lasting = self.lasting_path()?;
+        let lasting = self.rig.lasting_path()?;
         let (lines, path) = (lasting.lines, lasting.path.as_str());
-        let (trials, flag) = (self.over(staged), &staged.has_ended);
+        let (rig, flag) = (self.rig.over(staged), &staged.has_ended);
         let (line, mut out) = (line.as_str(), Vec::new(alloc));
         let (read, ran) = join(
             rt,
             || read_and_end(rt, flag, lines, record, table),
-            || trials.run_to(line, [path].as_slice(), NO_LINES, &mut out),
+            || rig.run_to(line, [path].as_slice(), NO_LINES, &mut out),
         );
         let ((lines, shown), ran) = (read?, ran?);
         let ran = Ran { out, ..ran };
@@ -70,45 +68,45 @@ impl<R: Host, W: Own> Trials<'_, R, W> {
 
     // The system's clock shows the same time when a table is written as at the start.
     fn the_files_for_displays_follow_the_clock_of_the_system(self) -> Result<(), Fail> {
-        let (rt, folder) = (self.rt, self.new_folder()?);
+        let (rt, folder) = (self.rt, self.rig.new_folder()?);
         let path = format!(in self.alloc; "{}/aircraft.json", folder.as_str())?;
         let staged = Staged::new(rt, [1_000_000, 1_000_500, 1_001_000].as_slice());
         let noted = self.run_noted(&staged, folder.as_str(), "start")?;
         same(rt, text(&noted.shown), TICKS);
         let last = fs::read(rt, path.as_str())?;
         holds(rt, text(&last).starts_with("{\"now\":1700000000.000,"));
-        self.remove(&folder)
+        self.rig.remove(&folder)
     }
 
     // A tick is due at once, and the next to be written comes a second later.
     fn a_clock_of_unix_time_follows_no_clock(self) -> Result<(), Fail> {
-        let (rt, folder) = (self.rt, self.new_folder()?);
+        let (rt, folder) = (self.rt, self.rig.new_folder()?);
         let staged = Staged::new(rt, [1_000_000, 1_000_000, 1_001_000].as_slice());
         let noted = self.run_noted(&staged, folder.as_str(), "unix")?;
         same(rt, text(&noted.lines), "+1700000000000\n+1700000001000\n");
         same(rt, text(&noted.shown), DATED_TICKS);
         same(rt, noted.ran.status, 0);
-        self.remove(&folder)
+        self.rig.remove(&folder)
     }
 
     // The second tick comes too soon after the first to be written. All is written at the end, and shown again.
     fn what_is_heard_is_written_once_a_second_without_a_table(self) -> Result<(), Fail> {
-        let (rt, folder) = (self.rt, self.new_folder()?);
+        let (rt, folder) = (self.rt, self.rig.new_folder()?);
         let staged = Staged::new(rt, [1_000_000, 1_000_400, 1_000_800].as_slice());
         let noted = self.run_noted(&staged, folder.as_str(), "start")?;
         same(rt, text(&noted.lines), "+400\n");
         same(rt, text(&noted.shown), TICKS);
         let record = format!(in self.alloc; "{}/record", folder.as_str())?;
-        let (lines, shown) = self.shown_again(record.as_str())?;
+        let (lines, shown) = self.rig.shown_again(record.as_str())?;
         let last_lines = "+400\n+800\n*8D4840D6202CC371C32CE0576098;\n?\n";
         same(rt, text(&lines), last_lines);
         same(rt, text(&shown), text(&noted.ran.out));
         same(rt, noted.ran.status, 0);
-        self.remove(&folder)
+        self.rig.remove(&folder)
     }
 
     fn a_second_later_it_is_written_again(self) -> Result<(), Fail> {
-        let (rt, folder) = (self.rt, self.new_folder()?);
+        let (rt, folder) = (self.rt, self.rig.new_folder()?);
         let staged = Staged::new(
             rt,
             [1_000_000, 1_000_400, 1_000_800, 1_001_199, 1_001_400].as_slice(),
@@ -117,7 +115,7 @@ impl<R: Host, W: Own> Trials<'_, R, W> {
         same(rt, text(&noted.lines), "+400\n+800\n+1400\n");
         same(rt, text(&noted.shown), MORE_TICKS);
         same(rt, noted.ran.status, 0);
-        self.remove(&folder)
+        self.rig.remove(&folder)
     }
 
     // No table is due for an hour, while a clock that starts at 1,000,000 ms shows 71 seconds. Ticks alone have moved the
@@ -129,7 +127,7 @@ impl<R: Host, W: Own> Trials<'_, R, W> {
         }
         let line = "run --every 3600000 --tick 1000";
         let frame = IDENTIFICATION.as_bytes();
-        let lasted = self.run_through(moments.as_slice(), line, frame)?;
+        let lasted = self.rig.run_through(moments.as_slice(), line, frame)?;
         same(self.rt, text(&lasted.ran.out), TABLE);
         same(self.rt, lasted.ran.status, 0);
         Ok(())

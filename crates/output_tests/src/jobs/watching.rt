@@ -1,10 +1,9 @@
 //! What is known of the paths of a run that are watched.
-use super::bounds::*;
-use super::replies::all_call_replies;
-use super::{Trials, text};
 use crate::comparing::holds;
+use crate::trials::{Host, Trials};
 use std::fs;
 use std::test::*;
+use test_support::{Own, all_call_replies, text};
 
 // Another aircraft than there is room for, and one frame twice.
 const AIRCRAFT: u16 = 513;
@@ -18,19 +17,19 @@ const COUNTS: &str = concat!(
 impl<R: Host, W: Own> Trials<'_, R, W> {
     // The lines are twice those of so many aircraft, and a fault behind each time.
     fn what_a_receiver_has_counted_is_there_for_all(self) -> Result<(), Fail> {
-        let folder = self.new_folder()?;
+        let folder = self.rig.new_folder()?;
         let replies = all_call_replies(self.alloc, 1, AIRCRAFT)?;
         let lines = format!(in self.alloc; "{replies}*\n{replies}*\n")?;
-        let path = self.put(&folder, "lines", lines.as_str())?;
+        let path = self.rig.put(&folder, "lines", lines.as_str())?;
         let line = format!(in self.alloc; "run --every=3600000 --watch=60 --json={folder}")?;
-        let ran = self.run(line.as_str(), [path.as_str()].as_slice())?;
+        let ran = self.rig.run(line.as_str(), [path.as_str()].as_slice())?;
         holds(self.rt, ran.path_alarm.is_empty());
         let file = format!(in self.alloc; "{folder}/receivers.json")?;
         let told = fs::read(self.rt, file.as_str())?;
         let receivers = format!(in self.alloc; ",\"receivers\":[{{\"path\":\"{path}\",{COUNTS}")?;
         holds(self.rt, text(&told).starts_with("{\"now\":"));
         holds(self.rt, text(&told).ends_with(receivers.as_str()));
-        self.remove(&folder)
+        self.rig.remove(&folder)
     }
 }
 

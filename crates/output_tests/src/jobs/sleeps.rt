@@ -1,12 +1,11 @@
 //! How long the reporter sleeps, and what it does at a time.
-use super::bounds::*;
-use super::staged::{Feed, Staged};
-use super::{EVERY_HOUR, NO_LINES, Trials};
 use crate::comparing::{holds, same};
+use crate::trials::{Host, Trials};
 use station_main::{Act, Bell, Due, Pace, act_at};
 use std::io::{self, ErrorKind, Write};
 use std::test::*;
-use std::time::{Duration, Instant};
+use std::time::{Clock, Duration, Instant};
+use test_support::{EVERY_HOUR, Feed, NO_LINES, Own, Staged};
 
 fn sleep(milliseconds: u64) -> Act {
     Act::Sleep(Duration::from_millis(milliseconds))
@@ -42,7 +41,7 @@ const TABLES_AND_TICKS: Pace = Pace {
     tick: Some(80),
 };
 
-pub fn at(table: u64, tick: Option<u64>) -> Due {
+fn at(table: u64, tick: Option<u64>) -> Due {
     Due { table, tick }
 }
 
@@ -111,7 +110,9 @@ impl<R: Host, W: Own> Trials<'_, R, W> {
     fn the_reporter_sleeps_between_its_readings_of_the_clock(self) -> Result<(), Fail> {
         let rt = self.rt;
         let began = Instant::now(rt)?;
-        let lasted = self.run_through([0; 20].as_slice(), EVERY_HOUR, NO_LINES)?;
+        let lasted = self
+            .rig
+            .run_through([0; 20].as_slice(), EVERY_HOUR, NO_LINES)?;
         let allowed = 10 + began.elapsed(rt)?.as_millis() / 10;
         same(rt, lasted.ran.status, 0);
         let readings = u64::try_from(lasted.readings)?;
@@ -132,7 +133,7 @@ impl<R: Host, W: Own> Trials<'_, R, W> {
                 written: &mut written,
             };
             let feed = Feed::at(&staged.has_ended, NO_LINES);
-            let (ran, ended) = self.run_lasting(&staged, EVERY_HOUR, out, feed)?;
+            let (ran, ended) = self.rig.run_lasting(&staged, EVERY_HOUR, out, feed)?;
             same(rt, ran.status, 0);
             let since_end = ended?.elapsed(rt)?;
             let Ok(written) = written else {

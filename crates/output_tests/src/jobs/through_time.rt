@@ -1,13 +1,11 @@
 //! The job `run` while its paths last.
-use super::bounds::*;
-use super::run::{IDENTIFICATION, VELOCITY};
-use super::staged::becomes_set;
-use super::{NO_LINES, Trials, text};
 use crate::comparing::{holds, same};
+use crate::trials::{Host, Trials};
 use std::io::{self, Write};
 use std::sync::atomic::{AtomicBool, Ordering};
 use std::test::*;
 use std::thread::join;
+use test_support::{IDENTIFICATION, NO_LINES, Own, VELOCITY, becomes_set, tables, text};
 
 const HEADER: &str = "  ADDR CALLSIGN    ALT SQWK     VELOCITY   VERT        LAT        LON AGE\n";
 
@@ -49,7 +47,9 @@ impl<R: Host, W: Own> Trials<'_, R, W> {
             1_000_000, 1_000_050, 1_000_099, 1_000_100, 1_000_150, 1_000_199, 1_000_200, 1_060_205,
             1_060_304, 1_060_305,
         ];
-        let lasted = self.run_through(moments.as_slice(), "run --every 100", NO_LINES)?;
+        let lasted = self
+            .rig
+            .run_through(moments.as_slice(), "run --every 100", NO_LINES)?;
         same(self.rt, text(&lasted.ran.out), TABLES_OF_NOBODY);
         same(self.rt, lasted.ran.status, 0);
         Ok(())
@@ -68,7 +68,9 @@ impl<R: Host, W: Own> Trials<'_, R, W> {
             let now = 36_007 * table.min(300);
             tables.push_str(format!(in self.alloc; "now {now} aircraft 0\n{HEADER}")?.as_str())?;
         }
-        let lasted = self.run_through(moments.as_slice(), "run --every 36000", NO_LINES)?;
+        let lasted = self
+            .rig
+            .run_through(moments.as_slice(), "run --every 36000", NO_LINES)?;
         same(self.rt, text(&lasted.ran.out), tables.as_str());
         same(self.rt, lasted.ran.status, 0);
         Ok(())
@@ -76,7 +78,7 @@ impl<R: Host, W: Own> Trials<'_, R, W> {
 
     fn paths_are_read_and_shown_side_by_side(self) -> Result<(), Fail> {
         let (rt, are_shown) = (self.rt, AtomicBool::new(false));
-        let (mut first, mut second) = (self.lasting_path()?, self.lasting_path()?);
+        let (mut first, mut second) = (self.rig.lasting_path()?, self.rig.lasting_path()?);
         first.lines.write_all(IDENTIFICATION.as_bytes())?;
         second.lines.write_all(VELOCITY.as_bytes())?;
         let paths = [first.path.as_str(), second.path.as_str()];
@@ -92,7 +94,9 @@ impl<R: Host, W: Own> Trials<'_, R, W> {
                 drop(second_lines);
                 were_shown
             },
-            move || self.run_to("run --every 10", paths.as_slice(), NO_LINES, out),
+            move || self
+                .rig
+                .run_to("run --every 10", paths.as_slice(), NO_LINES, out),
         );
         holds(rt, were_shown);
         same(rt, ran?.status, 0);

@@ -1,22 +1,17 @@
 //! The job `run` with a record.
-use super::bounds::*;
-use super::run::{IDENTIFICATION, ONE_FRAME_EACH, TABLE_OF_BOTH, TwoFiles, VELOCITY};
-use super::{Closed, EVERY_HOUR, NO_LINES, Ran, Trials, WRITE_FAILED, text};
 use crate::comparing::{holds, same};
+use crate::trials::{Host, Trials};
 use std::fs;
 use std::io::Write;
 use std::test::*;
+use test_support::{
+    Closed, EVERY_HOUR, IDENTIFICATION, NO_LINES, ONE_FRAME_EACH, Own, Ran, TABLE_OF_BOTH,
+    TwoFiles, VELOCITY, WRITE_FAILED, text,
+};
 
 const RECORD_FAILED: &str = "groundstation: record failed (no space left on device)\n";
 
 impl<R: Host, W: Own> Trials<'_, R, W> {
-    /// The bytes of a file, and what `replay` prints of them.
-    pub fn shown_again(&self, record: &str) -> Result<(Vec<u8>, Vec<u8>), Fail> {
-        let lines = fs::read(self.rt, record)?;
-        let shown = self.ask("replay", lines.as_slice())?;
-        Ok((lines, shown.out))
-    }
-
     // Runs over the two files, with a record in this file.
     fn run_recorded_to(
         &self,
@@ -26,7 +21,10 @@ impl<R: Host, W: Own> Trials<'_, R, W> {
         out: impl Write + Send + Drop,
     ) -> Result<Ran, Fail> {
         let line = format!(in self.alloc; "{EVERY_HOUR} {options} --record={record}")?;
-        Ok(self.run_to(line.as_str(), files.paths().as_slice(), NO_LINES, out)?)
+        Ok(
+            self.rig
+                .run_to(line.as_str(), files.paths().as_slice(), NO_LINES, out)?,
+        )
     }
 
     fn run_recorded(&self, files: &TwoFiles, options: &str, record: &str) -> Result<Ran, Fail> {
@@ -38,10 +36,10 @@ impl<R: Host, W: Own> Trials<'_, R, W> {
     // The frames of the two files are accepted in either order.
     fn a_record_of_two_files_is_shown_again(self) -> Result<(), Fail> {
         let rt = self.rt;
-        let files = self.two_files(IDENTIFICATION, VELOCITY)?;
+        let files = self.rig.two_files(IDENTIFICATION, VELOCITY)?;
         let record = format!(in self.alloc; "{}/record", files.folder.as_str())?;
         let ran = self.run_recorded(&files, "", record.as_str())?;
-        let (lines, shown) = self.shown_again(record.as_str())?;
+        let (lines, shown) = self.rig.shown_again(record.as_str())?;
         let (first, second, lines) = (IDENTIFICATION, VELOCITY, text(&lines));
         let either = format!(in self.alloc; "{first}{second}?\n")?;
         let or = format!(in self.alloc; "{second}{first}?\n")?;
@@ -49,13 +47,13 @@ impl<R: Host, W: Own> Trials<'_, R, W> {
         same(rt, text(&shown), TABLE_OF_BOTH);
         self.leaves(&ran, 0, TABLE_OF_BOTH, ONE_FRAME_EACH);
         holds(rt, ran.record_alarm.is_empty());
-        self.remove(&files.folder)
+        self.rig.remove(&files.folder)
     }
 
     // Ten tables of a clock that starts at 1,000,000 ms, and the one at the end of the path.
     fn a_record_of_ten_tables_is_shown_again(self) -> Result<(), Fail> {
         let rt = self.rt;
-        let folder = self.new_folder()?;
+        let folder = self.rig.new_folder()?;
         let record = format!(in self.alloc; "{}/record", folder.as_str())?;
         let path = record.as_str();
         let line = format!(in self.alloc; "run --every=7000 --record={path}")?;
@@ -64,8 +62,10 @@ impl<R: Host, W: Own> Trials<'_, R, W> {
             moments.push(1_000_000 + 7_001 * table)?;
         }
         let frame = IDENTIFICATION.as_bytes();
-        let lasted = self.run_through(moments.as_slice(), line.as_str(), frame)?;
-        let (lines, shown) = self.shown_again(path)?;
+        let lasted = self
+            .rig
+            .run_through(moments.as_slice(), line.as_str(), frame)?;
+        let (lines, shown) = self.rig.shown_again(path)?;
         let (lines, tables) = (text(&lines), text(&lasted.ran.out));
         holds(rt, lines.starts_with("+7001\n?\n+14002\n?\n+21003\n?\n"));
         let last_lines = "+70010\n?\n*8D4840D6202CC371C32CE0576098;\n?\n";
@@ -75,16 +75,16 @@ impl<R: Host, W: Own> Trials<'_, R, W> {
             "\n4840D6 KLM1023       -    -            -      -          -          -   0\n";
         holds(rt, tables.ends_with(last_row));
         same(rt, lasted.ran.status, 0);
-        self.remove(&folder)
+        self.rig.remove(&folder)
     }
 
     // No tick comes between the rounds, so the frames of the second are refused.
     fn a_record_goes_on_over_rounds(self) -> Result<(), Fail> {
         let rt = self.rt;
-        let files = self.two_files(IDENTIFICATION, VELOCITY)?;
+        let files = self.rig.two_files(IDENTIFICATION, VELOCITY)?;
         let record = format!(in self.alloc; "{}/record", files.folder.as_str())?;
         let ran = self.run_recorded(&files, "--rounds=3", record.as_str())?;
-        let (lines, shown) = self.shown_again(record.as_str())?;
+        let (lines, shown) = self.rig.shown_again(record.as_str())?;
         same(rt, lines.len(), IDENTIFICATION.len() + VELOCITY.len() + 6);
         holds(rt, text(&lines).ends_with(";\n?\n?\n?\n"));
         let table = TABLE_OF_BOTH;
@@ -92,12 +92,12 @@ impl<R: Host, W: Own> Trials<'_, R, W> {
         same(rt, text(&shown), tables.as_str());
         same(rt, text(&ran.out), tables.as_str());
         same(rt, ran.status, 0);
-        self.remove(&files.folder)
+        self.rig.remove(&files.folder)
     }
 
     fn a_record_that_fails_leaves_the_tables(self) -> Result<(), Fail> {
         let rt = self.rt;
-        let files = self.two_files(IDENTIFICATION, VELOCITY)?;
+        let files = self.rig.two_files(IDENTIFICATION, VELOCITY)?;
         let ran = self.run_recorded(&files, "--rounds=2", "/dev/full")?;
         let second_table = text(&ran.out).strip_prefix(TABLE_OF_BOTH);
         same(rt, second_table, Some(TABLE_OF_BOTH));
@@ -105,28 +105,28 @@ impl<R: Host, W: Own> Trials<'_, R, W> {
         holds(rt, text(&ran.err).starts_with(ONE_FRAME_EACH));
         holds(rt, !text(&ran.err).contains("groundstation"));
         same(rt, ran.status, 1);
-        self.remove(&files.folder)
+        self.rig.remove(&files.folder)
     }
 
     // A table that couldn't be written is recorded, and so is the one of the next round.
     fn a_record_goes_on_where_no_table_can_be_written(self) -> Result<(), Fail> {
         let rt = self.rt;
-        let files = self.two_files(IDENTIFICATION, VELOCITY)?;
+        let files = self.rig.two_files(IDENTIFICATION, VELOCITY)?;
         let record = format!(in self.alloc; "{}/record", files.folder.as_str())?;
         let ran = self.run_recorded_to(&files, "--rounds=2", record.as_str(), Closed)?;
-        let (_, shown) = self.shown_again(record.as_str())?;
+        let (_, shown) = self.rig.shown_again(record.as_str())?;
         let second_table = text(&shown).strip_prefix(TABLE_OF_BOTH);
         same(rt, second_table, Some(TABLE_OF_BOTH));
         same(rt, text(&ran.output_alarm), WRITE_FAILED);
         holds(rt, text(&ran.err).starts_with(ONE_FRAME_EACH));
         holds(rt, !text(&ran.err).contains("groundstation"));
         holds(rt, ran.record_alarm.is_empty() && ran.status == 1);
-        self.remove(&files.folder)
+        self.rig.remove(&files.folder)
     }
 
     // A file that has bytes, and one in a folder that isn't there.
     fn a_file_that_takes_no_record_is_refused(self) -> Result<(), Fail> {
-        let files = self.two_files(IDENTIFICATION, VELOCITY)?;
+        let files = self.rig.two_files(IDENTIFICATION, VELOCITY)?;
         for (name, reason) in [
             ("first", "it has bytes"),
             ("nowhere/record", "no such file or directory"),
@@ -143,7 +143,7 @@ impl<R: Host, W: Own> Trials<'_, R, W> {
         }
         let kept = fs::read(self.rt, files.first.as_str())?;
         same(self.rt, text(&kept), IDENTIFICATION);
-        self.remove(&files.folder)
+        self.rig.remove(&files.folder)
     }
 }
 

@@ -1,13 +1,14 @@
 //! Outputs that fail once, that wait, and that report how they are written.
-use super::bounds::*;
-use super::replies::all_call_replies;
-use super::staged::{Feed, Staged, becomes_set};
-use super::{TABLE_OF_NOBODY, Trials, text};
 use crate::comparing::{holds, same};
+use crate::trials::{Host, Trials};
 use std::alloc::{AllocError, Global};
 use std::io::{self, ErrorKind, Write};
 use std::sync::atomic::{AtomicBool, Ordering};
 use std::test::*;
+use std::time::Clock;
+use test_support::{
+    Feed, Own, Staged, TABLE_OF_NOBODY, all_call_replies, becomes_set, tables, text,
+};
 
 /// Fails at its second write alone.
 #[derive(Drop)]
@@ -133,7 +134,7 @@ impl<R: Host, W: Own> Trials<'_, R, W> {
         let has_failed = AtomicBool::new(false);
         let mut taken = Vec::new(self.alloc);
         let out = FailsOnce::new(&mut taken, &has_failed);
-        let ran = self.run_to("replay", [].as_slice(), lines, out)?;
+        let ran = self.rig.run_to("replay", [].as_slice(), lines, out)?;
         same(self.rt, text(&taken), TABLE_OF_NOBODY);
         let told = concat!(
             "lines 3 frames 1 ticks 0 shows 2 blank 0 modeac 0 faults 0 accepted 1 refused 0\n",
@@ -151,7 +152,7 @@ impl<R: Host, W: Own> Trials<'_, R, W> {
         let mut taken = Vec::new(self.alloc);
         let out = FailsOnce::new(&mut taken, &has_failed);
         let feed = Feed::at(&has_failed, b"*8D4840D6202CC371C32CE0576098;\n");
-        let (ran, _) = self.run_lasting(&staged, "run --every 100", out, feed)?;
+        let (ran, _) = self.rig.run_lasting(&staged, "run --every 100", out, feed)?;
         same(self.rt, text(&taken), tables!("now 100 aircraft 0" => []));
         let told = concat!(
             "lines 1 frames 1 ticks 0 shows 0 blank 0 modeac 0 faults 0 accepted 1 refused 0\n",
@@ -174,7 +175,7 @@ impl<R: Host, W: Own> Trials<'_, R, W> {
             text: lines.as_slice(),
             end: &is_fed,
         };
-        let (ran, _) = self.run_lasting(self.rt, "run --every 1", out, feed)?;
+        let (ran, _) = self.rig.run_lasting(self.rt, "run --every 1", out, feed)?;
         let tally =
             "lines 160004 frames 4 ticks 0 shows 0 blank 160000 modeac 0 faults 0 accepted 4 refused 0\n";
         self.leaves(&ran, 0, "", tally);
@@ -200,19 +201,19 @@ impl<R: Host, W: Own> Trials<'_, R, W> {
             text: b"*8D4840D6202CC371C32CE0576098;\n",
             end: &is_read,
         };
-        let folder = self.new_folder()?;
+        let folder = self.rig.new_folder()?;
         let record = format!(in self.alloc; "{folder}/record")?;
         let line = format!(in self.alloc; "run --every 100 --record={record}")?;
-        let (ran, _) = self.run_lasting(&staged, line.as_str(), out, feed)?;
+        let (ran, _) = self.rig.run_lasting(&staged, line.as_str(), out, feed)?;
         let stalls =
             "groundstation: output stalled\ngroundstation: output goes on, 15 tables left out\n";
         same(self.rt, text(&ran.stall_alarm), stalls);
         same(self.rt, ran.status, 0);
-        let (lines, shown) = self.shown_again(record.as_str())?;
+        let (lines, shown) = self.rig.shown_again(record.as_str())?;
         same(self.rt, text(&shown), text(&taken));
         same(self.rt, text(&lines).split('+').count(), 21);
         same(self.rt, text(&lines).split('?').count(), 7);
-        self.remove(&folder)
+        self.rig.remove(&folder)
     }
 
     // The first line has 37 bytes before its LF if its time has 20 digits, the header and each row have 73.
@@ -228,7 +229,7 @@ impl<R: Host, W: Own> Trials<'_, R, W> {
         };
         let replies = all_call_replies(self.alloc, 1, 512)?;
         let feed = Feed::at(&is_written, replies.as_bytes());
-        let (ran, _) = self.run_lasting(&staged, "run --every 1", out, feed)?;
+        let (ran, _) = self.rig.run_lasting(&staged, "run --every 1", out, feed)?;
         let first_line = "now 18446744073709551000 aircraft 512\n";
         holds(self.rt, text(&last).starts_with(first_line));
         let wanted = [36 + 74, 38 + 74 + 512 * 74];

@@ -1,14 +1,14 @@
 //! Paths that are fed part by part, each up to a hand-over.
-use super::bounds::*;
-use super::text;
+use crate::ran::text;
 use std::io::{self, ErrorKind, PipeWriter, Write};
-use std::test::*;
-use std::time::Duration;
+use std::rt::Files;
+use std::time::{Clock, Duration};
 use std::{fs, thread};
 
-/// How many frames the first path gets before each hand-over, and how often.
+/// How many frames the first path gets before each hand-over.
 pub const FRAMES: u16 = 30;
 
+/// How often it gets that many.
 pub const TIMES: u16 = 4;
 
 // The bytes of a frame that come after a hand-over.

@@ -1,13 +1,15 @@
 //! The job `run` in more rounds than one.
-use super::bounds::*;
-use super::replies::all_call_replies;
-use super::run::{IDENTIFICATION, ONE_FRAME_EACH, TABLE_OF_BOTH, TABLE_OF_SECOND, VELOCITY};
-use super::staged::Staged;
-use super::{Closed, EVERY_HOUR, NO_LINES, Trials, text};
 use crate::comparing::{holds, same};
-use std::fs::{self, OpenOptions};
+use crate::trials::{Host, Trials};
+use std::fs::{self, File, OpenOptions};
 use std::io::{self, Write};
+use std::rt::Files;
 use std::test::*;
+use std::time::Clock;
+use test_support::{
+    Closed, EVERY_HOUR, IDENTIFICATION, NO_LINES, ONE_FRAME_EACH, Own, Staged, TABLE_OF_BOTH,
+    TABLE_OF_SECOND, VELOCITY, all_call_replies, tables, text,
+};
 
 const FAILED_READ_AND_FRAME: &str = concat!(
     "lines 0 frames 0 ticks 0 shows 0 blank 0 modeac 0 faults 0 accepted 0 refused 0\n",
@@ -104,38 +106,40 @@ const TALLIES_OF_THREE_ROUNDS: &str = concat!(
 impl<R: Host, W: Own> Trials<'_, R, W> {
     // No tick comes between the rounds, so the frames of the second are those of the first once more.
     fn a_second_round_goes_on_from_the_first(self) -> Result<(), Fail> {
-        let files = self.two_files(IDENTIFICATION, VELOCITY)?;
-        let ran = self.run(TWO_ROUNDS, files.paths().as_slice())?;
+        let files = self.rig.two_files(IDENTIFICATION, VELOCITY)?;
+        let ran = self.rig.run(TWO_ROUNDS, files.paths().as_slice())?;
         let tables = format!(in self.alloc; "{TABLE_OF_BOTH}{TABLE_OF_BOTH}")?;
         let tallies = format!(in self.alloc; "{ONE_FRAME_EACH}{ONE_FRAME_REFUSED_EACH}")?;
         self.leaves(&ran, 0, tables.as_str(), tallies.as_str());
-        self.remove(&files.folder)
+        self.rig.remove(&files.folder)
     }
 
     // The first path is a folder, which can't be read.
     fn a_failed_read_ends_the_run_after_its_round(self) -> Result<(), Fail> {
-        let files = self.two_files(IDENTIFICATION, VELOCITY)?;
+        let files = self.rig.two_files(IDENTIFICATION, VELOCITY)?;
         let paths = [files.folder.as_str(), files.second.as_str()];
         for line in [EVERY_HOUR, TWO_ROUNDS] {
-            let ran = self.run(line, paths.as_slice())?;
+            let ran = self.rig.run(line, paths.as_slice())?;
             self.leaves(&ran, 1, TABLE_OF_SECOND, FAILED_READ_AND_FRAME);
         }
-        self.remove(&files.folder)
+        self.rig.remove(&files.folder)
     }
 
     fn a_failed_write_ends_the_run_after_its_round(self) -> Result<(), Fail> {
-        let files = self.two_files(IDENTIFICATION, VELOCITY)?;
+        let files = self.rig.two_files(IDENTIFICATION, VELOCITY)?;
         for line in [ONE_ROUND, TWO_ROUNDS] {
-            let ran = self.run_to(line, files.paths().as_slice(), NO_LINES, Closed)?;
+            let ran = self
+                .rig
+                .run_to(line, files.paths().as_slice(), NO_LINES, Closed)?;
             let fault = text(&ran.err).strip_prefix(ONE_FRAME_EACH);
             same(self.rt, fault, Some("groundstation: write failed\n"));
             same(self.rt, ran.status, 1);
         }
-        self.remove(&files.folder)
+        self.rig.remove(&files.folder)
     }
 
     fn a_path_that_is_gone_is_told_after_the_round_before(self) -> Result<(), Fail> {
-        let files = self.two_files(IDENTIFICATION, VELOCITY)?;
+        let files = self.rig.two_files(IDENTIFICATION, VELOCITY)?;
         let path = files.second.as_str();
         let lines = format!(in self.alloc; "{ONE_FRAME_EACH}groundstation: cannot open {path}\n")?;
         let mut taken = Vec::new(self.alloc);
@@ -144,21 +148,23 @@ impl<R: Host, W: Own> Trials<'_, R, W> {
             path,
             taken: &mut taken,
         };
-        let ran = self.run_to(TWO_ROUNDS, files.paths().as_slice(), NO_LINES, out)?;
+        let ran = self
+            .rig
+            .run_to(TWO_ROUNDS, files.paths().as_slice(), NO_LINES, out)?;
         same(self.rt, text(&taken), TABLE_OF_BOTH);
         self.leaves(&ran, 1, "", lines.as_str());
-        self.remove(&files.folder)
+        self.rig.remove(&files.folder)
     }
 
     // Each path has frames of aircraft of its own. All are accepted in the first round, and refused in the second.
     fn each_tally_of_eight_paths_is_its_own(self) -> Result<(), Fail> {
-        let (alloc, folder) = (self.alloc, self.new_folder()?);
+        let (alloc, folder) = (self.alloc, self.rig.new_folder()?);
         let mut owned = Vec::new(alloc);
         let (mut accepted, mut refused) = (String::new(alloc), String::new(alloc));
         for count in FRAMES {
             let name = format!(in alloc; "{count}")?;
             let lines = all_call_replies(alloc, 16 * count, count)?;
-            owned.push(self.put(&folder, name.as_str(), lines.as_str())?)?;
+            owned.push(self.rig.put(&folder, name.as_str(), lines.as_str())?)?;
             let read = format!(in alloc;
                 "lines {count} frames {count} ticks 0 shows 0 blank 0 modeac 0 faults 0"
             )?;
@@ -169,12 +175,35 @@ impl<R: Host, W: Own> Trials<'_, R, W> {
         for path in &owned {
             paths.push(path.as_str())?;
         }
-        let ran = self.run(TWO_ROUNDS, paths.as_slice())?;
+        let ran = self.rig.run(TWO_ROUNDS, paths.as_slice())?;
         holds(self.rt, text(&ran.out).starts_with("now 0 aircraft 36\n"));
         let second_round = text(&ran.err).strip_prefix(accepted.as_str());
         same(self.rt, second_round, Some(refused.as_str()));
         same(self.rt, ran.status, 0);
-        self.remove(&folder)
+        self.rig.remove(&folder)
+    }
+
+    fn a_round_keeps_the_clock_and_the_ages(self) -> Result<(), Fail> {
+        let (rt, alloc) = (self.rt, self.alloc);
+        let staged = Staged::new(rt, MOMENTS.as_slice());
+        staged.hold_at(1);
+        let mut lasting = self.rig.lasting_path()?;
+        lasting.lines.write_all(IDENTIFICATION.as_bytes())?;
+        let path = lasting.path.as_str();
+        drop(lasting.lines);
+        let mut taken = Vec::new(alloc);
+        let out = Turning {
+            staged: &staged,
+            path,
+            taken: &mut taken,
+            lines: None,
+            tables: 0,
+        };
+        let (rig, line) = (self.rig.over(&staged), "run --every=5000 --rounds=3");
+        let ran = rig.run_to(line, [lasting.path.as_str()].as_slice(), NO_LINES, out)?;
+        same(rt, text(&taken), TABLES_OF_THREE_ROUNDS);
+        self.leaves(&ran, 0, "", TALLIES_OF_THREE_ROUNDS);
+        Ok(())
     }
 }
 
@@ -205,26 +234,5 @@ fn each_tally_of_eight_paths_is_its_own(rt: HostRuntime) -> Result<(), Fail> {
 
 #[test]
 fn a_round_keeps_the_clock_and_the_ages(rt: HostRuntime) -> Result<(), Fail> {
-    let trials = Trials::on(&rt);
-    let staged = Staged::new(&rt, MOMENTS.as_slice());
-    staged.hold_at(1);
-    let mut lasting = trials.lasting_path()?;
-    lasting.lines.write_all(IDENTIFICATION.as_bytes())?;
-    let path = lasting.path.as_str();
-    drop(lasting.lines);
-    let mut taken = Vec::new(rt.alloc());
-    let out = Turning {
-        staged: &staged,
-        path,
-        taken: &mut taken,
-        lines: None,
-        tables: 0,
-    };
-    let (line, paths) = ("run --every=5000 --rounds=3", [path]);
-    let ran = trials
-        .over(&staged)
-        .run_to(line, paths.as_slice(), NO_LINES, out)?;
-    same(&rt, text(&taken), TABLES_OF_THREE_ROUNDS);
-    trials.leaves(&ran, 0, "", TALLIES_OF_THREE_ROUNDS);
-    Ok(())
+    Trials::on(&rt).a_round_keeps_the_clock_and_the_ages()
 }

@@ -1,0 +1,7 @@
+//! Runs over files and pipes of these tests.
+
+mod eight_paths;
+mod failed_outputs;
+mod hand_overs;
+mod rounds;
+mod run;
