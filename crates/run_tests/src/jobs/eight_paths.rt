@@ -1,7 +1,7 @@
 //! The job `run` over eight paths of all kinds, with two hand-overs.
 ghost use Rattle.std.specs.Prelude.{◌≡◌, ◌≤◌, IfOk, length};
 
-use super::hand_overs::{late_moments, run_with, tables_each};
+use super::hand_overs::{late_moments, options_of, run_with, tables_each};
 use crate::comparing::{holds, same};
 use crate::trials::{Host, Trials};
 use station_main::RunOptions;
@@ -102,18 +102,9 @@ fn run_beside<R: System, W: Own>(
     let (record, displays) = (Some(record), Some(folder));
     let mut out = Vec::new(rig.alloc);
     let options = RunOptions {
-        tables: tables_each(u32::MAX),
-        rounds: 1,
-        reopens: false,
-        watch: None,
-        stop: &None,
-        begins_at: 0,
-        origin: 0,
         record: &record,
         displays: &displays,
-        paths: &paths,
-        hand_over_at: LIMIT,
-        site: None,
+        ..options_of(tables_each(u32::MAX), LIMIT, &paths, &None)
     };
     let ran = run_with(rig, options, &mut out)?;
     Ok(Ran { out, ..ran })

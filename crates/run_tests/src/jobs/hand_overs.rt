@@ -1,5 +1,5 @@
 //! The job `run` over stations that hand over.
-ghost use Rattle.std.specs.Prelude.{◌≤◌, length};
+ghost use Rattle.std.specs.Prelude.{◌≡◌, ◌≤◌, length};
 
 use crate::comparing::{holds, same};
 use crate::trials::{Host, Trials};
@@ -106,6 +106,33 @@ pub fn late_moments(alloc: Global) -> Result<Vec<u64>, AllocError> {
     Ok(moments)
 }
 
+/// Options of a run of one round over these paths, with nothing beside its output where `unset` is nothing. This many entries make a
+/// station hand over.
+pub fn options_of<'a>(
+    tables: Tables,
+    hand_over_at: u64,
+    paths: &'a Vec<String>,
+    unset: &'a Option<String>,
+) -> RunOptions<'a>
+    ensures rounds { result.rounds ≡ 1 }
+    ensures paths { result.paths.now ≡ paths.entry.now }
+{
+    RunOptions {
+        tables,
+        rounds: 1,
+        reopens: false,
+        watch: None,
+        stop: unset,
+        begins_at: 0,
+        origin: 0,
+        record: unset,
+        displays: unset,
+        paths,
+        hand_over_at,
+        site: None,
+    }
+}
+
 // Runs over paths without a table before the last, by stations that hand over, and records it.
 fn run_by_hand_overs<R: System, W: Own>(
     rig: &Rig<'_, R, W>,
@@ -130,18 +157,8 @@ pub fn run_by_hand_overs_to<R: System, W: Own>(
     let record = Some(record);
     let paths = vec![in rig.alloc; first, second]?;
     let options = RunOptions {
-        tables: tables_each(every),
-        rounds: 1,
-        reopens: false,
-        watch: None,
-        stop: &None,
-        begins_at: 0,
-        origin: 0,
         record: &record,
-        displays: &None,
-        paths: &paths,
-        hand_over_at: LIMIT,
-        site: None,
+        ..options_of(tables_each(every), LIMIT, &paths, &None)
     };
     run_with(rig, options, out)
 }
